@@ -1,0 +1,42 @@
+-- Which line of `expOf` holds, by the tests that led there. Assumes nothing.
+use mathlib.Core.Path.{_≡_, refl, sym, ap, _∙_, subst}
+use mathlib.Core.Bool.{Bool, true, false, not, _&&_}
+use lib.Dec.{T}
+use lib.IntN.{ℤ, pos, negsuc}
+use lib.Ieee.{Float, nan, inf, fin, binary64, lt, le, ne, isNan}
+use lib.Ieee.Compare.{differs-from-itself, nan-differs}
+use Rattle.arithmetic.specs.Floats.{_⊕_, one}
+use Rattle.arithmetic.proofs.AbsLaws.{abs-le}
+use Rattle.arithmetic.specs.Exponential.{expOf, highest, lowest, scaled, reduced, exponent}
+
+pub no-nan : (v : Float) → ne v v ≡ false → isNan v ≡ false
+unfolding ne isNan
+no-nan nan e = e
+no-nan (inf s) e = refl
+no-nan (fin s m e) h = refl
+
+pub a-nan : (v : Float) → ne v v ≡ true → v ≡ nan
+a-nan v e = differs-from-itself v (subst T (sym e) tt)
+
+pub exp-nan : nan ≡ expOf nan
+unfolding expOf isNan
+exp-nan = refl
+
+module _ (v : Float) (n : isNan v ≡ false) where
+  pub exp-high : lt highest v ≡ true → inf false ≡ expOf v
+  unfolding expOf
+  exp-high h = rw (n, h)
+
+  module _ (h : lt highest v ≡ false) where
+    pub exp-low : lt v lowest ≡ true → fin false 0 (pos 0) ≡ expOf v
+    unfolding expOf
+    exp-low l = rw (n, h, l)
+
+    module _ (l : lt v lowest ≡ false) where
+      pub exp-tiny : le (fin true 1 (negsuc 27)) v ≡ true → le v (fin false 1 (negsuc 27)) ≡ true → one ⊕ v ≡ expOf v
+      unfolding expOf
+      exp-tiny a b = rw (n, h, l, abs-le v 1 (negsuc 27), a, b)
+
+      pub exp-rest : le (fin true 1 (negsuc 27)) v && le v (fin false 1 (negsuc 27)) ≡ false → scaled (reduced v (exponent v)) (exponent v) ≡ expOf v
+      unfolding expOf
+      exp-rest t = rw (n, h, l, abs-le v 1 (negsuc 27), t)

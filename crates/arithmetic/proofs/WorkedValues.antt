@@ -1,0 +1,185 @@
+-- The document's worked values, as one theorem over the definitions. antt computes an operation on two written-out numbers at once, but shares nothing:
+-- an operation on the result of another computes that one many times over. So log 2 goes step by step, with each number written out. Assumes nothing.
+use mathlib.Core.Path.{_≡_, refl, _∙_, ap}
+use mathlib.Core.Bool.{true, false}
+use lib.IntN.{pos, negsuc}
+use lib.Ieee.{Float, nan, inf, fin, binary64, add, mul, sub, div, lt, le, eq, isNan, ofInt, ofBits, round, size}
+use Rattle.arithmetic.specs.Floats.{_⊕_, _⊖_, _⊗_, _⊘_, abs, dec, one, two, half, L1, L2}
+use Rattle.arithmetic.proofs.LogBranches.{rest}
+use Rattle.arithmetic.specs.Exponential.{expOf, highest, lowest}
+use Rattle.arithmetic.specs.Logarithm.{logOf, significand, binade, logBy, remainder, places, M, G1, G2, G3, G4, G5, G6, G7}
+
+abbrev Z : Float
+Z = fin false 0 (pos 0)
+
+ZZ : Z ⊗ Z ≡ Z
+unfolding mul
+ZZ = refl
+
+Z-Z : Z ⊕ Z ≡ Z
+unfolding add
+Z-Z = refl
+
+G1-is : G1 ≡ fin false 6004799503160723 (negsuc 52)
+unfolding G1 dec round
+G1-is = refl
+
+G2-is : G2 ≡ fin false 1801439850921601 (negsuc 51)
+unfolding G2 dec round
+G2-is = refl
+
+G3-is : G3 ≡ fin false 5146971033736025 (negsuc 53)
+unfolding G3 dec round
+G3-is = refl
+
+G4-is : G4 ≡ fin false 8006390766270639 (negsuc 54)
+unfolding G4 dec round
+G4-is = refl
+
+G5-is : G5 ≡ fin false 3275661152453103 (negsuc 53)
+unfolding G5 dec round
+G5-is = refl
+
+G6-is : G6 ≡ fin false 5517391500461727 (negsuc 54)
+unfolding G6 dec round
+G6-is = refl
+
+G7-is : G7 ≡ fin false 1332903234475153 (negsuc 52)
+unfolding G7 dec round
+G7-is = refl
+
+L1-is : L1 ≡ fin false 2977044471 (negsuc 31)
+unfolding L1 dec round
+L1-is = refl
+
+L2-is : L2 ≡ fin false 3691024475790907 (negsuc 83)
+unfolding L2 dec round
+L2-is = refl
+
+one-is : one ≡ fin false 1 (pos 0)
+unfolding one dec round
+one-is = refl
+
+two-is : two ≡ fin false 1 (pos 1)
+unfolding two dec round
+two-is = refl
+
+half-is : half ≡ fin false 1 (negsuc 0)
+unfolding half dec round
+half-is = refl
+
+times-G1 : Z ⊗ fin false 6004799503160723 (negsuc 52) ≡ Z
+unfolding mul
+times-G1 = refl
+
+plus-G1 : fin false 6004799503160723 (negsuc 52) ⊕ Z ≡ fin false 6004799503160723 (negsuc 52)
+unfolding add
+plus-G1 = refl
+
+times-G2 : Z ⊗ fin false 1801439850921601 (negsuc 51) ≡ Z
+unfolding mul
+times-G2 = refl
+
+plus-G2 : fin false 1801439850921601 (negsuc 51) ⊕ Z ≡ fin false 1801439850921601 (negsuc 51)
+unfolding add
+plus-G2 = refl
+
+times-G3 : Z ⊗ fin false 5146971033736025 (negsuc 53) ≡ Z
+unfolding mul
+times-G3 = refl
+
+plus-G3 : fin false 5146971033736025 (negsuc 53) ⊕ Z ≡ fin false 5146971033736025 (negsuc 53)
+unfolding add
+plus-G3 = refl
+
+times-G4 : Z ⊗ fin false 8006390766270639 (negsuc 54) ≡ Z
+unfolding mul
+times-G4 = refl
+
+plus-G4 : fin false 8006390766270639 (negsuc 54) ⊕ Z ≡ fin false 8006390766270639 (negsuc 54)
+unfolding add
+plus-G4 = refl
+
+times-G5 : Z ⊗ fin false 3275661152453103 (negsuc 53) ≡ Z
+unfolding mul
+times-G5 = refl
+
+plus-G5 : fin false 3275661152453103 (negsuc 53) ⊕ Z ≡ fin false 3275661152453103 (negsuc 53)
+unfolding add
+plus-G5 = refl
+
+times-G6 : Z ⊗ fin false 5517391500461727 (negsuc 54) ≡ Z
+unfolding mul
+times-G6 = refl
+
+times-G7 : Z ⊗ fin false 1332903234475153 (negsuc 52) ≡ Z
+unfolding mul
+times-G7 = refl
+
+half-Z : fin false 1 (negsuc 0) ⊗ Z ≡ Z
+unfolding mul
+half-Z = refl
+
+one-one : fin false 1 (pos 0) ⊖ fin false 1 (pos 0) ≡ Z
+unfolding sub
+one-one = refl
+
+two-Z : fin false 1 (pos 1) ⊕ Z ≡ fin false 1 (pos 1)
+unfolding add
+two-Z = refl
+
+Z-two : Z ⊘ fin false 1 (pos 1) ≡ Z
+unfolding div
+Z-two = refl
+
+one-L1 : fin false 1 (pos 0) ⊗ fin false 2977044471 (negsuc 31) ≡ fin false 2977044471 (negsuc 31)
+unfolding mul
+one-L1 = refl
+
+one-L2 : fin false 1 (pos 0) ⊗ fin false 3691024475790907 (negsuc 83) ≡ fin false 3691024475790907 (negsuc 83)
+unfolding mul
+one-L2 = refl
+
+Z-L2 : Z ⊕ fin false 3691024475790907 (negsuc 83) ≡ fin false 3691024475790907 (negsuc 83)
+unfolding add
+Z-L2 = refl
+
+L2-Z : fin false 3691024475790907 (negsuc 83) ⊖ Z ≡ fin false 3691024475790907 (negsuc 83)
+unfolding sub
+L2-Z = refl
+
+L2+Z : fin false 3691024475790907 (negsuc 83) ⊕ Z ≡ fin false 3691024475790907 (negsuc 83)
+unfolding add
+L2+Z = refl
+
+remainder-Z : remainder Z ≡ Z
+unfolding remainder
+remainder-Z = simp (G1-is, G2-is, G3-is, G4-is, G5-is, G6-is, G7-is, ZZ, times-G1, times-G2, times-G3, times-G4, times-G5, times-G6, times-G7, plus-G1, plus-G2, plus-G3, plus-G4, plus-G5, Z-Z)
+
+n-one : ofInt binary64 (pos 1) ≡ fin false 1 (pos 0)
+unfolding ofInt
+n-one = refl
+
+logBy-one : logBy (fin false 1 (pos 0)) (pos 1) ≡ L2 ⊕ L1
+unfolding logBy
+logBy-one = simp (L1-is, L2-is, one-is, two-is, half-is, one-one, half-Z, ZZ, two-Z, Z-two, remainder-Z, Z-Z, n-one, one-L1, one-L2, Z-L2, L2-Z, L2+Z)
+
+places-one : places 1 ≡ 0
+unfolding places size M ofBits lt
+places-one = refl
+
+rest-two : rest (fin false 1 (pos 1)) ≡ L2 ⊕ L1
+unfolding significand binade
+rest-two = rw places-one logBy-one
+
+pub worked :
+    (expOf (fin false 0 (pos 0)) ≡ fin false 1 (pos 0))
+    × (expOf (fin true 0 (pos 0)) ≡ fin false 1 (pos 0))
+    × (expOf (dec false 70979 2) ≡ inf false)
+    × (expOf (dec true 746 0) ≡ fin false 0 (pos 0))
+    × (logOf (fin false 1 (pos 0)) ≡ fin false 0 (pos 0))
+    × (logOf (fin false 0 (pos 0)) ≡ inf true)
+    × (logOf (fin true 1 (pos 0)) ≡ nan)
+    × (logOf (fin false 1 (pos 1)) ≡ L2 ⊕ L1)
+unfolding expOf highest lowest one dec round abs add lt le eq isNan logOf
+worked = (refl, refl, refl, refl, refl, refl, refl, rest-two)

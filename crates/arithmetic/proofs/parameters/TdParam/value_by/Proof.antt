@@ -1,0 +1,16 @@
+-- The code is the definition, operation by operation. Assumes nothing.
+use Rattle.arithmetic.specs.Parameters.{tdBy}
+use mathlib.Core.Path.{_≡_, refl, sym, ap, _∙_}
+use Prim.Native.Nat.{ℕ, zero, suc, _+_, _*_, _-_, _<_, _≤_}
+use native.Mathlib.Omega.{arith}
+use borrow.Author.Needs.{needs}
+use lib.ListN.{length, getD}
+use Rattle.arithmetic.proofs.parameters.TdParam.value_by.Statement.{statement}
+use Rattle.arithmetic.proofs.parameters.TdParam.value_by.Tie as tie
+
+returns : tie.Need-returns
+unfolding tdBy
+returns c = refl
+
+pub value-by-spec : {M : Type 1} → statement M
+value-by-spec = tie.close (tie.spec returns)

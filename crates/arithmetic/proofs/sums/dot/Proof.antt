@@ -1,0 +1,61 @@
+-- The loop keeps the sum of the products passed; at its end these are all. Assumes nothing.
+use Rattle.arithmetic.specs.Floats.{_⊗_}
+use Rattle.arithmetic.specs.Sums.{sum, total}
+use Rattle.arithmetic.specs.Tables.{at}
+use Rattle.arithmetic.proofs.SumLaws.{sum-none, sum-more, sum-done}
+use mathlib.Core.Path.{_≡_, refl, sym, ap, _∙_}
+use Prim.Native.Nat.{ℕ, zero, suc, _+_, _*_, _-_, _<_, _≤_}
+use native.Mathlib.Omega.{arith}
+use borrow.Author.Needs.{needs}
+use lib.ListN.{length, getD}
+use Rattle.arithmetic.proofs.sums.dot.Statement.{statement}
+use Rattle.arithmetic.proofs.sums.dot.Tie as tie
+
+abbrev Inv-loop : tie.InvT-loop
+Inv-loop x y n s₀ k₀ s k = (k ≤ n) × (s ≡ sum k (λ i. at x i ⊗ at y i))
+
+abbrev μ-loop : tie.MeasureT-loop
+μ-loop x y n s₀ k₀ s k = n - k
+
+loop-holds : tie.Need-loop-holds Inv-loop μ-loop
+loop-holds c = (omega arith, sum-none _)
+
+mul-s : tie.Need-mul-s Inv-loop μ-loop
+mul-s c = omega arith
+
+shared-slice-read-s : tie.Need-shared-slice-read-s Inv-loop μ-loop
+shared-slice-read-s c = omega arith
+
+mul-s-2 : tie.Need-mul-s-2 Inv-loop μ-loop
+mul-s-2 c = omega arith
+
+shared-slice-read-s-2 : tie.Need-shared-slice-read-s-2 Inv-loop μ-loop
+shared-slice-read-s-2 c = omega arith
+
+add-k : tie.Need-add-k Inv-loop μ-loop
+add-k c = omega arith
+
+loop-less : tie.Need-loop-less Inv-loop μ-loop
+loop-less c = omega arith
+
+loop-again : tie.Need-loop-again Inv-loop μ-loop
+loop-again c = (omega arith, sum-more _ _ (c .before .before .before .loop .inv .1) refl)
+
+returns : tie.Need-returns Inv-loop μ-loop
+returns c = search (sum-done, needs)
+
+pub dot-spec : {M : Type 1} → statement M
+dot-spec =
+    tie.close
+    (tie.spec
+    Inv-loop
+    μ-loop
+    loop-holds
+    mul-s
+    shared-slice-read-s
+    mul-s-2
+    shared-slice-read-s-2
+    add-k
+    loop-less
+    loop-again
+    returns)

@@ -1,0 +1,7 @@
+pub mod Floats
+pub mod Exponential
+pub mod Logarithm
+pub mod Parameters
+pub mod Sums
+pub mod Tables
+pub mod Digits

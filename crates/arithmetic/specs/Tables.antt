@@ -1,0 +1,30 @@
+-- Slices as functions of an index, tables by full rows, and the part of a slice that starts at a place.
+use mathlib.Core.Path.{_≡_}
+use mathlib.Core.List.{List}
+use Prim.Native.Nat.{ℕ, _+_, _-_, _*_, _/_, _%_, _<_}
+use lib.ListN.{length, getD, take, drop}
+use lib.Ieee.{Float, nan}
+
+-- what stands at k
+abbrev pub at : List Float → ℕ → Float
+at l k = getD l k nan
+
+-- entry i, j of a table that stands by full rows of n
+abbrev pub grid : ℕ → List Float → ℕ → ℕ → Float
+grid n g i j = at g (i * n + j)
+
+-- the part `&l[s..]`
+abbrev pub from : {A : Type 0} → ℕ → List A → List A
+from s l = take (length l - s) (drop s l)
+
+-- the part `&l[s..e]`
+abbrev pub part : {A : Type 0} → ℕ → ℕ → List A → List A
+part s e l = take (e - s) (drop s l)
+
+-- the first p places are F 0, .., F (p - 1)
+pub record Filled (F : ℕ → Float) (p : ℕ) (g : List Float) : Type 0 where
+  pub each : (k : ℕ) → k < p → at g k ≡ F k
+
+-- a table of rows of n, by its flat places
+unfoldable pub flat : ℕ → (ℕ → ℕ → Float) → ℕ → Float
+flat n L k = L (k / n) (k % n)

@@ -1,0 +1,99 @@
+// exp on every f64.
+ghost use mathlib.Core.Path.{_≡_};
+ghost use mathlib.Core.Bool.{not, _&&_};
+ghost use lib.Dec.{T};
+ghost use lib.IntN.{ℤ, pos, negsuc};
+ghost use lib.Signed.{leZ};
+ghost use lib.Ieee.{lt, isNan};
+ghost use Rattle.arithmetic.specs.Floats.{two^};
+ghost use Rattle.arithmetic.specs.Exponential.{expOf, highest, lowest};
+ghost use Rattle.arithmetic.specs.Exponential.{exponent as Exp·exponent, correction as Exp·correction, reduced as Exp·reduced, scaled as Exp·scaled};
+
+// P1 to P5.
+const P: [f64; 5] = [
+    1.66666666666666019037e-01,
+    -2.77777777770155933842e-03,
+    6.61375632143793436117e-05,
+    -1.65339022054652515390e-06,
+    4.13813679705723846039e-08,
+];
+
+pub const L1: f64 = 6.93147180369123816490e-01;
+
+pub const L2: f64 = 1.90821492927058770002e-10;
+
+pub fn exp(v: f64) -> f64
+    ensures { λ x. ⌜ x ≡ expOf v ⌝ }
+{
+    if v != v {
+        return v;
+    }
+    if v > 709.782712893383973096 {
+        return f64::from_bits(0x7ff0_0000_0000_0000);
+    }
+    if v < -745.13321910194110842 {
+        return 0.0;
+    }
+    // 2^-28
+    if v >= -3.725290298461914e-09 {
+        if v <= 3.725290298461914e-09 {
+            return 1.0 + v;
+        }
+    }
+    let k = exponent(v);
+    scaled(reduced(v, k), k)
+}
+
+// k: v over ln 2, to the nearest whole number.
+fn exponent(v: f64) -> i64
+    requires { ⌜ T (not (isNan v)) × T (not (lt highest v)) × T (not (lt v lowest)) ⌝ }
+    ensures { λ x. ⌜ x ≡ Exp·exponent v ⌝ }
+{
+    let mut h = 0.5;
+    if v < 0.0 {
+        h = -0.5;
+    }
+    std::num::truncating_f64_to_i64(1.4426950408889634 * v + h)
+}
+
+// y: exp of v - k·ln 2.
+fn reduced(v: f64, k: i64) -> f64
+    ensures { λ x. ⌜ x ≡ Exp·reduced v k ⌝ }
+{
+    let n = std::num::nearest_i64_to_f64(k);
+    let hi = v - n * L1;
+    let lo = n * L2;
+    let r = hi - lo;
+    let c = correction(r);
+    1.0 + (r * c / (2.0 - c) - lo + hi)
+}
+
+// c of r.
+fn correction(r: f64) -> f64
+    ensures { λ x. ⌜ x ≡ Exp·correction r ⌝ }
+{
+    let q = r * r;
+    r - q * (P[0] + q * (P[1] + q * (P[2] + q * (P[3] + q * P[4]))))
+}
+
+// y·2^k.
+fn scaled(y: f64, k: i64) -> f64
+    requires { ⌜ T (leZ (negsuc 1499) k && leZ k (pos 1500)) ⌝ }
+    ensures { λ x. ⌜ x ≡ Exp·scaled y k ⌝ }
+{
+    if k > 1023 {
+        return y * power(1023) * power(k - 1023);
+    }
+    if k < -1022 {
+        return y * power(k + 1000) * power(-1000);
+    }
+    y * power(k)
+}
+
+// The float 2^k.
+fn power(k: i64) -> f64
+    requires { ⌜ T (leZ (negsuc 1021) k && leZ k (pos 1023)) ⌝ }
+    ensures { λ x. ⌜ x ≡ two^ k ⌝ }
+{
+    f64::from_bits(((k + 1023) as u64) << 52)
+}

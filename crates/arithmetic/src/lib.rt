@@ -1,0 +1,13 @@
+// f64 arithmetic for the layers above: exp, log, the temperature-dependent parameter, left folds.
+// Document 01, "Arithmetic".
+pub mod exponential;
+pub mod exports;
+pub mod logarithm;
+pub mod parameters;
+pub mod sums;
+
+pub use exponential::exp;
+pub use logarithm::log;
+pub use parameters::TdParam;
+pub use sums::dot;
+pub use sums::sum;

@@ -1,0 +1,81 @@
+// log on every f64.
+ghost use mathlib.Core.Path.{_≡_};
+ghost use Prim.Native.Nat.{_^_, _≤_, _<_};
+ghost use Rattle.arithmetic.specs.Logarithm.{logOf, logBy};
+ghost use Rattle.arithmetic.specs.Logarithm.{remainder as Log·remainder};
+ghost use Rattle.arithmetic.specs.Digits.{fromDigits};
+use crate::exponential::L1;
+use crate::exponential::L2;
+
+// G1 to G7.
+const G: [f64; 7] = [
+    6.666666666666735130e-01,
+    3.999999999940941908e-01,
+    2.857142874366239149e-01,
+    2.222219843214978396e-01,
+    1.818357216161805012e-01,
+    1.531383769920937332e-01,
+    1.479819860511658591e-01,
+];
+
+pub fn log(v: f64) -> f64
+    ensures { λ r. ⌜ r ≡ logOf v ⌝ }
+{
+    if v != v {
+        return v;
+    }
+    if v < 0.0 {
+        return 0.0 / 0.0;
+    }
+    if v == 0.0 {
+        return f64::from_bits(0xfff0_0000_0000_0000);
+    }
+    if v == f64::from_bits(0x7ff0_0000_0000_0000) {
+        return v;
+    }
+    if v == 1.0 {
+        return 0.0;
+    }
+    let b = f64::to_bits(v);
+    let x = b >> 52;
+    if x == 0 {
+        // a subnormal: its digits are moved up until the highest is the 53rd
+        let z = u64::leading_zeros(b) as u64;
+        return from_digits(b << (z - 11), 64 - z);
+    }
+    from_digits(b % 0x10_0000_0000_0000 + 0x10_0000_0000_0000, x + 52)
+}
+
+// log of q·2^-53·2^(x - 1074), q being the number's 53 digits, of which the highest is 1.
+fn from_digits(q: u64, x: u64) -> f64
+    requires { ⌜ (2 ^ 52 ≤ q) × (q < 2 ^ 53) × (x < 4096) ⌝ }
+    ensures { λ r. ⌜ r ≡ fromDigits q x ⌝ }
+{
+    if q < 0x16_a09e_0000_0000 {
+        return log_by(f64::from_bits(q + 0x3fe0_0000_0000_0000), (x as i64) - 1075);
+    }
+    log_by(f64::from_bits(q + 0x3fd0_0000_0000_0000), (x as i64) - 1074)
+}
+
+// log of m·2^k, for an m near 1.
+fn log_by(m: f64, k: i64) -> f64
+    ensures { λ x. ⌜ x ≡ logBy m k ⌝ }
+{
+    let f = m - 1.0;
+    let p = 0.5 * f * f;
+    let s = f / (2.0 + f);
+    let r = remainder(s);
+    let n = std::num::nearest_i64_to_f64(k);
+    s * (p + r) + n * L2 - p + f + n * L1
+}
+
+// R of s.
+fn remainder(s: f64) -> f64
+    ensures { λ x. ⌜ x ≡ Log·remainder s ⌝ }
+{
+    let z = s * s;
+    let w = z * z;
+    let t1 = w * (G[1] + w * (G[3] + w * G[5]));
+    let t2 = z * (G[0] + w * (G[2] + w * (G[4] + w * G[6])));
+    t2 + t1
+}
