@@ -1,0 +1,96 @@
+// The lists, and how a line of each is replayed.
+use crate::words;
+use crate::words::Word;
+
+const MOST_LINES: u64 = 1000000;
+
+pub enum List {
+    Exp,
+    Log,
+}
+
+pub enum Line {
+    Same,
+    Differs,
+    End,
+    Broken,
+}
+
+// What came of a list: how many answers it has, how many of them differ, and whether it was read to
+// its end.
+pub struct Tally {
+    pub answers: u64,
+    pub differ: u64,
+    pub whole: bool,
+}
+
+// The call that the list is of, where that takes one number.
+fn answer(list: List, v: f64) -> f64 {
+    match list {
+        List::Exp => arithmetic::exp(v),
+        List::Log => arithmetic::log(v),
+    }
+}
+
+// A line's answer, held against its last word.
+fn held(got: f64, stored: Word) -> Line {
+    match stored {
+        Word::Bits(b) => {
+            if words::has_bits(got, b) {
+                Line::Same
+            } else {
+                Line::Differs
+            }
+        }
+        Word::End => Line::Broken,
+        Word::Broken => Line::Broken,
+    }
+}
+
+// A line of a list: the input and the answer.
+fn next_line(fd: i32, list: List) -> Line {
+    let input = words::next(fd, b' ');
+    match input {
+        Word::Bits(b) => held(answer(list, words::float_of(b)), words::next(fd, b'\n')),
+        Word::End => Line::End,
+        Word::Broken => Line::Broken,
+    }
+}
+
+// Replays a list, line by line. A proved loop has to end, and nothing says that a file does: of a
+// longer list the rest counts as unread.
+pub fn replay(fd: i32, list: List) -> Tally {
+    let mut answers: u64 = 0;
+    let mut differ: u64 = 0;
+    for _ in 0..MOST_LINES {
+        let line = next_line(fd, list);
+        match line {
+            Line::Same => {
+                answers += 1;
+            }
+            Line::Differs => {
+                answers += 1;
+                differ += 1;
+            }
+            Line::End => {
+                return Tally {
+                    answers: answers,
+                    differ: differ,
+                    whole: true,
+                };
+            }
+            Line::Broken => {
+                return Tally {
+                    answers: answers,
+                    differ: differ,
+                    whole: false,
+                };
+            }
+        }
+    }
+    Tally {
+        answers: answers,
+        differ: differ,
+        whole: false,
+    }
+}

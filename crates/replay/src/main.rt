@@ -1,0 +1,40 @@
+// Replays the stored answers of the Rust, list by list, and writes how many there are and how many
+// differ. The lists are files in the folder that it runs in.
+mod lists;
+mod words;
+
+use libc::STDOUT_FILENO;
+use lists::List;
+use lists::Tally;
+
+fn write(text: &[u8]) {
+    io::write_all(STDOUT_FILENO, text);
+}
+
+fn write_tally(t: Tally) {
+    write(b": ");
+    io::print_decimal(STDOUT_FILENO, t.answers);
+    write(b" answers, ");
+    io::print_decimal(STDOUT_FILENO, t.differ);
+    write(b" differ");
+    if !t.whole {
+        write(b", and the rest cannot be read");
+    }
+    write(b"\n");
+}
+
+fn replay(name: &[u8], path: &[u8], list: List) {
+    write(name);
+    let fd = os::open_read(path);
+    if fd < 0 {
+        write(b": cannot be opened\n");
+        return;
+    }
+    write_tally(lists::replay(fd, list));
+    libc::close(fd);
+}
+
+fn main() {
+    replay(b"exp", b"exp.txt", List::Exp);
+    replay(b"log", b"log.txt", List::Log);
+}

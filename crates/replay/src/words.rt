@@ -1,0 +1,77 @@
+// The words of a list: 16 lowercase hexadecimal digits, followed by one blank, or by LF at the end of
+// a line.
+ghost use Prim.Native.Nat.{_≤_};
+ghost use mathlib.Core.Path.{_≡_};
+ghost use lib.Ieee.{ofBits, binary64};
+
+pub enum Word {
+    Bits(u64),
+    End,
+    Broken,
+}
+
+// The value of a digit, and 16 for any other byte.
+fn digit(b: u8) -> u64
+    ensures { λ r. ⌜ r ≤ 16 ⌝ }
+{
+    if b < b'0' {
+        return 16;
+    }
+    if b <= b'9' {
+        return (b - b'0') as u64;
+    }
+    if b < b'a' {
+        return 16;
+    }
+    if b <= b'f' {
+        return (b - b'a' + 10) as u64;
+    }
+    16
+}
+
+// The word that 16 digits spell. Each of them moves the others up by four bits.
+fn spelt(text: &[u8; 17]) -> Word {
+    let mut bits: u64 = 0;
+    for k in 0..16 {
+        let d = digit(text[k]);
+        if d == 16 {
+            return Word::Broken;
+        }
+        bits = bits % 0x1000_0000_0000_0000 * 16 + d;
+    }
+    Word::Bits(bits)
+}
+
+// The next word of a file, which the byte `after` follows.
+pub fn next(fd: i32, after: u8) -> Word {
+    let mut text = [0u8; 17];
+    let n = io::read_full(fd, &mut text);
+    if n == 0 {
+        return Word::End;
+    }
+    if n < 17 {
+        return Word::Broken;
+    }
+    if text[16] != after {
+        return Word::Broken;
+    }
+    spelt(&text)
+}
+
+// The float of a bit pattern, a NaN's too.
+pub fn float_of(b: u64) -> f64
+    ensures { λ r. ⌜ r ≡ ofBits binary64 b ⌝ }
+{
+    if 0x7ff0_0000_0000_0000 < b % 0x8000_0000_0000_0000 {
+        return 0.0 / 0.0;
+    }
+    f64::from_bits(b)
+}
+
+// Whether v has these bits, where any NaN is stored as 7ff8000000000000.
+pub fn has_bits(v: f64, b: u64) -> bool {
+    if v != v {
+        return b == 0x7ff8_0000_0000_0000;
+    }
+    f64::to_bits(v) == b
+}
