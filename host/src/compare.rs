@@ -20,7 +20,10 @@ pub fn compare(name: &str, inputs: &[f64], rust: fn(f64) -> f64, rattle: fn(f64)
         if expected != got {
             differ += 1;
             if differ <= SHOWN {
-                println!("{name} of {:016x} ({v:e}): Rust {expected:016x}, Rattle {got:016x}", v.to_bits());
+                println!(
+                    "{name} of {:016x} ({v:e}): Rust {expected:016x}, Rattle {got:016x}",
+                    v.to_bits()
+                );
             }
         }
     }

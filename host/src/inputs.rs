@@ -89,7 +89,9 @@ fn exp_edges(step: i64, reach: i64) -> Vec<f64> {
         all.extend([v, -v]);
     }
     for k in -1077..=1026i64 {
-        let near = [-1075, -1022, 0, 1023].iter().any(|edge| (k - edge).abs() <= 2);
+        let near = [-1075, -1022, 0, 1023]
+            .iter()
+            .any(|edge| (k - edge).abs() <= 2);
         if near || k % step == 0 {
             all.extend(around((k as f64 - 0.5) * LN_2, reach));
             all.extend(around(k as f64 * LN_2, 1));
@@ -105,7 +107,9 @@ fn log_edges(step: u64, reach: i64) -> Vec<f64> {
     all.extend(around(1.0, 40));
     all.extend(around(f64::from_bits(M), 40));
     for exponent in 1..=2046u64 {
-        let near = [1, 1023, 2046].iter().any(|&edge| exponent.abs_diff(edge) <= 2);
+        let near = [1, 1023, 2046]
+            .iter()
+            .any(|&edge| exponent.abs_diff(edge) <= 2);
         if near || exponent % step == 0 {
             all.extend(around(f64::from_bits(exponent << 52), reach));
             all.extend(around(f64::from_bits(exponent << 52 | M % BINADE), reach));
@@ -113,7 +117,10 @@ fn log_edges(step: u64, reach: i64) -> Vec<f64> {
     }
     for place in 1..=52 {
         all.extend(around(f64::from_bits(BINADE >> place), reach));
-        all.extend(around(f64::from_bits((BINADE | M % BINADE) >> place), reach));
+        all.extend(around(
+            f64::from_bits((BINADE | M % BINADE) >> place),
+            reach,
+        ));
     }
     all
 }
@@ -144,7 +151,10 @@ fn log_random(random: &mut Random) -> f64 {
         1 | 2 | 3 => f64::from_bits(random.bits() >> 1),
         4 => random.between(0.4, 2.2),
         5 => 1.0 + random.between(-1.0, 1.0) * f64::from_bits((1023 - random.below(54)) << 52),
-        6 => f64::from_bits((M % BINADE | (1 + random.below(2046)) << 52).wrapping_add(random.below(64)) - 32),
+        6 => {
+            let edge = (1 + random.below(2046)) << 52 | M % BINADE;
+            f64::from_bits(edge - 32 + random.below(64))
+        }
         _ => f64::from_bits(random.bits() % BINADE >> random.below(52)),
     }
 }

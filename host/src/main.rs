@@ -27,8 +27,16 @@ fn compare_all(cases: usize, seed: u64) -> bool {
 fn store_all(folder: &Path) -> std::io::Result<()> {
     std::fs::create_dir_all(folder)?;
     let random = &mut Random::new(1);
-    stored::write(&folder.join("exp.txt"), &inputs::exp_stored(random, 1000), libm::exp)?;
-    stored::write(&folder.join("log.txt"), &inputs::log_stored(random, 1000), libm::log)
+    stored::write(
+        &folder.join("exp.txt"),
+        &inputs::exp_stored(random, 1000),
+        libm::exp,
+    )?;
+    stored::write(
+        &folder.join("log.txt"),
+        &inputs::log_stored(random, 1000),
+        libm::log,
+    )
 }
 
 fn main() -> ExitCode {
