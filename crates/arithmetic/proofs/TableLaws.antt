@@ -1,14 +1,18 @@
 -- Places of a table by full rows, an array that a loop fills, and the entries of a part. Assumes nothing.
 use mathlib.Core.Path.{_≡_, refl, sym, ap, _∙_}
-use mathlib.Core.List.{List}
+use mathlib.Core.List.{List, _++_}
 use Prim.Native.Nat.{ℕ, zero, suc, _+_, _*_, _/_, _%_, _-_, _<_, _≤_}
-use native.Mathlib.Nat.{suc-mul, mul-le-mul-right, mul-add-div-right, mul-add-mod-self-right, div-eq-of-lt, mod-eq-of-lt, add-zero, add-mul, one-mul, ne-of-lt}
+use native.Mathlib.Nat.{suc-mul, mul-le-mul-right, mul-add-div-right, mul-add-mod-self-right, div-eq-of-lt, mod-eq-of-lt, add-zero, add-mul, one-mul, ne-of-lt, ne-of-gt, eq-or-lt-of-le}
 use native.Mathlib.Omega.{arith}
-use lib.ListN.{length, getD, set, take, drop, length-take, length-drop}
-use lib.Seq.{getD-set-same, getD-set-other, getD-take, getD-drop}
+use mathlib.Core.Bool.{Bool, true, false, cond}
+use mathlib.Core.Logic.{_⊎_, inl, inr, ⊎-elim}
+use borrow.Author.Tests.{lt-ltb, le-ltb, ltb-true, ltb-false}
+use lib.Dec.{ltb}
+use lib.ListN.{length, getD, set, take, drop, length-take, length-drop, List·getD-append}
+use lib.Seq.{getD-set-same, getD-set-other, getD-take, getD-drop, getD-append-add, length-take-le}
 use lib.Ieee.{Float, nan}
 use borrow.Author.Count.{below-more}
-use Rattle.arithmetic.specs.Tables.{at, grid, from, part, Filled, flat}
+use Rattle.arithmetic.specs.Tables.{at, grid, from, part, Filled, upTo, flat}
 
 -- ---- entry i, j of rows of n, at i * n + j
 
@@ -62,6 +66,43 @@ filled-is e all = rw e all
 pub filled-cell : (m n : ℕ) (L : ℕ → ℕ → Float) {g : List Float} → Filled (flat n L) (m * n) g → (i j : ℕ) → i < m → j < n → grid n g i j ≡ L i j
 filled-cell m n L all i j a b = all .each (i * n + j) (cell-lt m n i j a b) ∙ flat-cell n L i j b
 
+-- ---- places rewritten in order
+
+below-or : (k j : ℕ) → (k < j) ⊎ (j ≤ k)
+below-or k j = by-test (ltb k j) refl
+  where
+    by-test : (t : Bool) → ltb k j ≡ t → (k < j) ⊎ (j ≤ k)
+    by-test true e = inl (ltb-true k j e)
+    by-test false e = inr (ltb-false k j e)
+
+-- k is below j, at j or above j
+pub by-place : (k j : ℕ) {P : Type 0} → (k < j → P) → (j ≡ k → P) → (j < k → P) → P
+by-place k j f g h = ⊎-elim f (λ b. ⊎-elim g h (eq-or-lt-of-le b)) (below-or k j)
+
+pub upto-below : (n : ℕ) (new old : ℕ → Float) (k : ℕ) → k < n → upTo n new old k ≡ new k
+unfolding upTo
+upto-below n new old k h = rw (lt-ltb k n h)
+
+pub upto-above : (n : ℕ) (new old : ℕ → Float) (k : ℕ) → n ≤ k → upTo n new old k ≡ old k
+unfolding upTo
+upto-above n new old k h = rw (le-ltb k n h)
+
+pub upto-none : (new : ℕ → Float) (l : List Float) (p : ℕ) → Filled (upTo 0 new (at l)) p l
+upto-none new l p = record { each = λ k h. sym (upto-above 0 new (at l) k (omega arith)) }
+
+pub upto-more : (new old : ℕ → Float) (j p : ℕ) {l : List Float} {v : Float} → j < length l → v ≡ new j → Filled (upTo j new old) p l → Filled (upTo (j + 1) new old) p (set l j v)
+upto-more new old j p {l} {v} b w all = record {
+  each = λ k h.
+      by-place k j
+      (λ c. getD-set-other l j k v nan (ne-of-lt c) ∙ all .each k h ∙ upto-below j new old k c ∙ sym (upto-below (j + 1) new old k (omega arith)))
+      (λ q. rw (← q) (getD-set-same l j v nan b ∙ w ∙ sym (upto-below (j + 1) new old j (omega arith))))
+      (λ d. getD-set-other l j k v nan (ne-of-gt d) ∙ all .each k h ∙ upto-above j new old k (omega arith) ∙ sym (upto-above (j + 1) new old k (omega arith)));
+}
+
+-- the place that the loop reads next is still the old one
+pub upto-next : (new old : ℕ → Float) (j p : ℕ) {l : List Float} → j < p → Filled (upTo j new old) p l → at l j ≡ old j
+upto-next new old j p h all = all .each j h ∙ upto-above j new old j (omega arith)
+
 -- ---- parts
 
 pub part-length : {A : Type 0} (s e : ℕ) (l : List A) → e ≤ length l → length (part s e l) ≡ e - s
@@ -75,3 +116,12 @@ from-length s l = simp (length-take, length-drop) (omega arith)
 
 pub from-at : (l : List Float) (s k : ℕ) → s + k < length l → at (from s l) k ≡ at l (s + k)
 from-at l s k h = part-at l s (length l) k (omega arith)
+
+-- ---- a list with ys in its middle, as a writable part comes back
+
+pub back-before : (s : ℕ) (l ys rest : List Float) (k : ℕ) → s ≤ length l → k < s → at (take s l ++ (ys ++ rest)) k ≡ at l k
+back-before s l ys rest k h b = List·getD-append (take s l) (ys ++ rest) nan k (omega (arith, length-take-le s l h)) ∙ getD-take s l k nan b
+
+pub back-within : (s : ℕ) (l ys rest : List Float) (k : ℕ) → s ≤ length l → k < length ys → at (take s l ++ (ys ++ rest)) (s + k) ≡ at ys k
+back-within s l ys rest k h b =
+    ap (λ (m : ℕ). at (take s l ++ (ys ++ rest)) (m + k)) (sym (length-take-le s l h)) ∙ getD-append-add (take s l) (ys ++ rest) k nan ∙ List·getD-append ys rest nan k b

@@ -1,7 +1,9 @@
 -- Slices as functions of an index, tables by full rows, and the part of a slice that starts at a place.
 use mathlib.Core.Path.{_≡_}
 use mathlib.Core.List.{List}
+use mathlib.Core.Bool.{cond}
 use Prim.Native.Nat.{ℕ, _+_, _-_, _*_, _/_, _%_, _<_}
+use lib.Dec.{ltb}
 use lib.ListN.{length, getD, take, drop}
 use lib.Ieee.{Float, nan}
 
@@ -24,6 +26,10 @@ part s e l = take (e - s) (drop s l)
 -- the first p places are F 0, .., F (p - 1)
 pub record Filled (F : ℕ → Float) (p : ℕ) (g : List Float) : Type 0 where
   pub each : (k : ℕ) → k < p → at g k ≡ F k
+
+-- the first n places as new says, the others as they were
+unfoldable pub upTo : ℕ → (ℕ → Float) → (ℕ → Float) → ℕ → Float
+upTo n new old k = cond (ltb k n) (new k) (old k)
 
 -- a table of rows of n, by its flat places
 unfoldable pub flat : ℕ → (ℕ → ℕ → Float) → ℕ → Float

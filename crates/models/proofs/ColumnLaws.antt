@@ -1,0 +1,48 @@
+-- Column sums that grow row by row: none, one more row, all rows, and equal entries. Assumes nothing.
+use mathlib.Core.Path.{_≡_, refl, sym, ap, _∙_}
+use mathlib.Core.List.{List}
+use mathlib.Core.Bool.{Bool, true, false}
+use mathlib.Core.Logic.{_⊎_, inl, inr}
+use Prim.Native.Nat.{ℕ, _+_, _*_, _<_, _≤_}
+use native.Mathlib.Nat.{le-antisymm}
+use native.Mathlib.Omega.{arith}
+use lib.Dec.{eqb}
+use borrow.Author.Tests.{eqb-false}
+use lib.ListN.{length, getD, replicate, getD-replicate}
+use lib.Ieee.{Float, nan, binary64, ofBits}
+use Rattle.arithmetic.specs.Floats.{_⊕_, _⊗_}
+use Rattle.arithmetic.specs.Sums.{sum}
+use Rattle.arithmetic.specs.Tables.{at, grid, from, Filled, upTo}
+use Rattle.arithmetic.proofs.SumLaws.{sum-none, sum-more, sum-same}
+use Rattle.arithmetic.proofs.TableLaws.{upto-below, from-at}
+use Rattle.arithmetic.proofs.Differences.{either}
+use Rattle.models.specs.Columns.{unitAt, unitDiagonal, columnSum}
+
+-- terms F k j of row k and column j
+module _ (F : ℕ → ℕ → Float) where
+  -- an array of zeros
+  pub columns-none : (n m : ℕ) → n ≤ m → Filled (λ j. sum 0 (λ k. F k j)) n (replicate m (ofBits binary64 0))
+  columns-none n m h = record { each = λ j b. getD-replicate m j (ofBits binary64 0) nan (omega arith) ∙ sum-none (λ k. F k j) }
+
+  pub columns-more : (i n : ℕ) (new : ℕ → Float) {s s′ : List Float} → n ≤ length s → ((j : ℕ) → j < n → new j ≡ F i j) →
+      Filled (λ j. sum i (λ k. F k j)) n s → Filled (upTo n (λ j. at s j ⊕ new j) (at s)) (length s) s′ → Filled (λ j. sum (i + 1) (λ k. F k j)) n s′
+  columns-more i n new {s} {s′} h e before after = record {
+    each = λ j b. after .each j (omega arith) ∙ upto-below n (λ j. at s j ⊕ new j) (at s) j b ∙ sum-more (λ k. F k j) i (before .each j b) (e j b);
+  }
+
+  pub columns-done : (i n : ℕ) {s : List Float} → i ≤ n → n ≤ i → Filled (λ j. sum i (λ k. F k j)) n s → Filled (λ j. sum n (λ k. F k j)) n s
+  columns-done i n a b all = rw (le-antisymm a b) at all
+
+-- the row lent as a part gives the table's entry
+pub unit-row : (n : ℕ) (l : List Float) (i j : ℕ) → i * n + n ≤ length l → j < n → unitAt i (at (from (i * n) l)) j ≡ unitDiagonal (grid n l) i j
+unfolding unitAt unitDiagonal
+unit-row n l i j h b = rw (from-at l (i * n) j (omega arith))
+
+-- tables equal off the diagonal are equal with 1 on it
+pub unit-same : (n : ℕ) (E F : ℕ → ℕ → Float) → ((i j : ℕ) → i < n → j < n → (i ≡ j → ⊥) → E i j ≡ F i j) → (i j : ℕ) → i < n → j < n → unitDiagonal E i j ≡ unitDiagonal F i j
+unfolding unitDiagonal unitAt
+unit-same n E F h i j b c = elim (either (eqb i j)) [ inl e ↦ rw e | inr e ↦ rw (h i j b c (eqb-false i j e)) ]
+
+pub column-same : (n : ℕ) (E F : ℕ → ℕ → Float) (v w : ℕ → Float) (j : ℕ) → ((k : ℕ) → k < n → E k j ≡ F k j) → ((k : ℕ) → k < n → v k ≡ w k) → columnSum n E v j ≡ columnSum n F w j
+unfolding columnSum
+column-same n E F v w j e h = sum-same n _ _ (λ k b. rw (h k b, e k b))

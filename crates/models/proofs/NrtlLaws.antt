@@ -1,0 +1,98 @@
+-- NRTL: rows lent as parts, sums worked out once, and equal entries give equal values. Assumes nothing.
+use mathlib.Core.Path.{_≡_, refl, sym, ap, _∙_}
+use mathlib.Core.List.{List}
+use mathlib.Core.Bool.{Bool, true, false}
+use mathlib.Core.Logic.{_⊎_, inl, inr}
+use Prim.Native.Nat.{ℕ, _+_, _*_, _<_, _≤_}
+use native.Mathlib.Omega.{arith}
+use lib.Dec.{eqb}
+use lib.ListN.{length}
+use borrow.Author.Tests.{eqb-false}
+use lib.Ieee.{Float}
+use Rattle.arithmetic.specs.Floats.{_⊕_, _⊖_, _⊗_, _⊘_}
+use Rattle.arithmetic.specs.Sums.{sum}
+use Rattle.arithmetic.specs.Parameters.{tdAt}
+use Rattle.arithmetic.specs.Tables.{at, grid, from, Filled, upTo}
+use Rattle.arithmetic.proofs.Differences.{either}
+use Rattle.arithmetic.proofs.SumLaws.{sum-same}
+use Rattle.arithmetic.proofs.TableLaws.{from-at, cell-lt, upto-below}
+use Rattle.models.specs.declared.answers.Quantity.{Quantity}
+use Rattle.models.specs.Answers.{indexFault}
+use Rattle.models.specs.Columns.{unitDiagonal, columnSum}
+use Rattle.models.specs.Exponentials.{nonrandomness}
+use Rattle.models.specs.Nrtl.{tauAt, tau, numerator, lnGamma, excess, nrtl, nrtlAt}
+use Rattle.models.specs.Rows.{OffDiagonal}
+use Rattle.models.specs.Values.{fiveAt, tdGrid, taus, alphas}
+use Rattle.models.proofs.AnswerLaws.{quantity-same}
+use Rattle.models.proofs.ColumnLaws.{unit-same, column-same}
+
+-- the row lent as a part gives the table's entry
+pub tau-row : (n : ℕ) (l : List Float) (i j : ℕ) → i * n + n ≤ length l → j < n → tauAt i (at (from (i * n) l)) j ≡ tau (grid n l) i j
+unfolding tauAt tau
+tau-row n l i j h b = rw (from-at l (i * n) j (omega arith))
+
+-- G_ij reads α_ij and τ_ij alone
+pub nonrandomness-same : (α β τ σ : ℕ → ℕ → Float) (i j : ℕ) → α i j ≡ β i j → τ i j ≡ σ i j → nonrandomness α τ i j ≡ nonrandomness β σ i j
+unfolding nonrandomness
+nonrandomness-same α β τ σ i j p q = rw (p, q)
+
+pub nonrandomness-row : (n : ℕ) (a l : List Float) (i j : ℕ) → i * n + n ≤ length a → i * n + n ≤ length l → j < n →
+    nonrandomness (λ _. at (from (i * n) a)) (λ _. at (from (i * n) l)) i j ≡ nonrandomness (grid n a) (grid n l) i j
+nonrandomness-row n a l i j h k b = nonrandomness-same _ _ _ _ i j (from-at a (i * n) j (omega arith)) (from-at l (i * n) j (omega arith))
+
+plus-same : {a b c d : Float} → a ≡ b → c ≡ d → a ⊕ c ≡ b ⊕ d
+plus-same p q = rw (p, q)
+
+-- ---- the sums worked out once
+
+module _ (n : ℕ) (τ G : ℕ → ℕ → Float) (x : ℕ → Float) {u d : List Float} (us : Filled (numerator n τ G x) n u) (ds : Filled (columnSum n (unitDiagonal G) x) n d) where
+  pub ln-hoisted : (i : ℕ) → i < n → at u i ⊘ at d i ⊕ sum n (λ j. x j ⊗ unitDiagonal G i j ⊘ at d j ⊗ (tau τ i j ⊖ at u j ⊘ at d j)) ≡ lnGamma n τ G x i
+  unfolding lnGamma
+  ln-hoisted i b = plus-same (rw (us .each i b, ds .each i b)) (sum-same n _ _ (λ j c. rw (us .each j c, ds .each j c)))
+
+  pub excess-hoisted : sum n (λ i. x i ⊗ at u i ⊘ at d i) ≡ excess n τ G x
+  unfolding excess
+  excess-hoisted = sum-same n _ _ (λ i b. rw (us .each i b, ds .each i b))
+
+-- ---- equal entries, equal values
+
+module _ (n : ℕ) (τ σ G H : ℕ → ℕ → Float) (x y : ℕ → Float)
+    (τs : (i j : ℕ) → i < n → j < n → (i ≡ j → ⊥) → τ i j ≡ σ i j)
+    (Gs : (i j : ℕ) → i < n → j < n → (i ≡ j → ⊥) → G i j ≡ H i j)
+    (xs : (i : ℕ) → i < n → x i ≡ y i) where
+  tau-same : (i j : ℕ) → i < n → j < n → tau τ i j ≡ tau σ i j
+  unfolding tau tauAt
+  tau-same i j b c = elim (either (eqb i j)) [ inl h ↦ rw h | inr h ↦ rw (τs i j b c (eqb-false i j h)) ]
+
+  numerator-same : (j : ℕ) → j < n → numerator n τ G x j ≡ numerator n σ H y j
+  unfolding numerator
+  numerator-same j c = sum-same n _ _ (λ m b. rw (xs m b, unit-same n G H Gs m j b c, tau-same m j b c))
+
+  denominator-same : (j : ℕ) → j < n → columnSum n (unitDiagonal G) x j ≡ columnSum n (unitDiagonal H) y j
+  denominator-same j c = column-same n _ _ x y j (λ k b. unit-same n G H Gs k j b c) xs
+
+  ln-same : (i : ℕ) → i < n → lnGamma n τ G x i ≡ lnGamma n σ H y i
+  unfolding lnGamma
+  ln-same i b =
+      plus-same (rw (numerator-same i b, denominator-same i b))
+      (sum-same n _ _ (λ j c. rw (xs j c, unit-same n G H Gs i j b c, tau-same i j b c, numerator-same j c, denominator-same j c)))
+
+  excess-same : excess n τ G x ≡ excess n σ H y
+  unfolding excess
+  excess-same = sum-same n _ _ (λ i b. rw (xs i b, numerator-same i b, denominator-same i b))
+
+  pub nrtl-same : (q : Quantity) → indexFault n q ≡ 0 → nrtl n τ G x q ≡ nrtl n σ H y q
+  unfolding nrtl
+  nrtl-same q z = quantity-same n q _ _ _ _ z ln-same excess-same
+
+-- what `value_at` puts together: τ at T in the table tl, and G off the diagonal in gl
+pub nrtl-from : (n : ℕ) (l : List Float) (T : Float) (x old : ℕ → Float) {p : ℕ} {tl gl : List Float} → n * n * 5 + n * n ≤ length l → n * n ≤ p →
+    Filled (upTo (n * n) (λ k. tdAt (fiveAt l (k * 5)) T) old) p tl → OffDiagonal n n (nonrandomness (grid n (from (n * n * 5) l)) (grid n tl)) gl →
+    (q : Quantity) → indexFault n q ≡ 0 → nrtl n (grid n tl) (grid n gl) x q ≡ nrtlAt n (taus n l) (alphas n l) T x q
+unfolding nrtlAt taus alphas tdGrid
+nrtl-from n l T x old {p} {tl} {gl} h k ts gs q z =
+    nrtl-same n _ _ _ _ x x (λ i j b c ne. entry i j b c)
+    (λ i j b c ne. gs .entry i j b c ne ∙ nonrandomness-same _ _ _ _ i j (from-at l (n * n * 5) (i * n + j) (omega (arith, cell-lt n n i j b c))) (entry i j b c)) (λ i b. refl) q z
+  where
+    entry : (i j : ℕ) → i < n → j < n → grid n tl i j ≡ tdAt (fiveAt l ((i * n + j) * 5)) T
+    entry i j b c = ts .each (i * n + j) (omega (arith, cell-lt n n i j b c)) ∙ upto-below (n * n) _ old (i * n + j) (cell-lt n n i j b c)

@@ -1,0 +1,64 @@
+-- Wilson's values go by V and x below n and by E off the diagonal alone; sums that are worked out once are those of the definition. Assumes nothing.
+use mathlib.Core.Path.{_≡_}
+use mathlib.Core.List.{List}
+use Prim.Native.Nat.{ℕ, _+_, _*_, _<_, _≤_}
+use native.Mathlib.Omega.{arith}
+use lib.ListN.{length}
+use lib.Ieee.{Float}
+use Rattle.arithmetic.specs.Floats.{_⊖_, _⊗_, _⊘_, +0, one}
+use Rattle.arithmetic.specs.Logarithm.{logOf}
+use Rattle.arithmetic.specs.Sums.{fold}
+use Rattle.arithmetic.specs.Tables.{at, grid, from, Filled}
+use Rattle.arithmetic.proofs.SumLaws.{fold-same, sum-same}
+use Rattle.arithmetic.proofs.TableLaws.{from-at}
+use Rattle.models.specs.declared.answers.Quantity.{Quantity}
+use Rattle.models.specs.Answers.{indexFault}
+use Rattle.models.specs.Wilson.{lambda, rowSum, lnGamma, excess, wilson}
+use Rattle.models.proofs.AnswerLaws.{quantity-same}
+use Rattle.models.proofs.ExponentialLaws.{off-diagonal}
+
+-- ---- equal entries, equal answers
+
+module _ (n : ℕ) (v w : ℕ → Float) (E F : ℕ → ℕ → Float) (x y : ℕ → Float) (ev : (i : ℕ) → i < n → v i ≡ w i) (ex : (i : ℕ) → i < n → x i ≡ y i) where
+  pub lambda-same : (i j : ℕ) → i < n → j < n → ((i ≡ j → ⊥) → E i j ≡ F i j) → lambda v E i j ≡ lambda w F i j
+  unfolding lambda
+  lambda-same i j b c e = off-diagonal i j one _ _ (λ ne. rw (ev j c, ev i b, e ne))
+
+  pub rowSum-same : (i : ℕ) → i < n → ((j : ℕ) → j < n → (i ≡ j → ⊥) → E i j ≡ F i j) → rowSum n v E x i ≡ rowSum n w F y i
+  unfolding rowSum
+  rowSum-same i b e = sum-same n _ _ (λ j c. rw (ex j c, lambda-same i j b c (e j c)))
+
+  module _ (ee : (i j : ℕ) → i < n → j < n → (i ≡ j → ⊥) → E i j ≡ F i j) where
+    pub lnGamma-same : (i : ℕ) → i < n → lnGamma n v E x i ≡ lnGamma n w F y i
+    unfolding lnGamma
+    lnGamma-same i b =
+        rw (
+          rowSum-same i b (λ j c. ee i j b c),
+          sum-same n (λ k. x k ⊗ lambda v E k i ⊘ rowSum n v E x k) (λ k. y k ⊗ lambda w F k i ⊘ rowSum n w F y k)
+              (λ k c. rw (ex k c, lambda-same k i c b (ee k i c b), rowSum-same k c (λ j d. ee k j c d))),
+        )
+
+    pub excess-same : excess n v E x ≡ excess n w F y
+    unfolding excess
+    excess-same = fold-same n +0 _ _ (λ i s b. rw (ex i b, rowSum-same i b (λ j c. ee i j b c)))
+
+    pub wilson-same : (q : Quantity) → indexFault n q ≡ 0 → wilson n v E x q ≡ wilson n w F y q
+    unfolding wilson
+    wilson-same q z = quantity-same n q _ _ _ _ z lnGamma-same excess-same
+
+-- ---- what code works out
+
+-- the part that starts at row i gives the row's entries
+pub lambda-row : (n : ℕ) (v : ℕ → Float) (e : List Float) (i j : ℕ) → i * n + j < length e → lambda v (λ _. at (from (i * n) e)) i j ≡ lambda v (grid n e) i j
+unfolding lambda
+lambda-row n v e i j h = rw (from-at e (i * n) j h)
+
+pub rowSum-row : (n : ℕ) (v : ℕ → Float) (e : List Float) (x : ℕ → Float) (i : ℕ) → i * n + n ≤ length e → rowSum n v (λ _. at (from (i * n) e)) x i ≡ rowSum n v (grid n e) x i
+unfolding rowSum
+rowSum-row n v e x i h = sum-same n _ _ (λ j b. rw (lambda-row n v e i j (omega arith)))
+
+-- the excess energy over row sums that stand in a list
+pub excess-hoisted : (n : ℕ) (v : ℕ → Float) (E : ℕ → ℕ → Float) (x : ℕ → Float) (sums : List Float) → Filled (rowSum n v E x) n sums →
+    fold n +0 (λ i s. s ⊖ x i ⊗ logOf (at sums i)) ≡ excess n v E x
+unfolding excess
+excess-hoisted n v E x sums all = fold-same n +0 _ _ (λ i s b. rw (all .each i b))

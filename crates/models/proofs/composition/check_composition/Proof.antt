@@ -1,0 +1,17 @@
+-- The check with 1e-6: the code's literal is the definition's decimal. Assumes nothing.
+use lib.Ieee.{round, ofBits}
+use borrow.Author.Needs.{needs}
+use Rattle.arithmetic.specs.Floats.{dec}
+use Rattle.models.specs.Composition.{tolerance}
+use Rattle.models.proofs.composition.check_composition.Statement.{statement}
+use Rattle.models.proofs.composition.check_composition.Tie as tie
+
+composition-fault-requires : tie.Need-composition-fault-requires
+composition-fault-requires c κs = search needs
+
+returns : tie.Need-returns
+unfolding tolerance dec round ofBits
+returns c = c .composition-fault .ensures
+
+pub check-composition-spec : {M : Type 1} → statement M
+check-composition-spec = tie.close (tie.spec composition-fault-requires returns)

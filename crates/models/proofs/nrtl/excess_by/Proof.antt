@@ -1,0 +1,69 @@
+-- The loop keeps the sum of the terms passed; at its end these are all. Assumes nothing.
+use mathlib.Core.Path.{_≡_, refl, sym, ap, _∙_}
+use Prim.Native.Nat.{ℕ, zero, suc, _+_, _*_, _-_, _<_, _≤_}
+use native.Mathlib.Omega.{arith}
+use borrow.Author.Needs.{needs}
+use lib.ListN.{length, getD}
+use Rattle.arithmetic.specs.Floats.{_⊗_, _⊘_}
+use Rattle.arithmetic.specs.Sums.{sum}
+use Rattle.arithmetic.specs.Tables.{at}
+use Rattle.arithmetic.proofs.SumLaws.{sum-none, sum-more, sum-done}
+use Rattle.models.proofs.nrtl.excess_by.Statement.{statement}
+use Rattle.models.proofs.nrtl.excess_by.Tie as tie
+
+abbrev Inv-loop : tie.InvT-loop
+Inv-loop n u d x s₀ i₀ s i = (i ≤ n) × (s ≡ sum i (λ k. at x k ⊗ at u k ⊘ at d k))
+
+abbrev μ-loop : tie.MeasureT-loop
+μ-loop n u d x s₀ i₀ s i = n - i
+
+loop-holds : tie.Need-loop-holds Inv-loop μ-loop
+loop-holds c = (omega arith, sum-none _)
+
+mul-s : tie.Need-mul-s Inv-loop μ-loop
+mul-s c = omega arith
+
+shared-slice-read-s : tie.Need-shared-slice-read-s Inv-loop μ-loop
+shared-slice-read-s c = omega arith
+
+mul-s-2 : tie.Need-mul-s-2 Inv-loop μ-loop
+mul-s-2 c = omega arith
+
+shared-slice-read-s-2 : tie.Need-shared-slice-read-s-2 Inv-loop μ-loop
+shared-slice-read-s-2 c = omega arith
+
+mul-s-3 : tie.Need-mul-s-3 Inv-loop μ-loop
+mul-s-3 c = omega arith
+
+shared-slice-read-s-3 : tie.Need-shared-slice-read-s-3 Inv-loop μ-loop
+shared-slice-read-s-3 c = omega arith
+
+add-i : tie.Need-add-i Inv-loop μ-loop
+add-i c = omega arith
+
+loop-less : tie.Need-loop-less Inv-loop μ-loop
+loop-less c = omega arith
+
+loop-again : tie.Need-loop-again Inv-loop μ-loop
+loop-again c = (omega arith, sum-more _ _ (c .before .before .before .before .loop .inv .1) refl)
+
+returns : tie.Need-returns Inv-loop μ-loop
+returns c = search (sum-done, needs)
+
+pub excess-by-spec : {M : Type 1} → statement M
+excess-by-spec =
+    tie.close
+    (tie.spec
+    Inv-loop
+    μ-loop
+    loop-holds
+    mul-s
+    shared-slice-read-s
+    mul-s-2
+    shared-slice-read-s-2
+    mul-s-3
+    shared-slice-read-s-3
+    add-i
+    loop-less
+    loop-again
+    returns)

@@ -1,0 +1,102 @@
+-- The first term by the sums given, the second over the rows that start at i. Assumes nothing.
+use mathlib.Core.Path.{_≡_, refl, sym, ap, _∙_}
+use Prim.Native.Nat.{ℕ, zero, suc, _+_, _*_, _-_, _<_, _≤_}
+use native.Mathlib.Omega.{arith}
+use borrow.Author.Needs.{needs}
+use lib.ListN.{length, getD}
+use denote.Ref.{now}
+use native.Mathlib.Nat.{mul-le-mul}
+use lib.Ieee.{Float}
+use Rattle.arithmetic.specs.Floats.{_⊕_, _⊖_, _⊗_, _⊘_}
+use Rattle.arithmetic.specs.Sums.{sum}
+use Rattle.arithmetic.specs.Tables.{at, grid, Filled}
+use Rattle.arithmetic.proofs.TableLaws.{row-end, from-length}
+use Rattle.models.specs.Columns.{unitAt, unitDiagonal}
+use Rattle.models.specs.Nrtl.{tauAt}
+use Rattle.arithmetic.proofs.SumLaws.{sum-same}
+use Rattle.models.proofs.ColumnLaws.{unit-row}
+use Rattle.models.proofs.NrtlLaws.{tau-row}
+use Rattle.models.proofs.nrtl.ln_gamma.Statement.{statement}
+use Rattle.models.proofs.nrtl.ln_gamma.Tie as tie
+
+-- the row i ends within the tables, and these within 144 places
+ends : (c : tie.Start) → c .args .i * c .args .n + c .args .n ≤ c .args .n * c .args .n
+ends c = row-end _ (c .args .n) _ (c .pre .1)
+
+small : (c : tie.Start) → c .args .n * c .args .n ≤ 144
+small c = mul-le-mul (c .pre .0) (c .pre .0)
+
+mul-start : tie.Need-mul-start
+mul-start c = omega (arith, ends (c .before .before .before .before .before), small (c .before .before .before .before .before))
+
+mul-result : tie.Need-mul-result
+mul-result c = search needs
+
+shared-slice-read-result : tie.Need-shared-slice-read-result
+shared-slice-read-result c = search needs
+
+mul-result-2 : tie.Need-mul-result-2
+mul-result-2 c = search needs
+
+shared-slice-read-result-2 : tie.Need-shared-slice-read-result-2
+shared-slice-read-result-2 c = search needs
+
+mul-second : tie.Need-mul-second
+mul-second c = omega (arith, ends (c .before .before .before .before .before .before .before), small (c .before .before .before .before .before .before .before))
+
+sub-second : tie.Need-sub-second
+sub-second c = omega (arith, ends (c .before .before .before .before .before .before .before), small (c .before .before .before .before .before .before .before))
+
+part-second-start : tie.Need-part-second-start
+part-second-start c = omega (arith, ends (c .before .before .before .before .before .before .before), small (c .before .before .before .before .before .before .before))
+
+part-second-end : tie.Need-part-second-end
+part-second-end c = search needs
+
+mul-second-2 : tie.Need-mul-second-2
+mul-second-2 c = omega (arith, ends (c .before .before .before .before .before .before .before .before), small (c .before .before .before .before .before .before .before .before))
+
+sub-second-2 : tie.Need-sub-second-2
+sub-second-2 c = omega (arith, ends (c .before .before .before .before .before .before .before .before), small (c .before .before .before .before .before .before .before .before))
+
+part-second-start-2 : tie.Need-part-second-start-2
+part-second-start-2 c = omega (arith, ends (c .before .before .before .before .before .before .before .before), small (c .before .before .before .before .before .before .before .before))
+
+part-second-end-2 : tie.Need-part-second-end-2
+part-second-end-2 c = search needs
+
+second-requires : tie.Need-second-requires
+second-requires c κs =
+    let start = c .before .before .before .before .before .before .before .before .before in
+    let at-row = start .args .i * start .args .n in
+    (omega (arith, from-length at-row (now (start .args .tau)), ends start), omega (arith, from-length at-row (now (start .args .g)), ends start), omega arith, omega arith, omega arith)
+
+returns : tie.Need-returns
+returns c =
+    let start = c .before .before .before .before .before .before .before .before .before .before in
+    let n = start .args .n in
+    let i = start .args .i in
+    ap (λ (v : Float). at (now (start .args .u)) i ⊘ at (now (start .args .d)) i ⊕ v)
+    (c .second .ensures
+    ∙ sum-same n _ _
+    (λ j b. rw (unit-row n (now (start .args .g)) i j (omega (arith, ends start)) b, tau-row n (now (start .args .tau)) i j (omega (arith, ends start)) b)))
+
+pub ln-gamma-spec : {M : Type 1} → statement M
+ln-gamma-spec =
+    tie.close
+    (tie.spec
+    mul-start
+    mul-result
+    shared-slice-read-result
+    mul-result-2
+    shared-slice-read-result-2
+    mul-second
+    sub-second
+    part-second-start
+    part-second-end
+    mul-second-2
+    sub-second-2
+    part-second-start-2
+    part-second-end-2
+    second-requires
+    returns)

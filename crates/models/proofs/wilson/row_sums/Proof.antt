@@ -1,0 +1,92 @@
+-- The loop has filled the sums of the rows above i. Assumes nothing.
+use mathlib.Core.Path.{_≡_, refl, _∙_}
+use Prim.Native.Nat.{_+_, _*_, _-_, _≤_}
+use native.Mathlib.Omega.{arith}
+use denote.Ref.{now}
+use lib.ListN.{length-set, length}
+use Rattle.arithmetic.specs.Tables.{at, grid, Filled}
+use Rattle.arithmetic.proofs.TableLaws.{row-end, from-length, filled-none, filled-more, filled-less}
+use Rattle.models.specs.Wilson.{rowSum}
+use Rattle.models.proofs.WilsonLaws.{rowSum-row}
+use Rattle.models.proofs.wilson.row_sums.Statement.{statement}
+use Rattle.models.proofs.wilson.row_sums.Tie as tie
+
+abbrev Inv-loop : tie.InvT-loop
+Inv-loop n v e x sums₀ i₀ sums i = (i ≤ n) × (length sums ≡ 12) × Filled (rowSum n (at v) (grid n e) (at x)) i sums
+
+abbrev μ-loop : tie.MeasureT-loop
+μ-loop n v e x sums₀ i₀ sums i = n - i
+
+-- row i ends within the table
+ends : (c : tie.In-loop Inv-loop μ-loop) → c .before .loop .i * c .before .before .before .before .before .args .n + c .before .before .before .before .before .args .n ≤ length (now (c .before .before .before .before .before .args .e))
+ends c =
+    let start = c .before .before .before .before .before in
+    omega (arith, row-end (start .args .n) (start .args .n) (c .before .loop .i) (c .loop-test .taken))
+
+loop-holds : tie.Need-loop-holds Inv-loop μ-loop
+loop-holds c = (omega arith, refl, filled-none (omega arith))
+
+mul-at : tie.Need-mul-at Inv-loop μ-loop
+mul-at c = omega (arith, ends c)
+
+mul-row-sum : tie.Need-mul-row-sum Inv-loop μ-loop
+mul-row-sum c = omega (arith, ends c)
+
+sub-row-sum : tie.Need-sub-row-sum Inv-loop μ-loop
+sub-row-sum c = omega (arith, ends c)
+
+part-row-sum-start : tie.Need-part-row-sum-start Inv-loop μ-loop
+part-row-sum-start c = omega (arith, ends c)
+
+part-row-sum-end : tie.Need-part-row-sum-end Inv-loop μ-loop
+part-row-sum-end c = omega arith
+
+row-sum-requires : tie.Need-row-sum-requires Inv-loop μ-loop
+row-sum-requires c κs =
+    let turn = c .before in
+    let start = turn .before .before .before .before .before in
+    let row = from-length (turn .before .loop .i * start .args .n) (now (start .args .e)) in
+    (start .pre .1, omega (arith, row, ends turn), start .pre .3, turn .loop-test .taken)
+
+mul-sums : tie.Need-mul-sums Inv-loop μ-loop
+mul-sums c = omega arith
+
+array-write-sums : tie.Need-array-write-sums Inv-loop μ-loop
+array-write-sums c = omega arith
+
+add-i : tie.Need-add-i Inv-loop μ-loop
+add-i c = omega arith
+
+loop-less : tie.Need-loop-less Inv-loop μ-loop
+loop-less c = omega arith
+
+loop-again : tie.Need-loop-again Inv-loop μ-loop
+loop-again c =
+    let turn = c .before .before in
+    let start = turn .before .before .before .before .before in
+    let i = turn .before .loop .i in
+    let row = rowSum-row (start .args .n) (at (now (start .args .v))) (now (start .args .e)) (at (now (start .args .x))) i (ends turn) in
+    (omega arith, simp length-set (turn .before .loop .inv .1), filled-more (omega arith) (omega arith) (turn .before .loop .inv .2) (c .row-sum .ensures ∙ row))
+
+returns : tie.Need-returns Inv-loop μ-loop
+returns c = filled-less (c .loop-test .left) (c .before .loop .inv .2)
+
+pub row-sums-spec : {M : Type 1} → statement M
+row-sums-spec =
+    tie.close
+    (tie.spec
+    Inv-loop
+    μ-loop
+    loop-holds
+    mul-at
+    mul-row-sum
+    sub-row-sum
+    part-row-sum-start
+    part-row-sum-end
+    row-sum-requires
+    mul-sums
+    array-write-sums
+    add-i
+    loop-less
+    loop-again
+    returns)

@@ -1,0 +1,11 @@
+pub mod Answers
+pub mod Composition
+pub mod Exponentials
+pub mod Rows
+pub mod Columns
+pub mod Wilson
+pub mod Uniquac
+pub mod Nrtl
+pub mod Unifac
+pub mod Values
+pub mod Plain

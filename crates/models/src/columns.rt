@@ -1,0 +1,44 @@
+// Sums down the columns of a table, row by row: each column's fold keeps its order, and the columns
+// run side by side.
+ghost use mathlib.Core.Path.{_≡_};
+ghost use mathlib.Core.Bool.{cond};
+ghost use Prim.Native.Nat.{_+_, _*_, _≤_, _<_};
+ghost use lib.Dec.{eqb};
+ghost use lib.ListN.{length};
+ghost use Rattle.arithmetic.specs.Floats.{_⊕_, _⊗_, one};
+ghost use Rattle.arithmetic.specs.Tables.{at, grid, Filled, upTo};
+ghost use Rattle.models.specs.Columns.{unitDiagonal, columnSum, unitAt};
+
+// Entry k of a row whose entry i counts as 1.
+pub fn unit_at(row: &[f64], i: usize, k: usize) -> f64
+    requires { ⌜ k < length (now row) ⌝ }
+    ensures { λ r. ⌜ r ≡ unitAt i (at (now (row .entry))) k ⌝ }
+{
+    if i == k {
+        return 1.0;
+    }
+    row[k]
+}
+
+// Adds w·row[j] to sums[j] for each j below n; the row's entry i counts as 1.
+fn add_unit_row(sums: &mut [f64], w: f64, row: &[f64], n: usize, i: usize)
+    requires { ⌜ (n ≤ length (now sums)) × (n ≤ length (now row)) ⌝ }
+    ensures { λ _. ⌜ Filled (upTo n (λ j. at (now (sums .entry)) j ⊕ w ⊗ unitAt i (at (now (row .entry))) j) (at (now (sums .entry)))) (length (now (sums .entry))) (now (sums .exit)) ⌝ }
+{
+    for j in 0..n {
+        sums[j] = sums[j] + w * unit_at(row, i, j);
+    }
+}
+
+// The column sums of w over a table by rows of n with 1 on its diagonal, whose places aren't read.
+pub fn unit_column_sums(n: usize, table: &[f64], w: &[f64]) -> [f64; 12]
+    requires { ⌜ (n ≤ 12) × (n * n ≤ length (now table)) × (n ≤ length (now w)) ⌝ }
+    ensures { λ r. ⌜ Filled (columnSum n (unitDiagonal (grid n (now (table .entry)))) (at (now (w .entry)))) n r ⌝ }
+{
+    let mut sums = [0.0; 12];
+    for i in 0..n {
+        let start = i * n;
+        add_unit_row(&mut sums[..], w[i], &table[start..], n, i);
+    }
+    sums
+}

@@ -1,0 +1,201 @@
+// NRTL. Document 01, "Models".
+ghost use mathlib.Core.Path.{_≡_};
+ghost use Prim.Native.Nat.{_+_, _*_, _≤_, _<_};
+ghost use lib.ListN.{length};
+ghost use lib.Ieee.{neg};
+ghost use Rattle.arithmetic.specs.Exponential.{expOf};
+ghost use Rattle.arithmetic.specs.Parameters.{tdAt};
+ghost use Rattle.arithmetic.specs.Floats.{_⊕_, _⊖_, _⊗_, _⊘_};
+ghost use Rattle.arithmetic.specs.Tables.{at, grid, Filled, upTo};
+ghost use Rattle.models.specs.Answers.{indexFault};
+ghost use Rattle.models.specs.Columns.{unitAt, unitDiagonal, columnSum};
+ghost use Rattle.models.specs.Nrtl.{tauAt, numerator, nrtl, nrtlAt};
+ghost use Rattle.models.specs.Exponentials.{nonrandomness};
+ghost use Rattle.models.specs.Plain.{nrtlPlain};
+ghost use Rattle.models.specs.Rows.{rowFilled, OffDiagonal};
+ghost use Rattle.models.specs.Values.{fiveAt, nrtlSize, taus, alphas};
+ghost use Rattle.models.specs.Nrtl.{tau as Nrtl·tau};
+ghost use Rattle.arithmetic.specs.Sums.{sum};
+use crate::answers::Answer;
+use crate::answers::Quantity;
+use crate::columns;
+use crate::parameters;
+
+// How many values n components have: τ by rows, five each, α. Past 12, which `plain_fault` refuses,
+// it says nothing.
+pub fn size(n: usize) -> usize
+    ensures { λ r. ⌜ (n ≤ 12 → r ≡ nrtlSize n) ⌝ }
+{
+    if 12 < n {
+        return 0;
+    }
+    n * n * 5 + n * n
+}
+
+// τ at T, by rows of n: the five of entry k stand from place 5·k on.
+pub fn fill_taus(n: usize, values: &[f64], t: f64, out: &mut [f64])
+    requires { ⌜ (n ≤ 12) × (nrtlSize n ≤ length (now values)) × (n * n ≤ length (now out)) ⌝ }
+    ensures { λ _. ⌜ Filled (upTo (n * n) (λ k. tdAt (fiveAt (now (values .entry)) (k * 5)) t) (at (now (out .entry)))) (length (now (out .entry))) (now (out .exit)) ⌝ }
+{
+    let ln = arithmetic::log(t);
+    for k in 0..n * n {
+        out[k] = parameters::five_at(values, k * 5).value_by(t, ln);
+    }
+}
+
+// G_ij, from α_ij and τ_ij at T.
+pub fn exponential(alpha: f64, tau: f64) -> f64
+    ensures { λ r. ⌜ r ≡ expOf (neg alpha ⊗ tau) ⌝ }
+{
+    arithmetic::exp(-alpha * tau)
+}
+
+// Writes the entries of row i of G, but not its diagonal, through the part of a table that starts
+// there; alpha and tau are row i of their tables.
+pub fn fill_exponentials(alpha: &[f64], tau: &[f64], n: usize, i: usize, out: &mut [f64])
+    requires { ⌜ (n ≤ length (now alpha)) × (n ≤ length (now tau)) × (n ≤ length (now out)) × (i < n) ⌝ }
+    ensures { λ _. ⌜ Filled (rowFilled n i (nonrandomness (λ _. at (now (alpha .entry))) (λ _. at (now (tau .entry))) i) (now (out .entry))) (length (now (out .entry))) (now (out .exit)) ⌝ }
+{
+    for j in 0..n {
+        if j != i {
+            out[j] = exponential(alpha[j], tau[j]);
+        }
+    }
+}
+
+// The table of G.
+fn exponential_table(alpha: &[f64], tau: &[f64], n: usize) -> [f64; 144]
+    requires { ⌜ (n ≤ 12) × (n * n ≤ length (now alpha)) × (n * n ≤ length (now tau)) ⌝ }
+    ensures { λ r. ⌜ OffDiagonal n n (nonrandomness (grid n (now (alpha .entry))) (grid n (now (tau .entry)))) r ⌝ }
+{
+    let mut g = [0.0; 144];
+    for i in 0..n {
+        let at = i * n;
+        fill_exponentials(&alpha[at..], &tau[at..], n, i, &mut g[at..]);
+    }
+    g
+}
+
+// Entry j of a row of τ, whose entry i counts as 0.
+fn tau_at(row: &[f64], i: usize, j: usize) -> f64
+    requires { ⌜ j < length (now row) ⌝ }
+    ensures { λ r. ⌜ r ≡ tauAt i (at (now (row .entry))) j ⌝ }
+{
+    if i == j {
+        return 0.0;
+    }
+    row[j]
+}
+
+// Adds x·G_ij·τ_ij to sums[j] for each j below n; g and tau are row i of their tables.
+fn add_terms(sums: &mut [f64], x: f64, g: &[f64], tau: &[f64], n: usize, i: usize)
+    requires { ⌜ (n ≤ length (now sums)) × (n ≤ length (now g)) × (n ≤ length (now tau)) ⌝ }
+    ensures { λ _. ⌜ Filled (upTo n (λ j. at (now (sums .entry)) j ⊕ x ⊗ unitAt i (at (now (g .entry))) j ⊗ tauAt i (at (now (tau .entry))) j) (at (now (sums .entry)))) (length (now (sums .entry))) (now (sums .exit)) ⌝ }
+{
+    for j in 0..n {
+        sums[j] = sums[j] + x * columns::unit_at(g, i, j) * tau_at(tau, i, j);
+    }
+}
+
+// Σ_m x_m G_mj τ_mj for each j.
+fn numerators(n: usize, tau: &[f64], g: &[f64], x: &[f64]) -> [f64; 12]
+    requires { ⌜ (n ≤ 12) × (n * n ≤ length (now tau)) × (n * n ≤ length (now g)) × (n ≤ length (now x)) ⌝ }
+    ensures { λ r. ⌜ Filled (numerator n (grid n (now (tau .entry))) (grid n (now (g .entry))) (at (now (x .entry)))) n r ⌝ }
+{
+    let mut sums = [0.0; 12];
+    for i in 0..n {
+        let start = i * n;
+        add_terms(&mut sums[..], x[i], &g[start..], &tau[start..], n, i);
+    }
+    sums
+}
+
+// The second sum of ln γ_i; tau and g are row i of their tables, u the numerators and d the
+// denominators.
+fn second(n: usize, tau: &[f64], g: &[f64], u: &[f64], d: &[f64], x: &[f64], i: usize) -> f64
+    requires { ⌜ (n ≤ length (now tau)) × (n ≤ length (now g)) × (n ≤ length (now u)) × (n ≤ length (now d)) × (n ≤ length (now x)) ⌝ }
+    ensures { λ r. ⌜ r ≡ sum n (λ j. at (now (x .entry)) j ⊗ unitAt i (at (now (g .entry))) j ⊘ at (now (d .entry)) j ⊗ (tauAt i (at (now (tau .entry))) j ⊖ at (now (u .entry)) j ⊘ at (now (d .entry)) j)) ⌝ }
+{
+    let mut s = 0.0;
+    for j in 0..n {
+        s = s + x[j] * columns::unit_at(g, i, j) / d[j] * (tau_at(tau, i, j) - u[j] / d[j]);
+    }
+    s
+}
+
+// ln γ_i, u being the numerators and d the denominators.
+fn ln_gamma(n: usize, tau: &[f64], g: &[f64], u: &[f64], d: &[f64], x: &[f64], i: usize) -> f64
+    requires { ⌜ (n ≤ 12) × (i < n) × (n * n ≤ length (now tau)) × (n * n ≤ length (now g)) × (n ≤ length (now u)) × (n ≤ length (now d)) × (n ≤ length (now x)) ⌝ }
+    ensures { λ r. ⌜ r ≡ at (now (u .entry)) i ⊘ at (now (d .entry)) i ⊕ sum n (λ j. at (now (x .entry)) j ⊗ unitDiagonal (grid n (now (g .entry))) i j ⊘ at (now (d .entry)) j ⊗ (Nrtl·tau (grid n (now (tau .entry))) i j ⊖ at (now (u .entry)) j ⊘ at (now (d .entry)) j)) ⌝ }
+{
+    let start = i * n;
+    u[i] / d[i] + second(n, &tau[start..], &g[start..], u, d, x, i)
+}
+
+// The excess energy, u being the numerators and d the denominators.
+fn excess_by(n: usize, u: &[f64], d: &[f64], x: &[f64]) -> f64
+    requires { ⌜ (n ≤ length (now u)) × (n ≤ length (now d)) × (n ≤ length (now x)) ⌝ }
+    ensures { λ r. ⌜ r ≡ sum n (λ i. at (now (x .entry)) i ⊗ at (now (u .entry)) i ⊘ at (now (d .entry)) i) ⌝ }
+{
+    let mut s = 0.0;
+    for i in 0..n {
+        s = s + x[i] * u[i] / d[i];
+    }
+    s
+}
+
+// The value over a table of τ at T and one of exponentials, both by rows of n; their diagonals are
+// not read.
+pub fn value_over(n: usize, tau: &[f64], g: &[f64], x: &[f64], q: Quantity) -> f64
+    requires { ⌜ (n ≤ 12) × (n * n ≤ length (now tau)) × (n * n ≤ length (now g)) × (n ≤ length (now x)) × (indexFault n q ≡ 0) ⌝ }
+    ensures { λ r. ⌜ r ≡ nrtl n (grid n (now (tau .entry))) (grid n (now (g .entry))) (at (now (x .entry))) q ⌝ }
+{
+    let u = numerators(n, tau, g, x);
+    let d = columns::unit_column_sums(n, g, x);
+    match q {
+        Quantity::LnGamma(i) => ln_gamma(n, tau, g, &u[..], &d[..], x, i),
+        Quantity::Gamma(i) => arithmetic::exp(ln_gamma(n, tau, g, &u[..], &d[..], x, i)),
+        Quantity::ExcessGibbs => excess_by(n, &u[..], &d[..], x),
+    }
+}
+
+// The quantity at T, from the values.
+pub fn value_at(n: usize, values: &[f64], t: f64, x: &[f64], q: Quantity) -> f64
+    requires { ⌜ (n ≤ 12) × (nrtlSize n ≤ length (now values)) × (n ≤ length (now x)) × (indexFault n q ≡ 0) ⌝ }
+    ensures { λ r. ⌜ r ≡ nrtlAt n (taus n (now (values .entry))) (alphas n (now (values .entry))) t (at (now (x .entry))) q ⌝ }
+{
+    let mut tau = [0.0; 144];
+    fill_taus(n, values, t, &mut tau[..]);
+    let at = n * n * 5;
+    let g = exponential_table(&values[at..], &tau[..], n);
+    value_over(n, &tau[..], &g[..], x, q)
+}
+
+// The plain call: the values are τ by rows, five each, then α by rows.
+pub fn plain(n: usize, values: &[f64], t: f64, x: &[f64], q: Quantity) -> Answer
+    ensures { λ r. ⌜ r ≡ nrtlPlain n (now (values .entry)) t (now (x .entry)) q ⌝ }
+{
+    let fault = crate::faults::plain_fault(n, size(n), values, x, q);
+    if fault != 0 {
+        return Answer::Refused(fault);
+    }
+    Answer::Value(value_at(n, values, t, x, q))
+}
+
+pub fn ln_gamma_at(n: usize, values: &[f64], t: f64, x: &[f64], i: usize) -> Answer
+    ensures { λ r. ⌜ r ≡ nrtlPlain n (now (values .entry)) t (now (x .entry)) (Quantity.LnGamma i) ⌝ }
+{
+    plain(n, values, t, x, Quantity::LnGamma(i))
+}
+
+pub fn gamma_at(n: usize, values: &[f64], t: f64, x: &[f64], i: usize) -> Answer
+    ensures { λ r. ⌜ r ≡ nrtlPlain n (now (values .entry)) t (now (x .entry)) (Quantity.Gamma i) ⌝ }
+{
+    plain(n, values, t, x, Quantity::Gamma(i))
+}
+
+pub fn reduced_excess_gibbs_at(n: usize, values: &[f64], t: f64, x: &[f64]) -> Answer
+    ensures { λ r. ⌜ r ≡ nrtlPlain n (now (values .entry)) t (now (x .entry)) Quantity.ExcessGibbs ⌝ }
+{
+    plain(n, values, t, x, Quantity::ExcessGibbs)
+}

@@ -1,0 +1,138 @@
+// Wilson's equation. A table of exponentials stands by full rows of n; its diagonal is never read.
+ghost use mathlib.Core.Path.{_≡_};
+ghost use Prim.Native.Nat.{_*_, _≤_, _<_};
+ghost use lib.ListN.{length};
+ghost use Rattle.arithmetic.specs.Floats.{_⊖_, _⊗_, +0};
+ghost use Rattle.arithmetic.specs.Logarithm.{logOf};
+ghost use Rattle.arithmetic.specs.Sums.{fold};
+ghost use Rattle.arithmetic.specs.Tables.{at, grid, Filled};
+ghost use Rattle.models.specs.Answers.{indexFault};
+ghost use Rattle.models.specs.Plain.{wilsonPlain};
+ghost use Rattle.models.specs.Values.{wilsonSize, energies, volumes};
+ghost use Rattle.models.specs.Wilson.{rowSum, lnGamma, wilsonAt};
+ghost use Rattle.models.specs.Wilson.{lambda as W·lambda, wilson as W·wilson};
+use crate::answers::Answer;
+use crate::answers::Quantity;
+
+// How many values n components have: a by rows, V. Past 12, which `plain_fault` refuses, it says nothing.
+pub fn size(n: usize) -> usize
+    ensures { λ r. ⌜ (n ≤ 12 → r ≡ wilsonSize n) ⌝ }
+{
+    if 12 < n {
+        return 0;
+    }
+    n * n + n
+}
+
+// Λ_ij, from the part of the table that starts at row i.
+fn lambda(v: &[f64], row: &[f64], i: usize, j: usize) -> f64
+    requires { ⌜ (i < length (now v)) × (j < length (now v)) × (j < length (now row)) ⌝ }
+    ensures { λ r. ⌜ r ≡ W·lambda (at (now (v .entry))) (λ _. at (now (row .entry))) i j ⌝ }
+{
+    if i == j {
+        return 1.0;
+    }
+    v[j] / v[i] * row[j]
+}
+
+// Σ_j x_j Λ_ij, from the part of the table that starts at row i.
+fn row_sum(n: usize, v: &[f64], row: &[f64], x: &[f64], i: usize) -> f64
+    requires { ⌜ (n ≤ length (now v)) × (n ≤ length (now row)) × (n ≤ length (now x)) × (i < n) ⌝ }
+    ensures { λ r. ⌜ r ≡ rowSum n (at (now (v .entry))) (λ _. at (now (row .entry))) (at (now (x .entry))) i ⌝ }
+{
+    let mut s = 0.0;
+    for j in 0..n {
+        s = s + x[j] * lambda(v, row, i, j);
+    }
+    s
+}
+
+// What all components share: the sum of each row.
+fn row_sums(n: usize, v: &[f64], e: &[f64], x: &[f64]) -> [f64; 12]
+    requires { ⌜ (n ≤ 12) × (n ≤ length (now v)) × (n * n ≤ length (now e)) × (n ≤ length (now x)) ⌝ }
+    ensures { λ r. ⌜ Filled (rowSum n (at (now (v .entry))) (grid n (now (e .entry))) (at (now (x .entry)))) n r ⌝ }
+{
+    let mut sums = [0.0; 12];
+    for i in 0..n {
+        let at = i * n;
+        sums[i] = row_sum(n, v, &e[at..], x, i);
+    }
+    sums
+}
+
+// ln γ_i, from the row sums.
+fn ln_gamma(n: usize, v: &[f64], e: &[f64], x: &[f64], sums: &[f64], i: usize) -> f64
+    requires { ⌜ (n ≤ length (now v)) × (n * n ≤ length (now e)) × (n ≤ length (now x)) × (n ≤ length (now sums)) × (i < n) × Filled (rowSum n (at (now v)) (grid n (now e)) (at (now x))) n (now sums) ⌝ }
+    ensures { λ r. ⌜ r ≡ lnGamma n (at (now (v .entry))) (grid n (now (e .entry))) (at (now (x .entry))) i ⌝ }
+{
+    let mut s = 0.0;
+    for k in 0..n {
+        let at = k * n;
+        s = s + x[k] * lambda(v, &e[at..], k, i) / sums[k];
+    }
+    1.0 - arithmetic::log(sums[i]) - s
+}
+
+// The excess energy, from the row sums.
+fn excess_gibbs(n: usize, x: &[f64], sums: &[f64]) -> f64
+    requires { ⌜ (n ≤ length (now x)) × (n ≤ length (now sums)) ⌝ }
+    ensures { λ r. ⌜ r ≡ fold n +0 (λ i s. s ⊖ at (now (x .entry)) i ⊗ logOf (at (now (sums .entry)) i)) ⌝ }
+{
+    let mut s = 0.0;
+    for i in 0..n {
+        s = s - x[i] * arithmetic::log(sums[i]);
+    }
+    s
+}
+
+// The quantity over a table of exponentials.
+pub fn value_over(n: usize, v: &[f64], e: &[f64], x: &[f64], q: Quantity) -> f64
+    requires { ⌜ (n ≤ 12) × (n ≤ length (now v)) × (n * n ≤ length (now e)) × (n ≤ length (now x)) × (indexFault n q ≡ 0) ⌝ }
+    ensures { λ r. ⌜ r ≡ W·wilson n (at (now (v .entry))) (grid n (now (e .entry))) (at (now (x .entry))) q ⌝ }
+{
+    let sums = row_sums(n, v, e, x);
+    match q {
+        Quantity::LnGamma(i) => ln_gamma(n, v, e, x, &sums[..], i),
+        Quantity::Gamma(i) => arithmetic::exp(ln_gamma(n, v, e, x, &sums[..], i)),
+        Quantity::ExcessGibbs => excess_gibbs(n, x, &sums[..]),
+    }
+}
+
+// The quantity at T, from the values.
+pub fn value_at(n: usize, values: &[f64], t: f64, x: &[f64], q: Quantity) -> f64
+    requires { ⌜ (n ≤ 12) × (wilsonSize n ≤ length (now values)) × (n ≤ length (now x)) × (indexFault n q ≡ 0) ⌝ }
+    ensures { λ r. ⌜ r ≡ wilsonAt n (volumes n (now (values .entry))) (energies n (now (values .entry))) t (at (now (x .entry))) q ⌝ }
+{
+    let e = crate::exponentials::energy_table(values, t, n);
+    let at = n * n;
+    value_over(n, &values[at..], &e[..], x, q)
+}
+
+// The plain call: the values are a by rows, then V.
+pub fn plain(n: usize, values: &[f64], t: f64, x: &[f64], q: Quantity) -> Answer
+    ensures { λ r. ⌜ r ≡ wilsonPlain n (now (values .entry)) t (now (x .entry)) q ⌝ }
+{
+    let fault = crate::faults::plain_fault(n, size(n), values, x, q);
+    if fault != 0 {
+        return Answer::Refused(fault);
+    }
+    Answer::Value(value_at(n, values, t, x, q))
+}
+
+pub fn ln_gamma_at(n: usize, values: &[f64], t: f64, x: &[f64], i: usize) -> Answer
+    ensures { λ r. ⌜ r ≡ wilsonPlain n (now (values .entry)) t (now (x .entry)) (Quantity.LnGamma i) ⌝ }
+{
+    plain(n, values, t, x, Quantity::LnGamma(i))
+}
+
+pub fn gamma_at(n: usize, values: &[f64], t: f64, x: &[f64], i: usize) -> Answer
+    ensures { λ r. ⌜ r ≡ wilsonPlain n (now (values .entry)) t (now (x .entry)) (Quantity.Gamma i) ⌝ }
+{
+    plain(n, values, t, x, Quantity::Gamma(i))
+}
+
+pub fn reduced_excess_gibbs_at(n: usize, values: &[f64], t: f64, x: &[f64]) -> Answer
+    ensures { λ r. ⌜ r ≡ wilsonPlain n (now (values .entry)) t (now (x .entry)) Quantity.ExcessGibbs ⌝ }
+{
+    plain(n, values, t, x, Quantity::ExcessGibbs)
+}
