@@ -10,3 +10,4 @@ pub mod Decomposing
 pub mod LogBranches
 pub mod Splitting
 pub mod WorkedValues
+pub mod ByteLaws

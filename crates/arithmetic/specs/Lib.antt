@@ -5,3 +5,4 @@ pub mod Parameters
 pub mod Sums
 pub mod Tables
 pub mod Digits
+pub mod Bytes

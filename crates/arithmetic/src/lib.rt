@@ -1,5 +1,6 @@
 // f64 arithmetic for the layers above: exp, log, the temperature-dependent parameter, left folds.
 // Document 01, "Arithmetic".
+pub mod bytes;
 pub mod exponential;
 pub mod exports;
 pub mod logarithm;

@@ -1,6 +1,7 @@
 // The lists, and how a line of each is replayed.
 use crate::words;
 use crate::words::Word;
+use arithmetic::bytes::float_of;
 
 const MOST_LINES: u64 = 1000000;
 
@@ -51,7 +52,7 @@ fn held(got: f64, stored: Word) -> Line {
 fn next_line(fd: i32, list: List) -> Line {
     let input = words::next(fd, b' ');
     match input {
-        Word::Bits(b) => held(answer(list, words::float_of(b)), words::next(fd, b'\n')),
+        Word::Bits(b) => held(answer(list, float_of(b)), words::next(fd, b'\n')),
         Word::End => Line::End,
         Word::Broken => Line::Broken,
     }

@@ -1,8 +1,6 @@
 // The words of a list: 16 lowercase hexadecimal digits, followed by one blank, or by LF at the end of
 // a line.
 ghost use Prim.Native.Nat.{_≤_};
-ghost use mathlib.Core.Path.{_≡_};
-ghost use lib.Ieee.{ofBits, binary64};
 
 pub enum Word {
     Bits(u64),
@@ -56,16 +54,6 @@ pub fn next(fd: i32, after: u8) -> Word {
         return Word::Broken;
     }
     spelt(&text)
-}
-
-// The float of a bit pattern, a NaN's too.
-pub fn float_of(b: u64) -> f64
-    ensures { λ r. ⌜ r ≡ ofBits binary64 b ⌝ }
-{
-    if 0x7ff0_0000_0000_0000 < b % 0x8000_0000_0000_0000 {
-        return 0.0 / 0.0;
-    }
-    f64::from_bits(b)
 }
 
 // Whether v has these bits, where any NaN is stored as 7ff8000000000000.

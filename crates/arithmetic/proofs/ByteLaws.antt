@@ -1,0 +1,47 @@
+-- Which bit patterns are NaN, and floats decoded one after the other. Assumes nothing.
+use mathlib.Core.Path.{_≡_, refl, sym, ap, _∙_, subst}
+use mathlib.Core.Bool.{Bool, true, false, not}
+use mathlib.Core.List.{List}
+use Prim.Native.Nat.{ℕ, zero, suc, _+_, _*_, _%_, _<_, _≤_}
+use native.Mathlib.Numerals.{add-one}
+use native.Mathlib.Omega.{arith}
+use lib.Dec.{T}
+use lib.ListN.{length, take, set, length-append}
+use lib.Seq.{take-suc-set}
+use lib.Ieee.{Float, nan, inf, fin, binary64, ofBits, isNan, nanBits}
+use lib.Ieee.Bits.{nanBits-is, nanBits-above}
+use borrow.Author.Tests.{lt-ltb, le-ltb}
+use Rattle.arithmetic.specs.Bytes.{wordAt, floatAt, floatsAt}
+
+is-nan : (v : Float) → isNan v ≡ true → v ≡ nan
+unfolding isNan
+is-nan nan e = refl
+is-nan (inf s) e = let f : _≡_ {A = ℕ} 0 1 = cc in absurd (omega arith)
+is-nan (fin s m x) e = let f : _≡_ {A = ℕ} 0 1 = cc in absurd (omega arith)
+
+-- 9218868437227405312 is the pattern of infinity, and 9223372036854775808 that of the sign
+pub pattern-nan : (b : ℕ) → 9218868437227405312 < b % 9223372036854775808 → ofBits binary64 b ≡ nan
+pattern-nan b h = is-nan (ofBits binary64 b) (sym (nanBits-is binary64 b) ∙ (nanBits-above binary64 b ∙ lt-ltb 9218868437227405312 (b % 9223372036854775808) h))
+
+pub pattern-no-nan : (b : ℕ) → b % 9223372036854775808 ≤ 9218868437227405312 → T (not (nanBits binary64 b))
+pattern-no-nan b h = subst (λ (t : Bool). T (not t)) (sym (nanBits-above binary64 b ∙ le-ltb 9218868437227405312 (b % 9223372036854775808) h)) tt
+
+pub float-is : (s : List ℕ) (p low high : ℕ) (r : Float) → low ≡ wordAt s p → high ≡ wordAt s (p + 4) → r ≡ ofBits binary64 (low + 4294967296 * high) → r ≡ floatAt s p
+unfolding floatAt
+float-is s p low high r a b e = e ∙ rw (a, b)
+
+-- ---- floats one after the other
+
+pub floats-more : (s : List ℕ) (p : ℕ) (a : List Float) (k : ℕ) (v : Float) → k < length a → take k a ≡ floatsAt s p k → v ≡ floatAt s (p + 8 * k) → take (k + 1) (set a k v) ≡ floatsAt s p (k + 1)
+unfolding floatsAt
+floats-more s p a k v h e q = rw (add-one k, take-suc-set a k v h, e, q)
+
+pub length-floats : (s : List ℕ) (p n : ℕ) → length (floatsAt s p n) ≡ n
+unfolding floatsAt
+length-floats s p zero = refl
+length-floats s p (suc n) = simp (length-append, length-floats s p n) (omega arith)
+
+pub floats-done : (s : List ℕ) (p n k : ℕ) (a : List Float) → k ≡ n → take k a ≡ floatsAt s p k → (n ≡ length (take n a)) × (take n a ≡ floatsAt s p n)
+floats-done s p n k a e q =
+    let z = rw e at q in
+    (sym (ap length z ∙ length-floats s p n), z)

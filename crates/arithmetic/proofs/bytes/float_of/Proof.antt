@@ -1,0 +1,23 @@
+-- A NaN pattern is told by its value, and the others are read as they are. Assumes nothing.
+use lib.Ieee.{ofBits, div}
+use Rattle.arithmetic.proofs.ByteLaws.{pattern-nan, pattern-no-nan}
+use mathlib.Core.Path.{_≡_, refl, sym, ap, _∙_}
+use Prim.Native.Nat.{ℕ, zero, suc, _+_, _*_, _-_, _<_, _≤_}
+use native.Mathlib.Omega.{arith}
+use borrow.Author.Needs.{needs}
+use lib.ListN.{length, getD}
+use Rattle.arithmetic.proofs.bytes.float_of.Statement.{statement}
+use Rattle.arithmetic.proofs.bytes.float_of.Tie as tie
+
+returns : tie.Need-returns
+unfolding div ofBits
+returns c = sym (pattern-nan (c .before .args .b) (c .if1 .taken))
+
+float-from-bits-result : tie.Need-float-from-bits-result
+float-from-bits-result c = pattern-no-nan (c .before .args .b) (c .if1 .left)
+
+returns-2 : tie.Need-returns-2
+returns-2 c = search needs
+
+pub float-of-spec : {M : Type 1} → statement M
+float-of-spec = tie.close (tie.spec returns float-from-bits-result returns-2)
