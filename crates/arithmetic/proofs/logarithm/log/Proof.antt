@@ -113,7 +113,8 @@ unfolding b
 shl-from-digits c = let h = leading-le 64 (toBits binary64 (arg (c .before))) in omega arith
 
 sub-from-digits-2 : tie.Need-sub-from-digits-2
-sub-from-digits-2 c = leading-le 64 (toBits binary64 (arg (c .before)))
+unfolding b
+sub-from-digits-2 c = let a = zeros c .0 in omega arith
 
 from-digits-requires : tie.Need-from-digits-requires
 unfolding b
