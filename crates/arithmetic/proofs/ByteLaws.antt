@@ -1,17 +1,20 @@
 -- Which bit patterns are NaN, and floats decoded one after the other. Assumes nothing.
 use mathlib.Core.Path.{_≡_, refl, sym, ap, _∙_, subst}
 use mathlib.Core.Bool.{Bool, true, false, not}
-use mathlib.Core.List.{List}
+use mathlib.Core.List.{List, [], _∷_, _++_}
+use mathlib.Core.Logic.{_⊎_, inl, inr}
 use Prim.Native.Nat.{ℕ, zero, suc, _+_, _*_, _%_, _<_, _≤_}
 use native.Mathlib.Numerals.{add-one}
 use native.Mathlib.Omega.{arith}
 use lib.Dec.{T}
-use lib.ListN.{length, take, set, length-append}
-use lib.Seq.{take-suc-set}
+use lib.ListN.{length, getD, take, set, length-append, List·getD-append}
+use lib.Seq.{take-suc-set, getD-append-add}
 use lib.Ieee.{Float, nan, inf, fin, binary64, ofBits, isNan, nanBits}
 use lib.Ieee.Bits.{nanBits-is, nanBits-above}
 use borrow.Author.Tests.{lt-ltb, le-ltb}
 use Rattle.arithmetic.specs.Bytes.{wordAt, floatAt, floatsAt}
+use Rattle.arithmetic.specs.Tables.{at}
+use Rattle.arithmetic.proofs.Differences.{le-or}
 
 is-nan : (v : Float) → isNan v ≡ true → v ≡ nan
 unfolding isNan
@@ -45,3 +48,16 @@ pub floats-done : (s : List ℕ) (p n k : ℕ) (a : List Float) → k ≡ n → 
 floats-done s p n k a e q =
     let z = rw e at q in
     (sym (ap length z ∙ length-floats s p n), z)
+
+pub floats-at : (s : List ℕ) (p n k : ℕ) → k < n → at (floatsAt s p n) k ≡ floatAt s (p + 8 * k)
+unfolding floatsAt
+floats-at s p zero k h = absurd (omega arith)
+floats-at s p (suc n) k h =
+    let l = length-floats s p n in
+    elim (le-or n k) [
+      | inl g ↦
+          let e : k ≡ n = omega arith in
+          let d : k ≡ length (floatsAt s p n) + 0 = omega arith in
+          ap (at (floatsAt s p n ++ (floatAt s (p + 8 * n) ∷ []))) d ∙ getD-append-add (floatsAt s p n) (floatAt s (p + 8 * n) ∷ []) 0 nan ∙ rw e
+      | inr g ↦ List·getD-append (floatsAt s p n) (floatAt s (p + 8 * n) ∷ []) nan k (omega arith) ∙ floats-at s p n k g
+    ]

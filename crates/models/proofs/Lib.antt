@@ -1,5 +1,9 @@
+pub mod ListLaws
+pub mod UnifacLaws
 pub mod AnswerLaws
 pub mod ExponentialLaws
 pub mod WilsonLaws
 pub mod ColumnLaws
 pub mod NrtlLaws
+pub mod UniquacLaws
+pub mod ExportLaws

@@ -12,6 +12,10 @@ use Rattle.arithmetic.specs.Sums.{total}
 unfoldable pub tolerance : Float
 tolerance = dec false 1 6
 
--- 5, empty; 6, |sum - 1| > ε (a NaN sum passes)
+-- 6, |sum - 1| > ε (a NaN sum passes)
+unfoldable pub sumFault : Float → Float → ℕ
+sumFault ε s = cond (lt ε (abs (s ⊖ one))) 6 0
+
+-- 5, empty; then 6
 unfoldable pub compositionFault : Float → List Float → ℕ
-compositionFault ε x = cond (eqb (length x) 0) 5 (cond (lt ε (abs (total x ⊖ one))) 6 0)
+compositionFault ε x = cond (eqb (length x) 0) 5 (sumFault ε (total x))

@@ -5,7 +5,11 @@ pub mod Rows
 pub mod Columns
 pub mod Wilson
 pub mod Uniquac
+pub mod Shared
 pub mod Nrtl
 pub mod Unifac
 pub mod Values
 pub mod Plain
+pub mod Exports
+pub mod Lists
+pub mod UnifacSteps

@@ -3,9 +3,13 @@ pub mod answers;
 pub mod columns;
 pub mod composition;
 pub mod exponentials;
+pub mod exports;
 pub mod faults;
+pub mod groups;
 pub mod nrtl;
 pub mod parameters;
+pub mod unifac;
+pub mod uniquac;
 pub mod wilson;
 
 pub use answers::Answer;

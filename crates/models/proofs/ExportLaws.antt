@@ -1,0 +1,217 @@
+-- Fractions in bytes: their sum and their faults, over plain variables. Assumes nothing.
+use mathlib.Core.Path.{_≡_, refl, sym, ap, _∙_}
+use mathlib.Core.Bool.{Bool, true, false, _&&_, cond, true≢false}
+use mathlib.Core.List.{List}
+use Prim.Native.Nat.{ℕ, zero, suc, _+_, _*_, _/_, _%_, _<_, _≤_}
+use native.Mathlib.Nat.{zero-add, mul-le-mul}
+use native.Mathlib.Omega.{arith}
+use lib.Dec.{eqb, leb}
+use lib.ListN.{length, getD}
+use lib.Ieee.{Float}
+use borrow.Author.Tests.{eq-eqb, ne-eqb, leb-true}
+use Rattle.arithmetic.specs.Bytes.{floatAt, floatsAt, floats}
+use Rattle.arithmetic.specs.Sums.{sum, total}
+use Rattle.arithmetic.specs.Tables.{at, from}
+use Rattle.arithmetic.proofs.ByteLaws.{length-floats, floats-at}
+use Rattle.arithmetic.proofs.SumLaws.{sum-same}
+use Rattle.models.specs.declared.answers.Quantity.{Quantity}
+use Rattle.models.specs.declared.answers.Answer.{Answer}
+use Rattle.models.specs.declared.answers.Answer.the-variants.{Value, Refused}
+use Rattle.models.specs.Answers.{answer, first, indexFault}
+use Rattle.models.specs.Composition.{tolerance, sumFault, compositionFault}
+use Rattle.models.specs.Exports.{loadFault, valueAt, Ready, exportedBy, exported}
+use Rattle.models.specs.Lists.{Loaded}
+use Rattle.models.specs.Plain.{between, shapeFault, allTo, listsFault, unifacFault, fractionsFault}
+use Rattle.models.specs.Values.{wilsonSize, energies, volumes, uniquacSize, rs, qs, nrtlSize, taus, alphas, countsAt, groupRs, groupQs, groupAs, start, unifacSize, lists}
+use Rattle.models.specs.Wilson.{wilsonAt}
+use Rattle.models.specs.Uniquac.{uniquacAt}
+use Rattle.models.specs.Nrtl.{nrtlAt}
+use Rattle.models.specs.Unifac.{unifacAt}
+use Rattle.models.proofs.AnswerLaws.{first-left, first-right, answer-refused}
+
+pub length-eights : (s : List ℕ) → length (floats s) ≡ length s / 8
+unfolding floats
+length-eights s = length-floats s 0 (length s / 8)
+
+pub eights-at : (s : List ℕ) (k : ℕ) → k < length s / 8 → at (floats s) k ≡ floatAt s (8 * k)
+unfolding floats
+eights-at s k h = floats-at s 0 (length s / 8) k h ∙ rw (zero-add (8 * k))
+
+pub total-eights : (s : List ℕ) → sum (length s / 8) (λ k. floatAt s (8 * k)) ≡ total (floats s)
+unfolding total
+total-eights s = rw (length-eights s) (sum-same (length s / 8) _ _ (λ k h. sym (eights-at s k h)))
+
+module _ (n : ℕ) (x : List ℕ) (q : Quantity) (R : ℕ) where
+  pub eights-empty : length x < 8 → 5 ≡ first (fractionsFault n (floats x) q) R
+  unfolding fractionsFault compositionFault
+  eights-empty h = let e : length (floats x) ≡ 0 = omega (arith, length-eights x) in rw (eq-eqb _ 0 e)
+
+  module _ {s : Float} {k : ℕ} (some : 8 ≤ length x) (S : s ≡ total (floats x)) (K : k ≡ sumFault tolerance s) where
+    composition : k ≡ compositionFault tolerance (floats x)
+    unfolding compositionFault
+    composition =
+        let ne : length (floats x) ≡ 0 → ⊥ = λ e. omega (arith, length-eights x, e) in
+        rw (ne-eqb _ 0 ne) (K ∙ ap (sumFault tolerance) S)
+
+    pub eights-off : (k ≡ 0 → ⊥) → k ≡ first (fractionsFault n (floats x) q) R
+    unfolding fractionsFault
+    eights-off ne = first-left R (first-left _ composition ne) ne
+
+    pub eights-length : k ≡ 0 → (length x / 8 ≡ n → ⊥) → 7 ≡ first (fractionsFault n (floats x) q) R
+    unfolding fractionsFault
+    eights-length z ne =
+        first-left R (first-right composition z (rw (ne-eqb _ n (λ (e : length (floats x) ≡ n). ne (sym (length-eights x) ∙ e))))) (λ e. omega arith)
+
+    module _ {i : ℕ} (z : k ≡ 0) (many : length x / 8 ≡ n) (I : i ≡ indexFault n q) where
+      passed : i ≡ fractionsFault n (floats x) q
+      unfolding fractionsFault
+      passed = first-right composition z (rw (eq-eqb _ n (length-eights x ∙ many)) I)
+
+      pub eights-index : (i ≡ 0 → ⊥) → i ≡ first (fractionsFault n (floats x) q) R
+      eights-index ne = first-left R passed ne
+
+      pub eights-rest : i ≡ 0 → {r : ℕ} → r ≡ R → r ≡ first (fractionsFault n (floats x) q) R
+      eights-rest y e = first-right passed y e
+
+-- ---- a model by its number
+
+module _ (m n ng : ℕ) (lens groups : List ℕ) (values : List Float) where
+  module _ (e : m ≡ 1) where
+    pub load-wilson : {k : ℕ} → k ≡ shapeFault n (wilsonSize n) values → k ≡ loadFault m n ng lens groups values
+    unfolding loadFault
+    load-wilson p = rw (eq-eqb m 1 e) p
+
+    pub ready-wilson : n ≤ 12 → wilsonSize n ≤ length values → Ready m n ng lens groups values
+    ready-wilson h s = record { few = h; wilson = λ _. s; uniquac = λ d. absurd (omega arith); nrtl = λ d. absurd (omega arith); unifac = λ a b c. absurd (a e) }
+
+    pub value-wilson : (T : Float) (x : ℕ → Float) (q : Quantity) {v : Float} → v ≡ wilsonAt n (volumes n values) (energies n values) T x q → v ≡ valueAt m n ng lens groups values T x q
+    unfolding valueAt
+    value-wilson T x q p = rw (eq-eqb m 1 e) p
+
+  module _ (e : m ≡ 2) where
+    pub load-uniquac : {k : ℕ} → k ≡ shapeFault n (uniquacSize n) values → k ≡ loadFault m n ng lens groups values
+    unfolding loadFault
+    load-uniquac p = rw (e) p
+
+    pub ready-uniquac : n ≤ 12 → uniquacSize n ≤ length values → Ready m n ng lens groups values
+    ready-uniquac h s = record { few = h; wilson = λ d. absurd (omega arith); uniquac = λ _. s; nrtl = λ d. absurd (omega arith); unifac = λ a b c. absurd (b e) }
+
+    pub value-uniquac : (T : Float) (x : ℕ → Float) (q : Quantity) {v : Float} → v ≡ uniquacAt n (rs n values) (qs n values) (energies n values) T x q → v ≡ valueAt m n ng lens groups values T x q
+    unfolding valueAt
+    value-uniquac T x q p = rw e p
+
+  module _ (e : m ≡ 3) where
+    pub load-nrtl : {k : ℕ} → k ≡ shapeFault n (nrtlSize n) values → k ≡ loadFault m n ng lens groups values
+    unfolding loadFault
+    load-nrtl p = rw e p
+
+    pub ready-nrtl : n ≤ 12 → nrtlSize n ≤ length values → Ready m n ng lens groups values
+    ready-nrtl h s = record { few = h; wilson = λ d. absurd (omega arith); uniquac = λ d. absurd (omega arith); nrtl = λ _. s; unifac = λ a b c. absurd (c e) }
+
+    pub value-nrtl : (T : Float) (x : ℕ → Float) (q : Quantity) {v : Float} → v ≡ nrtlAt n (taus n values) (alphas n values) T x q → v ≡ valueAt m n ng lens groups values T x q
+    unfolding valueAt
+    value-nrtl T x q p = rw e p
+
+  module _ (e : m ≡ 4) where
+    pub load-unifac : {k : ℕ} → k ≡ unifacFault n ng lens groups values → k ≡ loadFault m n ng lens groups values
+    unfolding loadFault
+    load-unifac p = rw e p
+
+    pub ready-unifac : Loaded n ng lens groups values → Ready m n ng lens groups values
+    ready-unifac l = record { few = l .few; wilson = λ d. absurd (omega arith); uniquac = λ d. absurd (omega arith); nrtl = λ d. absurd (omega arith); unifac = λ a b c. (e, l) }
+
+    pub value-unifac : (T : Float) (x : ℕ → Float) (q : Quantity) {v : Float} →
+        v ≡ unifacAt n ng (lists lens groups (from (countsAt ng) values)) (groupRs ng values) (groupQs ng values) (groupAs ng values) T x q → v ≡ valueAt m n ng lens groups values T x q
+    unfolding valueAt
+    value-unifac T x q p = rw e p
+
+  pub load-none : (m ≡ 1 → ⊥) → (m ≡ 2 → ⊥) → (m ≡ 3 → ⊥) → (m ≡ 4 → ⊥) → 2 ≡ loadFault m n ng lens groups values
+  unfolding loadFault
+  load-none a b c d = rw (ne-eqb m 1 a, ne-eqb m 2 b, ne-eqb m 3 c, ne-eqb m 4 d)
+
+-- ---- bytes that are whole eights
+
+pub whole-eights : (s : List ℕ) (n : ℕ) → length s ≡ 8 * n → floatsAt s 0 n ≡ floats s
+unfolding floats
+whole-eights s n h = let e : length s / 8 ≡ n = omega arith in rw e
+
+pub exported-rest : (m n ng : ℕ) (lens groups values : List ℕ) (T : Float) (x : List ℕ) (q : Quantity) → (length values % 8 ≡ 0 → ⊥) → Refused 2 ≡ exported m n ng lens groups values T x q
+unfolding exported
+exported-rest m n ng lens groups values T x q h = rw (ne-eqb _ 0 h)
+
+pub exported-whole : (m n ng : ℕ) (lens groups values : List ℕ) (T : Float) (x : List ℕ) (q : Quantity) {a : Answer} → length values % 8 ≡ 0 →
+    a ≡ exportedBy m n ng lens groups (floats values) T x q → a ≡ exported m n ng lens groups values T x q
+unfolding exported
+exported-whole m n ng lens groups values T x q h p = rw (eq-eqb _ 0 h) p
+
+-- no model has more than 5,328 values
+and-off : (b c : Bool) → (b ≡ true → c ≡ false) → b && c ≡ false
+and-off true c h = h refl
+and-off false c h = refl
+
+and-left : (a b : Bool) → a && b ≡ true → a ≡ true
+and-left true b h = refl
+and-left false b h = absurd (true≢false (sym h))
+
+and-right : (a b : Bool) → a && b ≡ true → b ≡ true
+and-right true b h = h
+and-right false b h = absurd (true≢false (sym h))
+
+below : (a b k : ℕ) → between a b k ≡ true → k ≤ b
+below a b k h = leb-true k b (and-right (leb a k) (leb k b) h)
+
+shape-long : (n size : ℕ) (values : List Float) → 5328 < length values → (n ≤ 12 → size ≤ 5328) → 2 ≡ shapeFault n size values
+unfolding shapeFault
+shape-long n size values h s = rw (and-off (between 1 12 n) (eqb (length values) size) (λ b. ne-eqb _ size (λ e. omega (arith, s (below 1 12 n b), e))))
+
+-- lists of up to 12 each
+start-small : (lens : List ℕ) (n : ℕ) → allTo n (λ i. leb (getD lens i 0) 12) ≡ true → start lens n ≤ n * 12
+unfolding start allTo
+start-small lens zero h = omega arith
+start-small lens (suc n) h =
+    let p = allTo n (λ i. leb (getD lens i 0) 12) in
+    let a = start-small lens n (and-left p (leb (getD lens n 0) 12) h) in
+    let b = leb-true (getD lens n 0) 12 (and-right p (leb (getD lens n 0) 12) h) in
+    omega arith
+
+lists-long : (n ng : ℕ) (lens groups : List ℕ) (values : List Float) → 5328 < length values → 2 ≡ listsFault n ng lens groups values
+unfolding listsFault unifacSize countsAt
+lists-long n ng lens groups values h =
+    rw (and-off (between 1 12 n && between 1 32 ng && eqb (length lens) n && allTo n (λ i. leb (getD lens i 0) 12) && eqb (length groups) (start lens n))
+    (eqb (length values) (unifacSize ng (start lens n))) (λ b. ne-eqb (length values) (unifacSize ng (start lens n)) (far b)))
+  where
+    far : between 1 12 n && between 1 32 ng && eqb (length lens) n && allTo n (λ i. leb (getD lens i 0) 12) && eqb (length groups) (start lens n) ≡ true → length values ≡ unifacSize ng (start lens n) → ⊥
+    far b e =
+        let N = between 1 12 n in
+        let G = between 1 32 ng in
+        let L = eqb (length lens) n in
+        let A = allTo n (λ i. leb (getD lens i 0) 12) in
+        let most = and-left (N && G && L && A) (eqb (length groups) (start lens n)) b in
+        let counts = and-left (N && G) L (and-left (N && G && L) A most) in
+        let few = below 1 12 n (and-left N G counts) in
+        let some = below 1 32 ng (and-right N G counts) in
+        let lists = start-small lens n (and-right (N && G && L) A most) in
+        let square = mul-le-mul some some in
+        omega arith
+
+unifac-long : (n ng : ℕ) (lens groups : List ℕ) (values : List Float) → 5328 < length values → 2 ≡ unifacFault n ng lens groups values
+unfolding unifacFault
+unifac-long n ng lens groups values h = first-left _ (lists-long n ng lens groups values h) (λ e. omega arith)
+
+pick-long : (p q r s : Bool) {a b c d : ℕ} → 2 ≡ a → 2 ≡ b → 2 ≡ c → 2 ≡ d → 2 ≡ cond p a (cond q b (cond r c (cond s d 2)))
+pick-long true q r s w x y z = w
+pick-long false true r s w x y z = x
+pick-long false false true s w x y z = y
+pick-long false false false true w x y z = z
+pick-long false false false false w x y z = refl
+
+load-long : (m n ng : ℕ) (lens groups : List ℕ) (values : List Float) → 5328 < length values → 2 ≡ loadFault m n ng lens groups values
+unfolding loadFault wilsonSize uniquacSize nrtlSize
+load-long m n ng lens groups values h =
+    pick-long (eqb m 1) (eqb m 2) (eqb m 3) (eqb m 4) (shape-long n _ values h (λ b. omega (arith, mul-le-mul b b))) (shape-long n _ values h (λ b. omega (arith, mul-le-mul b b)))
+    (shape-long n _ values h (λ b. omega (arith, mul-le-mul b b))) (unifac-long n ng lens groups values h)
+
+pub exported-long : (m n ng : ℕ) (lens groups : List ℕ) (values : List Float) (T : Float) (x : List ℕ) (q : Quantity) → 5328 < length values →
+    Refused 2 ≡ exportedBy m n ng lens groups values T x q
+unfolding exportedBy
+exported-long m n ng lens groups values T x q h = answer-refused _ (first-left _ (load-long m n ng lens groups values h) (λ e. omega arith)) (λ e. omega arith)

@@ -1,0 +1,288 @@
+-- UNIFAC: what an exponential reads, rows lent as parts, sums worked out once, and equal inputs give equal values.
+-- Assumes nothing.
+use mathlib.Core.Path.{_≡_, refl, sym, ap, _∙_}
+use mathlib.Core.Bool.{cond}
+use mathlib.Core.List.{List, _++_}
+use Prim.Native.Nat.{ℕ, _+_, _-_, _*_, _<_, _≤_}
+use native.Mathlib.Omega.{arith}
+use lib.Dec.{eqb}
+use lib.ListN.{getD, length, take}
+use lib.Ieee.{Float}
+use Rattle.arithmetic.specs.Floats.{_⊕_, _⊖_, _⊗_, _⊘_, +0, one}
+use Rattle.arithmetic.specs.Logarithm.{logOf}
+use Rattle.arithmetic.specs.Parameters.{tdAt}
+use Rattle.arithmetic.specs.Sums.{fold, sum}
+use Rattle.arithmetic.specs.Tables.{at, grid, from, flat, Filled, upTo}
+use Rattle.arithmetic.specs.declared.parameters.TdParam.{TdParam}
+use Rattle.arithmetic.proofs.SumLaws.{fold-same, sum-same}
+use Rattle.arithmetic.proofs.TableLaws.{row-end, row-next, flat-cell, filled-cell, from-at, from-length, upto-below, back-before, back-within, by-place}
+use Rattle.models.specs.declared.answers.Quantity.{Quantity}
+use Rattle.models.specs.declared.unifac.Shared.{Shared}
+use Rattle.models.specs.Answers.{indexFault, quantity}
+use Rattle.models.specs.Columns.{columnSum}
+use Rattle.models.specs.Exponentials.{groupEnergy}
+use Rattle.models.specs.Lists.{Listed, Loaded}
+use Rattle.models.specs.Unifac.{Groups, size, sizeSum, combinatorialBy, combinatorial, counts, amount, amounts, fraction, pureCount, pureFraction, theta, lnGroup, mixed, pure, residual, lnGamma, excess, unifac, unifacAt}
+use Rattle.models.specs.UnifacSteps.{psiBy, Shares, lnFrom}
+use Rattle.models.specs.Values.{start, fiveAt, countsAt, groupRs, groupQs, groupAs, lists}
+use Rattle.models.proofs.AnswerLaws.{quantity-same}
+use Rattle.models.proofs.ListLaws.{start-same, list-place, listed-less, list-group}
+
+-- ---- an exponential
+
+-- Ψ_mk reads a_mk and T alone
+pub psi-same : (a b : ℕ → ℕ → Float) (T U : Float) (m k : ℕ) → a m k ≡ b m k → T ≡ U → groupEnergy a T m k ≡ groupEnergy b U m k
+unfolding groupEnergy
+psi-same a b T U m k p q = rw (p, q)
+
+-- with L = log(T) an entry of a row is exp(-a/T), a at T
+pub psi-at : (row : List Float) (T : Float) {L : Float} (m k : ℕ) → L ≡ logOf T → psiBy row T L k ≡ groupEnergy (λ m k. tdAt (fiveAt row (k * 5)) T) T m k
+unfolding psiBy groupEnergy tdAt
+psi-at row T m k ln = rw ln
+
+-- the five of an entry, in the part that starts at s
+pub five-from : (l : List Float) (s k : ℕ) → s + k + 5 ≤ length l → fiveAt (from s l) k ≡ fiveAt l (s + k)
+unfolding fiveAt
+five-from l s k h =
+    rw (from-at l s k (omega arith), next 1 (omega arith), next 2 (omega arith), next 3 (omega arith), next 4 (omega arith))
+  where
+    next : (d : ℕ) → d < 5 → at (from s l) (k + d) ≡ at l (s + k + d)
+    next d b = from-at l s (k + d) (omega arith) ∙ ap (at l) (omega arith)
+
+-- the part that starts at row m gives the table's entry
+pub psi-row : (ng : ℕ) (values : List Float) (T : Float) {L : Float} (m k : ℕ) → countsAt ng ≤ length values → L ≡ logOf T → m < ng → k < ng →
+    psiBy (from (ng + ng + m * ng * 5) values) T L k ≡ groupEnergy (λ m k. tdAt (groupAs ng values m k) T) T m k
+unfolding groupAs countsAt
+psi-row ng values T m k h ln b c =
+    let place : ng + ng + m * ng * 5 + k * 5 ≡ ng + ng + (m * ng + k) * 5 = omega arith in
+    psi-at _ T m k ln ∙ psi-same _ _ T T m k (ap (λ (p : TdParam). tdAt p T) (five-from values (ng + ng + m * ng * 5) (k * 5) (omega (arith, row-end ng ng m b)) ∙ ap (fiveAt values) place)) refl
+
+-- ---- the table, row after row
+
+-- a part from s on comes back as ys, in the middle of g
+rows-more : (F : ℕ → Float) (s n : ℕ) (g ys rest : List Float) → s ≤ length g → n ≤ length ys → Filled F s g → ((k : ℕ) → k < n → at ys k ≡ F (s + k)) → Filled F (s + n) (take s g ++ (ys ++ rest))
+rows-more F s n g ys rest h l all row = record {
+  each = λ k b.
+      by-place k s
+      (λ c. back-before s g ys rest k h c ∙ all .each k c)
+      (λ e. within k b (omega arith))
+      (λ d. within k b (omega arith));
+}
+  where
+    within : (k : ℕ) → k < s + n → s ≤ k → at (take s g ++ (ys ++ rest)) k ≡ F k
+    within k b c =
+        let e : k ≡ s + (k - s) = omega arith in
+        ap (at (take s g ++ (ys ++ rest))) e ∙ back-within s g ys rest (k - s) h (omega arith) ∙ row (k - s) (omega arith) ∙ ap F (sym e)
+
+pub table-more : (ng m : ℕ) (values : List Float) (T : Float) {L : Float} (g : List Float) (old : ℕ → Float) (ys rest : List Float) → countsAt ng ≤ length values → ng * ng ≤ length g → L ≡ logOf T → m < ng →
+    length ys ≡ length (from (m * ng) g) →
+    Filled (flat ng (groupEnergy (λ m k. tdAt (groupAs ng values m k) T) T)) (m * ng) g →
+    Filled (upTo ng (psiBy (from (ng + ng + m * ng * 5) values) T L) old) (length (from (m * ng) g)) ys →
+    Filled (flat ng (groupEnergy (λ m k. tdAt (groupAs ng values m k) T) T)) ((m + 1) * ng) (take (m * ng) g ++ (ys ++ rest))
+table-more ng m values T {L} g old ys rest h l ln b same all row =
+    rw (row-next ng m)
+    (rows-more _ (m * ng) ng g ys rest (omega (arith, row-end ng ng m b)) (omega (arith, from-length (m * ng) g, row-end ng ng m b)) all
+    (λ k c. row .each k (omega (arith, from-length (m * ng) g, row-end ng ng m b)) ∙ upto-below ng _ _ k c ∙ psi-row ng values T m k h ln b c ∙ sym (flat-cell ng _ m k c)))
+
+-- ---- ln Γ
+
+-- the column sums, worked out once, serve every group; the row k is lent as a part
+pub group-hoisted : (ng : ℕ) (Q Θ D : ℕ → Float) (psi : List Float) (k : ℕ) {l s : Float} → k < ng → ng * ng ≤ length psi →
+    ((m : ℕ) → m < ng → D m ≡ columnSum ng (grid ng psi) Θ m) → l ≡ logOf (D k) → s ≡ sum ng (λ m. Θ m ⊗ at (from (k * ng) psi) m ⊘ D m) →
+    Q k ⊗ (one ⊖ l ⊖ s) ≡ lnGroup ng Q (grid ng psi) Θ k
+unfolding lnGroup
+group-hoisted ng Q Θ D psi k b h all p q =
+    let S : sum ng (λ m. Θ m ⊗ at (from (k * ng) psi) m ⊘ D m) ≡ sum ng (λ m. Θ m ⊗ grid ng psi k m ⊘ columnSum ng (grid ng psi) Θ m) =
+    sum-same ng _ _ (λ m c. rw (from-at psi (k * ng) m (omega (arith, row-end ng ng k b)), all m c)) in
+    rw (p, q, all k b, S)
+
+theta-same : (ng : ℕ) (Q U X Y : ℕ → Float) (k : ℕ) → k < ng → ((m : ℕ) → m < ng → Q m ≡ U m) → ((m : ℕ) → m < ng → X m ≡ Y m) → theta ng Q X k ≡ theta ng U Y k
+unfolding theta
+theta-same ng Q U X Y k b q e =
+    let S : sum ng (λ m. Q m ⊗ X m) ≡ sum ng (λ m. U m ⊗ Y m) = sum-same ng _ _ (λ m c. rw (q m c, e m c)) in
+    rw (q k b, e k b, S)
+
+group-same : (ng : ℕ) (Q U : ℕ → Float) (Ψ Φ : ℕ → ℕ → Float) (Θ Ω : ℕ → Float) (k : ℕ) → k < ng →
+    ((m : ℕ) → m < ng → Q m ≡ U m) → ((m n : ℕ) → m < ng → n < ng → Ψ m n ≡ Φ m n) → ((m : ℕ) → m < ng → Θ m ≡ Ω m) → lnGroup ng Q Ψ Θ k ≡ lnGroup ng U Φ Ω k
+unfolding lnGroup columnSum
+group-same ng Q U Ψ Φ Θ Ω k b q p e =
+    let D : (m : ℕ) → m < ng → sum ng (λ n. Θ n ⊗ Ψ n m) ≡ sum ng (λ n. Ω n ⊗ Φ n m) = λ m h. sum-same ng _ _ (λ n c. rw (e n c, p n m c h)) in
+    let S : sum ng (λ m. Θ m ⊗ Ψ k m ⊘ sum ng (λ n. Θ n ⊗ Ψ n m)) ≡ sum ng (λ m. Ω m ⊗ Φ k m ⊘ sum ng (λ n. Ω n ⊗ Φ n m)) =
+    sum-same ng _ _ (λ m c. rw (e m c, p k m b c, D m c)) in
+    rw (q k b, D k b, S)
+
+-- the group fractions, then Θ, then ln Γ, each in an array
+pub groups-from : (ng : ℕ) (Q : ℕ → Float) (Ψ : ℕ → ℕ → Float) (X : ℕ → Float) {xg th g : List Float} →
+    Filled X ng xg → Filled (theta ng Q (at xg)) ng th → Filled (lnGroup ng Q Ψ (at th)) ng g → Filled (lnGroup ng Q Ψ (theta ng Q X)) ng g
+groups-from ng Q Ψ X {xg} {th} fractions thetas gammas = record {
+  each = λ k b.
+      gammas .each k b ∙
+      group-same ng Q Q Ψ Ψ (at th) (theta ng Q X) k b (λ m c. refl) (λ m n c d. refl)
+      (λ m c. thetas .each m c ∙ theta-same ng Q Q (at xg) X m c (λ n d. refl) (fractions .each));
+}
+
+-- ---- equal inputs, equal values
+
+-- component i lists the same pairs in c and d, of groups below ng
+pub record SameList (ng : ℕ) (c d : Groups) (i : ℕ) : Type 0 where
+  pub lengths : c .length i ≡ d .length i
+  pub groups : (p : ℕ) → p < c .length i → c .group i p ≡ d .group i p
+  pub counts : (p : ℕ) → p < c .length i → c .count i p ≡ d .count i p
+  pub below : (p : ℕ) → p < c .length i → c .group i p < ng
+
+pub same-self : (ng : ℕ) (c : Groups) (i : ℕ) → ((p : ℕ) → p < c .length i → c .group i p < ng) → SameList ng c c i
+same-self ng c i b = record { lengths = refl; groups = λ p h. refl; counts = λ p h. refl; below = b }
+
+-- at one component
+module _ {ng : ℕ} {c d : Groups} {i : ℕ} (l : SameList ng c d i) where
+  size-same : (R S : ℕ → Float) → ((k : ℕ) → k < ng → R k ≡ S k) → size c R i ≡ size d S i
+  unfolding size
+  size-same R S e =
+      sum-same (c .length i) _ _ (λ p h. rw (e (c .group i p) (l .below p h), l .groups p h, l .counts p h))
+      ∙ ap (λ (m : ℕ). sum m (λ p. d .count i p ⊗ S (d .group i p))) (l .lengths)
+
+  counts-same : counts c i ≡ counts d i
+  unfolding counts
+  counts-same = sum-same (c .length i) _ _ (l .counts) ∙ ap (λ (m : ℕ). sum m (d .count i)) (l .lengths)
+
+  added-same : (x y : Float) (k : ℕ) (s : Float) → x ≡ y → fold (c .length i) s (λ p s. cond (eqb (c .group i p) k) (s ⊕ x ⊗ c .count i p) s) ≡ fold (d .length i) s (λ p s. cond (eqb (d .group i p) k) (s ⊕ y ⊗ d .count i p) s)
+  added-same x y k s e =
+      fold-same (c .length i) s _ _ (λ p a h. rw (l .groups p h, l .counts p h, e))
+      ∙ ap (λ (m : ℕ). fold m s (λ p s. cond (eqb (d .group i p) k) (s ⊕ y ⊗ d .count i p) s)) (l .lengths)
+
+  pure-fraction-same : (k : ℕ) → pureFraction c i k ≡ pureFraction d i k
+  unfolding pureFraction pureCount
+  pure-fraction-same k =
+      let C : fold (c .length i) +0 (λ p s. cond (eqb (c .group i p) k) (c .count i p) s) ≡ fold (d .length i) +0 (λ p s. cond (eqb (d .group i p) k) (d .count i p) s) =
+      fold-same (c .length i) +0 _ _ (λ p a h. rw (l .groups p h, l .counts p h)) ∙ ap (λ (m : ℕ). fold m +0 (λ p s. cond (eqb (d .group i p) k) (d .count i p) s)) (l .lengths) in
+      rw (C, counts-same)
+
+  pub residual-same : (M N : ℕ → Float) (P O : ℕ → ℕ → Float) → ((k : ℕ) → k < ng → M k ≡ N k) → ((k : ℕ) → k < ng → P i k ≡ O i k) → residual c M P i ≡ residual d N O i
+  unfolding residual
+  residual-same M N P O m p =
+      sum-same (c .length i) _ _ (λ q h. rw (m (c .group i q) (l .below q h), p (c .group i q) (l .below q h), l .groups q h, l .counts q h))
+      ∙ ap (λ (m : ℕ). sum m (λ q. d .count i q ⊗ (N (d .group i q) ⊖ O i (d .group i q)))) (l .lengths)
+
+module _ (n ng : ℕ) (c d : Groups) (lists : (i : ℕ) → i < n → SameList ng c d i)
+    (Q U : ℕ → Float) (same-Q : (k : ℕ) → k < ng → Q k ≡ U k)
+    (Ψ Φ : ℕ → ℕ → Float) (same-Ψ : (m k : ℕ) → m < ng → k < ng → Ψ m k ≡ Φ m k)
+    (x y : ℕ → Float) (same-x : (i : ℕ) → i < n → x i ≡ y i) where
+  size-sum-same : (R S : ℕ → Float) → ((k : ℕ) → k < ng → R k ≡ S k) → sizeSum n c R x ≡ sizeSum n d S y
+  unfolding sizeSum
+  size-sum-same R S e = sum-same n _ _ (λ j h. rw (same-x j h, size-same (lists j h) R S e))
+
+  amounts-same : amounts n c x ≡ amounts n d y
+  unfolding amounts
+  amounts-same = sum-same n _ _ (λ i h. rw (same-x i h, counts-same (lists i h)))
+
+  fraction-same : (k : ℕ) → fraction n c x k ≡ fraction n d y k
+  unfolding fraction amount
+  fraction-same k =
+      rw (
+        amounts-same,
+        fold-same n +0
+            (λ i s. fold (c .length i) s (λ p s. cond (eqb (c .group i p) k) (s ⊕ x i ⊗ c .count i p) s))
+            (λ i s. fold (d .length i) s (λ p s. cond (eqb (d .group i p) k) (s ⊕ y i ⊗ d .count i p) s))
+            (λ i s h. added-same (lists i h) (x i) (y i) k s (same-x i h)),
+      )
+
+  pub mixed-same : (k : ℕ) → k < ng → mixed n ng c Q Ψ x k ≡ mixed n ng d U Φ y k
+  unfolding mixed
+  mixed-same k b = group-same ng Q U Ψ Φ _ _ k b same-Q same-Ψ (λ m h. theta-same ng Q U _ _ m h same-Q (λ g _. fraction-same g))
+
+  pub pure-same : (i k : ℕ) → i < n → k < ng → pure ng c Q Ψ i k ≡ pure ng d U Φ i k
+  unfolding pure
+  pure-same i k h b = group-same ng Q U Ψ Φ _ _ k b same-Q same-Ψ (λ m b. theta-same ng Q U _ _ m b same-Q (λ g _. pure-fraction-same (lists i h) g))
+
+  module _ (R S : ℕ → Float) (same-R : (k : ℕ) → k < ng → R k ≡ S k) where
+    ln-same : (i : ℕ) → i < n → lnGamma n ng c R Q Ψ (pure ng c Q Ψ) x i ≡ lnGamma n ng d S U Φ (pure ng d U Φ) y i
+    unfolding lnGamma combinatorial
+    ln-same i h =
+        rw (
+          size-same (lists i h) R S same-R,
+          size-same (lists i h) Q U same-Q,
+          size-sum-same R S same-R,
+          size-sum-same Q U same-Q,
+          residual-same (lists i h) (mixed n ng c Q Ψ x) (mixed n ng d U Φ y) (pure ng c Q Ψ) (pure ng d U Φ) mixed-same (λ k b. pure-same i k h b),
+        )
+
+    pub unifac-same : (q : Quantity) → indexFault n q ≡ 0 → unifac n ng c R Q Ψ x q ≡ unifac n ng d S U Φ y q
+    unfolding unifac excess
+    unifac-same q z = quantity-same n q _ _ _ _ z ln-same (sum-same n _ _ (λ i h. rw (same-x i h, ln-same i h)))
+
+-- ---- ln γ from what the components share
+
+pub shares-from : (n ng : ℕ) (c : Groups) (R Q : ℕ → Float) (Ψ : ℕ → ℕ → Float) (x : ℕ → Float) {r q g : List Float} {rs qs : Float} →
+    Filled (size c R) n r → Filled (size c Q) n q → rs ≡ sum n (λ j. x j ⊗ at r j) → qs ≡ sum n (λ j. x j ⊗ at q j) → Filled (mixed n ng c Q Ψ x) ng g →
+    Shares n ng c R Q Ψ x (record { r = r; q = q; rs = rs; qs = qs; gamma = g })
+unfolding sizeSum
+shares-from n ng c R Q Ψ x rAll qAll rSum qSum gAll = record {
+  rEach = rAll;
+  qEach = qAll;
+  rSum = rSum ∙ sum-same n _ _ (λ j h. rw (rAll .each j h));
+  qSum = qSum ∙ sum-same n _ _ (λ j h. rw (qAll .each j h));
+  groups = gAll;
+}
+
+-- what `ln_gamma` puts together: g has the pure ln Γ of component i
+pub ln-from : (s : Shared) (c : Groups) (P : ℕ → ℕ → Float) (i ng : ℕ) {g : List Float} {u v : Float} → SameList ng c c i →
+    u ≡ combinatorialBy (at (s .q) i) (at (s .r) i ⊘ s .rs) (at (s .q) i ⊘ s .qs) → v ≡ residual c (at (s .gamma)) (λ j. at g) i → Filled (P i) ng g →
+    u ⊕ v ≡ lnFrom s c P i
+unfolding lnFrom
+ln-from s c P i ng {g} l p q all = rw (p, q, residual-same l (at (s .gamma)) (at (s .gamma)) (λ j. at g) P (λ k b. refl) (all .each))
+
+module _ (n ng : ℕ) (c : Groups) (R Q : ℕ → Float) (Ψ : ℕ → ℕ → Float) (x : ℕ → Float) {s : Shared} (all : Shares n ng c R Q Ψ x s) (lists : (i : ℕ) → i < n → SameList ng c c i) where
+  ln-shared : (P : ℕ → ℕ → Float) (i : ℕ) → i < n → lnFrom s c P i ≡ lnGamma n ng c R Q Ψ P x i
+  unfolding lnFrom lnGamma combinatorial
+  ln-shared P i h =
+      rw (
+        all .rEach .each i h,
+        all .qEach .each i h,
+        all .rSum,
+        all .qSum,
+        residual-same (lists i h) (at (s .gamma)) (mixed n ng c Q Ψ x) P P (all .groups .each) (λ k b. refl),
+      )
+
+  pub unifac-shared : (q : Quantity) → indexFault n q ≡ 0 →
+      quantity q (lnFrom s c (pure ng c Q Ψ)) (sum n (λ i. x i ⊗ lnFrom s c (pure ng c Q Ψ) i)) ≡ unifac n ng c R Q Ψ x q
+  unfolding unifac excess
+  unifac-shared q z = quantity-same n q _ _ _ _ z (ln-shared (pure ng c Q Ψ)) (sum-same n _ _ (λ i h. rw (ln-shared (pure ng c Q Ψ) i h)))
+
+-- ---- lists and values in slices
+
+pub listed-same : {n ng : ℕ} {lens groups : List ℕ} {counts : List Float} → Listed n ng lens groups counts → (i : ℕ) → i < n → SameList ng (lists lens groups counts) (lists lens groups counts) i
+unfolding lists
+listed-same {n} {ng} all i h = same-self ng _ i (list-group i (listed-less all i ng h (omega arith)) refl)
+
+-- lists that agree below n, in their lengths and at the places that they list
+pub lists-same : (n ng : ℕ) (lens lens′ groups groups′ : List ℕ) (counts counts′ : List Float) → Listed n ng lens groups counts →
+    ((i : ℕ) → i < n → getD lens i 0 ≡ getD lens′ i 0) → ((p : ℕ) → p < start lens n → getD groups p 0 ≡ getD groups′ p 0) → ((p : ℕ) → p < start lens n → at counts p ≡ at counts′ p) →
+    (i : ℕ) → i < n → SameList ng (lists lens groups counts) (lists lens′ groups′ counts′) i
+unfolding lists
+lists-same n ng lens lens′ groups groups′ counts counts′ all long named many i h =
+    let here : start lens i ≡ start lens′ i = start-same lens lens′ n long i (omega arith) in record {
+      lengths = long i h;
+      groups = λ p b. named (start lens i + p) (list-place lens i n p h b) ∙ ap (λ (s : ℕ). getD groups′ (s + p) 0) here;
+      counts = λ p b. many (start lens i + p) (list-place lens i n p h b) ∙ ap (λ (s : ℕ). at counts′ (s + p)) here;
+      below = λ p b. all .below (start lens i + p) (list-place lens i n p h b);
+    }
+
+-- what `value_over` hands on: the parts of the values where Q and the counts start
+pub value-from : (n ng : ℕ) (lens groups : List ℕ) (values : List Float) (Ψ : ℕ → ℕ → Float) (x : ℕ → Float) (q : Quantity) {s : ℕ} {v : Float} → Loaded n ng lens groups values → indexFault n q ≡ 0 → s ≡ countsAt ng →
+    v ≡ unifac n ng (lists lens groups (from s values)) (at values) (at (from ng values)) Ψ x q →
+    v ≡ unifac n ng (lists lens groups (from (countsAt ng) values)) (groupRs ng values) (groupQs ng values) Ψ x q
+unfolding groupRs groupQs countsAt
+value-from n ng lens groups values Ψ x q {s} all z e p =
+    p ∙ ap (λ (s : ℕ). unifac n ng (lists lens groups (from s values)) (at values) (at (from ng values)) Ψ x q) e
+    ∙ unifac-same n ng _ _ (listed-same (all .listed))
+    _ _ (λ k b. from-at values ng k (omega (arith, all .tables)))
+    _ _ (λ m k b c. refl) _ _ (λ i h. refl) _ _ (λ k b. refl) q z
+
+-- a table that is filled with the exponentials at T
+pub value-filled : (n ng : ℕ) (lens groups : List ℕ) (values table : List Float) (x : ℕ → Float) (T : Float) (q : Quantity) {v : Float} → Loaded n ng lens groups values → indexFault n q ≡ 0 →
+    Filled (flat ng (groupEnergy (λ m k. tdAt (groupAs ng values m k) T) T)) (ng * ng) table →
+    v ≡ unifac n ng (lists lens groups (from (countsAt ng) values)) (groupRs ng values) (groupQs ng values) (grid ng table) x q →
+    v ≡ unifacAt n ng (lists lens groups (from (countsAt ng) values)) (groupRs ng values) (groupQs ng values) (groupAs ng values) T x q
+unfolding unifacAt
+value-filled n ng lens groups values table x T q all z filled p =
+    p ∙ unifac-same n ng _ _ (listed-same (all .listed)) _ _ (λ k b. refl) _ _ (filled-cell ng ng _ filled) _ _ (λ i h. refl) _ _ (λ k b. refl) q z

@@ -1,0 +1,97 @@
+-- UNIQUAC's values go by r, q and x below n and by E off the diagonal alone; what is worked out once is as in the definition. Assumes nothing.
+use mathlib.Core.Path.{_≡_, refl}
+use mathlib.Core.List.{List}
+use Prim.Native.Nat.{ℕ, _+_, _*_, _<_, _≤_}
+use lib.ListN.{length}
+use lib.Ieee.{Float}
+use Rattle.arithmetic.specs.Floats.{_⊕_, _⊖_, _⊗_, _⊘_, one, half}
+use Rattle.arithmetic.specs.Logarithm.{logOf}
+use Rattle.arithmetic.specs.Sums.{sum}
+use Rattle.arithmetic.specs.Tables.{at, grid, from, Filled}
+use Rattle.arithmetic.proofs.SumLaws.{sum-same}
+use Rattle.arithmetic.proofs.TableLaws.{filled-as}
+use Rattle.models.specs.declared.answers.Quantity.{Quantity}
+use Rattle.models.specs.Answers.{indexFault}
+use Rattle.models.specs.Columns.{unitAt, columnSum}
+use Rattle.models.specs.Shared.{UniquacShared}
+use Rattle.models.specs.Uniquac.{Z, tau, share, l, segmentRatio, areaRatio, combinatorial, residual, lnGamma, excess, uniquac}
+use Rattle.models.proofs.AnswerLaws.{quantity-same}
+use Rattle.models.proofs.ColumnLaws.{unit-row, unit-same, column-same}
+
+-- ---- equal entries, equal answers
+
+pub share-same : (n : ℕ) (s t x y : ℕ → Float) → ((i : ℕ) → i < n → s i ≡ t i) → ((i : ℕ) → i < n → x i ≡ y i) → (i : ℕ) → i < n → share n s x i ≡ share n t y i
+unfolding share
+share-same n s t x y es ex i b = rw (es i b, ex i b, sum-same n (λ j. x j ⊗ s j) (λ j. y j ⊗ t j) (λ j c. rw (es j c, ex j c)))
+
+module _ (n : ℕ) (r s q p : ℕ → Float) (x y : ℕ → Float) (er : (i : ℕ) → i < n → r i ≡ s i) (eq : (i : ℕ) → i < n → q i ≡ p i) (ex : (i : ℕ) → i < n → x i ≡ y i) where
+  l-same : (i : ℕ) → i < n → l r q i ≡ l s p i
+  unfolding l
+  l-same i b = rw (er i b, eq i b)
+
+  pub combinatorial-same : (i : ℕ) → i < n → combinatorial n r q x i ≡ combinatorial n s p y i
+  unfolding combinatorial segmentRatio areaRatio
+  combinatorial-same i b =
+      rw (
+        share-same n r s x y er ex i b,
+        share-same n q p x y eq ex i b,
+        l-same i b,
+        sum-same n (λ j. x j ⊗ l r q j) (λ j. y j ⊗ l s p j) (λ j c. rw (ex j c, l-same j c)),
+        ex i b,
+        eq i b,
+      )
+
+  module _ (E F : ℕ → ℕ → Float) (ee : (i j : ℕ) → i < n → j < n → (i ≡ j → ⊥) → E i j ≡ F i j) where
+    columns : (j : ℕ) → j < n → columnSum n (tau E) (share n q x) j ≡ columnSum n (tau F) (share n p y) j
+    columns j b = column-same n _ _ _ _ j (λ k c. unit-same n E F ee k j c b) (share-same n q p x y eq ex)
+
+    pub residual-same : (i : ℕ) → i < n → residual n q E (share n q x) i ≡ residual n p F (share n p y) i
+    unfolding residual
+    residual-same i b =
+        rw (
+          eq i b,
+          columns i b,
+          sum-same n (λ j. share n q x j ⊗ tau E i j ⊘ columnSum n (tau E) (share n q x) j) (λ j. share n p y j ⊗ tau F i j ⊘ columnSum n (tau F) (share n p y) j)
+              (λ j c. rw (share-same n q p x y eq ex j c, unit-same n E F ee i j b c, columns j c)),
+        )
+
+    pub lnGamma-same : (i : ℕ) → i < n → lnGamma n r q E x i ≡ lnGamma n s p F y i
+    unfolding lnGamma
+    lnGamma-same i b = rw (combinatorial-same i b, residual-same i b)
+
+    pub excess-same : excess n r q E x ≡ excess n s p F y
+    unfolding excess
+    excess-same = sum-same n _ _ (λ i b. rw (ex i b, lnGamma-same i b))
+
+    pub uniquac-same : (k : Quantity) → indexFault n k ≡ 0 → uniquac n r q E x k ≡ uniquac n s p F y k
+    unfolding uniquac
+    uniquac-same k z = quantity-same n k _ _ _ _ z lnGamma-same excess-same
+
+-- ---- what code works out
+
+-- column sums over weights that stand in a list
+pub columns-hoisted : (n : ℕ) (E : ℕ → ℕ → Float) (w : ℕ → Float) (theta sums : List Float) → Filled w n theta → Filled (columnSum n E (at theta)) n sums → Filled (columnSum n E w) n sums
+columns-hoisted n E w theta sums all = filled-as (λ j b. column-same n E E (at theta) w j (λ k c. refl) (all .each))
+
+module _ (n : ℕ) (r q : ℕ → Float) (e : List Float) (x : ℕ → Float) (rx lx : Float) (theta sums : List Float) (S : UniquacShared n r q (grid n e) x rx lx theta sums) (i : ℕ) (b : i < n) where
+  combinatorial-hoisted : {phi c : Float} → phi ≡ x i ⊗ r i ⊘ rx →
+      c ≡ logOf (phi ⊘ x i) ⊕ half ⊗ Z ⊗ q i ⊗ logOf (at theta i ⊘ phi) ⊕ (half ⊗ Z ⊗ (r i ⊖ q i) ⊖ (r i ⊖ one)) ⊖ phi ⊘ x i ⊗ lx → c ≡ combinatorial n r q x i
+  unfolding combinatorial segmentRatio areaRatio share l
+  combinatorial-hoisted p k = rw (k, p, S .shares .each i b, S .rSum, S .lSum)
+
+  residual-hoisted : {v : Float} → i * n + n ≤ length e → v ≡ q i ⊗ (one ⊖ logOf (at sums i) ⊖ sum n (λ j. at theta j ⊗ unitAt i (at (from (i * n) e)) j ⊘ at sums j)) →
+      v ≡ residual n q (grid n e) (share n q x) i
+  unfolding residual
+  residual-hoisted h k =
+      rw (
+        k,
+        S .columns .each i b,
+        sum-same n (λ j. at theta j ⊗ unitAt i (at (from (i * n) e)) j ⊘ at sums j) (λ j. share n q x j ⊗ tau (grid n e) i j ⊘ columnSum n (tau (grid n e)) (share n q x) j)
+            (λ j c. rw (S .shares .each j c, unit-row n e i j h c, S .columns .each j c)),
+      )
+
+  pub lnGamma-hoisted : {phi c v : Float} → i * n + n ≤ length e → phi ≡ x i ⊗ r i ⊘ rx →
+      c ≡ logOf (phi ⊘ x i) ⊕ half ⊗ Z ⊗ q i ⊗ logOf (at theta i ⊘ phi) ⊕ (half ⊗ Z ⊗ (r i ⊖ q i) ⊖ (r i ⊖ one)) ⊖ phi ⊘ x i ⊗ lx →
+      v ≡ q i ⊗ (one ⊖ logOf (at sums i) ⊖ sum n (λ j. at theta j ⊗ unitAt i (at (from (i * n) e)) j ⊘ at sums j)) → c ⊕ v ≡ lnGamma n r q (grid n e) x i
+  unfolding lnGamma
+  lnGamma-hoisted h p k w = rw (combinatorial-hoisted p k, residual-hoisted h w)

@@ -1,0 +1,71 @@
+-- The first fault, or the value of the decoded fractions. Assumes nothing.
+use mathlib.Core.Path.{_≡_, refl, sym, ap, _∙_}
+use Prim.Native.Nat.{ℕ, zero, suc, _+_, _*_, _-_, _<_, _≤_}
+use native.Mathlib.Omega.{arith}
+use borrow.Author.Needs.{needs}
+use lib.ListN.{length, getD}
+use denote.Ref.{now}
+use mathlib.Core.List.{List}
+use lib.Ieee.{Float}
+use Rattle.arithmetic.specs.Tables.{at}
+use Rattle.models.specs.Exports.{exportedBy, valueAt}
+use Rattle.models.proofs.AnswerLaws.{first-left, first-right, answer-refused, answer-value}
+use Rattle.models.proofs.ExportLaws.{whole-eights}
+use Rattle.models.proofs.exports.call_with.Statement.{statement}
+use Rattle.models.proofs.exports.call_with.Tie as tie
+
+load-fault-requires : tie.Need-load-fault-requires
+load-fault-requires c κs = search needs
+
+returns : tie.Need-returns
+unfolding exportedBy
+returns c = answer-refused _ (first-left _ (c .before .load-fault .ensures .0) (c .if1 .taken)) (c .if1 .taken)
+
+fractions-fault-requires : tie.Need-fractions-fault-requires
+fractions-fault-requires c κs = search needs
+
+returns-2 : tie.Need-returns-2
+unfolding exportedBy
+returns-2 c = answer-refused _ (first-right (c .before .before .before .load-fault .ensures .0) (c .before .before .if1 .left) (c .before .fractions-fault .ensures .0)) (c .if2 .taken)
+
+slice-aggregate-fill-floats : tie.Need-slice-aggregate-fill-floats
+slice-aggregate-fill-floats c = search needs
+
+fill-floats-requires : tie.Need-fill-floats-requires
+fill-floats-requires c κs = let ready = c .before .before .before .before .load-fault .ensures .1 (c .before .before .before .if1 .left) in (ready .few, omega (arith, c .before .before .fractions-fault .ensures .1 (c .before .if2 .left) .0))
+
+array-share-prefix-f : tie.Need-array-share-prefix-f
+array-share-prefix-f c = omega (arith, c .before .before .before .before .before .before .load-fault .ensures .1 (c .before .before .before .before .before .if1 .left) .few, c .before .fill-floats .kept .0)
+
+slice-aggregate-value-at : tie.Need-slice-aggregate-value-at
+slice-aggregate-value-at c = search needs
+
+value-at-requires : tie.Need-value-at-requires
+value-at-requires c κs =
+    let ready = c .before .before .before .before .before .before .before .load-fault .ensures .1 (c .before .before .before .before .before .before .if1 .left) in
+    (ready, omega (arith, c .before .before .fill-floats .ensures .0), c .before .before .before .before .before .fractions-fault .ensures .1 (c .before .before .before .before .if2 .left) .1)
+
+returns-3 : tie.Need-returns-3
+unfolding exportedBy
+returns-3 c =
+    let load = c .before .before .before .before .before .before .before .before .load-fault in
+    let given = c .before .before .before .before .before .before .fractions-fault in
+    answer-value (first-right (load .ensures .0) (c .before .before .before .before .before .before .before .if1 .left) (given .ensures .0)) (c .before .before .before .before .before .if2 .left)
+    (c .value-at .ensures
+    ∙ ap (λ (l : List Float). valueAt (c .before .before .before .before .before .before .before .before .before .before .before .before .before .args .model) (c .before .before .before .before .before .before .before .before .before .before .before .before .before .args .n) (c .before .before .before .before .before .before .before .before .before .before .before .before .before .args .ng) (now (c .before .before .before .before .before .before .before .before .before .before .before .before .before .args .lens)) (now (c .before .before .before .before .before .before .before .before .before .before .before .before .before .args .groups)) (now (c .before .before .before .before .before .before .before .before .before .before .before .before .before .args .values)) (c .before .before .before .before .before .before .before .before .before .before .before .before .before .args .t) (at l) (c .before .before .before .before .before .before .before .before .before .before .before .before .before .args .q))
+    (c .before .before .before .fill-floats .ensures .1 ∙ whole-eights (now (c .before .before .before .before .before .before .before .before .before .before .before .before .before .args .x)) (c .before .before .before .before .before .before .before .before .before .before .before .before .before .args .n) (given .ensures .1 (c .before .before .before .before .before .if2 .left) .0)))
+
+pub call-with-spec : {M : Type 1} → statement M
+call-with-spec =
+    tie.close
+    (tie.spec
+    load-fault-requires
+    returns
+    fractions-fault-requires
+    returns-2
+    slice-aggregate-fill-floats
+    fill-floats-requires
+    array-share-prefix-f
+    slice-aggregate-value-at
+    value-at-requires
+    returns-3)

@@ -1,0 +1,66 @@
+-- The first of 5, 6 and 7, by the laws on fractions in bytes; a 0 has whole eights, n of them. Assumes nothing.
+use mathlib.Core.Path.{_≡_, refl, sym, ap, _∙_}
+use Prim.Native.Nat.{ℕ, zero, suc, _+_, _*_, _-_, _<_, _≤_}
+use native.Mathlib.Omega.{arith}
+use borrow.Author.Needs.{needs}
+use lib.ListN.{length, getD}
+use denote.Ref.{now}
+use Prim.Native.Nat.{_/_}
+use lib.Ieee.{round, ofBits}
+use borrow.Author.Tests.{eq-eqb, ne-eqb}
+use Rattle.arithmetic.specs.Floats.{dec}
+use Rattle.models.specs.Composition.{tolerance}
+use Rattle.models.proofs.ExportLaws.{eights-empty, eights-off, eights-length, eights-index, eights-rest}
+use Rattle.models.proofs.exports.fractions_fault.Statement.{statement}
+use Rattle.models.proofs.exports.fractions_fault.Tie as tie
+
+returns : tie.Need-returns
+returns c = (eights-empty (c .before .before .args .n) (now (c .before .before .args .x)) (c .before .before .args .q) _ (c .if1 .taken), λ e. absurd (omega arith))
+
+sum-floats-requires : tie.Need-sum-floats-requires
+sum-floats-requires c κs = search needs
+
+sum-fault-requires : tie.Need-sum-fault-requires
+sum-fault-requires c κs = search needs
+
+returns-2 : tie.Need-returns-2
+unfolding tolerance dec round ofBits
+returns-2 c = (eights-off (c .before .before .before .before .before .args .n) (now (c .before .before .before .before .before .args .x)) (c .before .before .before .before .before .args .q) _ (omega arith) (c .before .before .sum-floats .ensures) (c .before .sum-fault .ensures) (c .if2 .taken), λ e. absurd (c .if2 .taken e))
+
+returns-3 : tie.Need-returns-3
+unfolding tolerance dec round ofBits
+returns-3 c = (eights-length (c .before .before .before .before .before .before .args .n) (now (c .before .before .before .before .before .before .args .x)) (c .before .before .before .before .before .before .args .q) _ (omega arith) (c .before .before .before .sum-floats .ensures) (c .before .before .sum-fault .ensures) (c .before .if2 .left) (c .if3 .taken), λ e. absurd (omega arith))
+
+index-fault-requires : tie.Need-index-fault-requires
+index-fault-requires c κs = search needs
+
+returns-4 : tie.Need-returns-4
+unfolding tolerance dec round ofBits
+returns-4 c =
+    (eights-index (c .before .before .before .before .before .before .before .before .args .n) (now (c .before .before .before .before .before .before .before .before .args .x)) (c .before .before .before .before .before .before .before .before .args .q) _ (omega arith) (c .before .before .before .before .before .sum-floats .ensures) (c .before .before .before .before .sum-fault .ensures) (c .before .before .before .if2 .left) (c .before .before .if3 .left) (c .before .index-fault .ensures) (c .if4 .taken), λ e. absurd (c .if4 .taken e))
+
+returns-5 : tie.Need-returns-5
+unfolding tolerance dec round ofBits
+returns-5 c =
+    (eights-rest (c .before .before .before .before .before .before .before .before .before .args .n) (now (c .before .before .before .before .before .before .before .before .before .args .x)) (c .before .before .before .before .before .before .before .before .before .args .q) _ (omega arith) (c .before .before .before .before .before .before .sum-floats .ensures) (c .before .before .before .before .before .sum-fault .ensures) (c .before .before .before .before .if2 .left) (c .before .before .before .if3 .left) (c .before .before .index-fault .ensures) (c .before .if4 .left) (rw (ne-eqb _ _ (c .if5 .taken))), λ e. absurd (omega arith))
+
+returns-6 : tie.Need-returns-6
+unfolding tolerance dec round ofBits
+returns-6 c = (
+  eights-rest (c .before .before .before .before .before .before .before .before .before .args .n) (now (c .before .before .before .before .before .before .before .before .before .args .x)) (c .before .before .before .before .before .before .before .before .before .args .q) _ (omega arith) (c .before .before .before .before .before .before .sum-floats .ensures) (c .before .before .before .before .before .sum-fault .ensures) (c .before .before .before .before .if2 .left) (c .before .before .before .if3 .left) (c .before .before .index-fault .ensures) (c .before .if4 .left) (rw (eq-eqb _ _ (c .if5 .left))),
+  λ e. (omega (arith, c .before .before .before .if3 .left, c .if5 .left), sym (c .before .before .index-fault .ensures) ∙ c .before .if4 .left),
+)
+
+pub fractions-fault-spec : {M : Type 1} → statement M
+fractions-fault-spec =
+    tie.close
+    (tie.spec
+    returns
+    sum-floats-requires
+    sum-fault-requires
+    returns-2
+    returns-3
+    index-fault-requires
+    returns-4
+    returns-5
+    returns-6)

@@ -1,0 +1,30 @@
+-- By the case of the answer. Assumes nothing.
+use mathlib.Core.Path.{_≡_, refl, sym, ap, _∙_}
+use Prim.Native.Nat.{ℕ, zero, suc, _+_, _*_, _-_, _<_, _≤_}
+use native.Mathlib.Omega.{arith}
+use borrow.Author.Needs.{needs}
+use lib.ListN.{length, getD}
+use Rattle.models.specs.Answers.{numberOf}
+use Rattle.models.specs.Exports.{left}
+use Rattle.models.proofs.exports.give.Statement.{statement}
+use Rattle.models.proofs.exports.give.Tie as tie
+
+enum-known-a : tie.Need-enum-known-a
+enum-known-a c = search needs
+
+enum-known-a-2 : tie.Need-enum-known-a-2
+enum-known-a-2 c = search needs
+
+cast-result : tie.Need-cast-result
+cast-result c = search needs
+
+returns : tie.Need-returns
+unfolding numberOf left
+returns c = rw (c .before .a .given .1) (refl, refl)
+
+returns-2 : tie.Need-returns-2
+unfolding numberOf left
+returns-2 c = rw (c .before .a2 .given .1) (refl, refl)
+
+pub give-spec : {M : Type 1} → statement M
+give-spec = tie.close (tie.spec enum-known-a enum-known-a-2 cast-result returns returns-2)

@@ -1,0 +1,63 @@
+-- The sum of x_i times all counts of i, one component after the other.
+use mathlib.Core.Path.{_≡_}
+use Prim.Native.Nat.{_+_, _-_, _≤_}
+use native.Mathlib.Omega.{arith}
+use lib.ListN.{getD}
+use Rattle.arithmetic.specs.Tables.{at}
+use Rattle.arithmetic.specs.Sums.{sum}
+use Rattle.arithmetic.specs.Floats.{_⊗_}
+use Rattle.arithmetic.proofs.SumLaws.{sum-none, sum-more, sum-done}
+use Rattle.models.specs.Values.{start, lists}
+use Rattle.models.specs.Unifac as Unifac
+use Rattle.models.proofs.ListLaws.{listed-less}
+use Rattle.models.proofs.groups.amounts.Statement.{statement}
+use Rattle.models.proofs.groups.amounts.Tie as tie
+
+abbrev Inv-loop : tie.InvT-loop
+Inv-loop lens groups counts x n s₀ i₀ s i = (i ≤ n) × (s ≡ sum i (λ i. at x i ⊗ sum (getD lens i 0) (λ p. at counts (start lens i + p))))
+
+abbrev μ-loop : tie.MeasureT-loop
+μ-loop lens groups counts x n s₀ i₀ s i = n - i
+
+loop-holds : tie.Need-loop-holds Inv-loop μ-loop
+loop-holds c = (omega arith, sum-none _)
+
+mul-s : tie.Need-mul-s Inv-loop μ-loop
+mul-s c = omega arith
+
+shared-slice-read-s : tie.Need-shared-slice-read-s Inv-loop μ-loop
+shared-slice-read-s c = omega arith
+
+count-sum-requires : tie.Need-count-sum-requires Inv-loop μ-loop
+count-sum-requires c κs =
+    let start = c .before .before .before .before .before .before .before in
+    let list = listed-less (start .pre .0) (c .before .before .loop .i) 32 (c .before .loop-test .taken) (omega arith) in
+    (list .many, list .counted, omega arith)
+
+add-i : tie.Need-add-i Inv-loop μ-loop
+add-i c = omega arith
+
+loop-less : tie.Need-loop-less Inv-loop μ-loop
+loop-less c = omega arith
+
+loop-again : tie.Need-loop-again Inv-loop μ-loop
+loop-again c = (omega arith, sum-more _ _ (c .before .before .before .loop .inv .1) (rw (c .count-sum .ensures)))
+
+returns : tie.Need-returns Inv-loop μ-loop
+unfolding Unifac.amounts Unifac.counts lists
+returns c = sum-done _ _ _ (c .before .loop .inv .1) (c .before .loop .inv .0) (c .loop-test .left)
+
+pub amounts-spec : {M : Type 1} → statement M
+amounts-spec =
+    tie.close
+    (tie.spec
+    Inv-loop
+    μ-loop
+    loop-holds
+    mul-s
+    shared-slice-read-s
+    count-sum-requires
+    add-i
+    loop-less
+    loop-again
+    returns)

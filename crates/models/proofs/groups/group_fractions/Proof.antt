@@ -1,0 +1,34 @@
+-- The amounts over their sum where that is above 0, and else zeros.
+use borrow.Author.Needs.{needs}
+use Rattle.models.proofs.ListLaws.{fraction-over, fraction-none}
+use Rattle.models.proofs.groups.group_fractions.Statement.{statement}
+use Rattle.models.proofs.groups.group_fractions.Tie as tie
+
+amounts-requires : tie.Need-amounts-requires
+amounts-requires c κs = search needs
+
+amount-requires : tie.Need-amount-requires
+amount-requires c κs = search needs
+
+slice-aggregate-over : tie.Need-slice-aggregate-over
+slice-aggregate-over c = search needs
+
+over-requires : tie.Need-over-requires
+over-requires c κs = search needs
+
+returns : tie.Need-returns
+returns c = fraction-over _ _ _ _ (c .before .before .before .before .amounts .ensures) (c .before .before .before .if1 .taken) (c .before .before .before .before .before .before .before .before .before .pre .3) (c .before .before .amount .ensures) (c .over .ensures)
+
+returns-2 : tie.Need-returns-2
+returns-2 c = fraction-none _ _ _ _ (c .before .amounts .ensures) (c .if1 .left) (c .before .before .before .before .before .before .pre .3)
+
+pub group-fractions-spec : {M : Type 1} → statement M
+group-fractions-spec =
+    tie.close
+    (tie.spec
+    amounts-requires
+    amount-requires
+    slice-aggregate-over
+    over-requires
+    returns
+    returns-2)

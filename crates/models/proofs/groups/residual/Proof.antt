@@ -1,0 +1,107 @@
+-- The sum of count·(m - p) over a list, whose places lie within the slices and whose groups lie within m and p.
+use mathlib.Core.Path.{_≡_}
+use Prim.Native.Nat.{_+_, _-_, _<_, _≤_}
+use native.Mathlib.Omega.{arith}
+use denote.Ref.{now}
+use lib.ListN.{length, getD}
+use borrow.Author.Needs.{needs}
+use Rattle.arithmetic.specs.Tables.{at}
+use Rattle.arithmetic.specs.Sums.{sum}
+use Rattle.arithmetic.specs.Floats.{_⊖_, _⊗_}
+use Rattle.arithmetic.proofs.SumLaws.{sum-none, sum-more, sum-done}
+use Rattle.models.proofs.ListLaws.{list-ends, list-group, residual-is}
+use Rattle.models.proofs.groups.residual.Statement.{statement}
+use Rattle.models.proofs.groups.residual.Tie as tie
+
+abbrev Inv-loop : tie.InvT-loop
+Inv-loop lens groups counts m p i start len resid₀ k₀ resid k = (k ≤ len) × (start + len ≤ length groups) × (start + len ≤ length counts) × (resid ≡ sum k (λ k. at counts (start + k) ⊗ (at m (getD groups (start + k) 0) ⊖ at p (getD groups (start + k) 0))))
+
+abbrev μ-loop : tie.MeasureT-loop
+μ-loop lens groups counts m p i start len resid₀ k₀ resid k = len - k
+
+abbrev entry : tie.In-loop Inv-loop μ-loop → tie.Start Inv-loop μ-loop
+entry c = c .before .before .before .before .before .before .before .before .before
+
+group : (c : tie.In-loop Inv-loop μ-loop) → getD (now (entry c .args .groups)) (c .before .before .before .start-of .result + c .before .loop .k) 0 < length (now (entry c .args .m))
+group c = list-group (entry c .args .i) (entry c .pre .0) (c .before .before .before .start-of .ensures) (c .before .loop .k) (c .loop-test .taken)
+
+start-of-requires : tie.Need-start-of-requires Inv-loop μ-loop
+start-of-requires c κs = search needs
+
+shared-slice-read-len : tie.Need-shared-slice-read-len Inv-loop μ-loop
+shared-slice-read-len c = omega arith
+
+cast-len : tie.Need-cast-len Inv-loop μ-loop
+cast-len c = omega (arith, c .shared-slice-known6 .given (c .before .before .before .before .before .before .before .args .i))
+
+loop-holds : tie.Need-loop-holds Inv-loop μ-loop
+loop-holds c =
+    let start = c .before .before .before .before .before .before .before in
+    let ends = list-ends (start .args .i) (start .pre .0) (c .before .start-of .ensures) in
+    (omega arith, ends .0, ends .1, sum-none _)
+
+add-place : tie.Need-add-place Inv-loop μ-loop
+add-place c = omega arith
+
+shared-slice-read-g : tie.Need-shared-slice-read-g Inv-loop μ-loop
+shared-slice-read-g c = omega arith
+
+cast-g : tie.Need-cast-g Inv-loop μ-loop
+cast-g c = omega (arith, group (c .before))
+
+mul-resid : tie.Need-mul-resid Inv-loop μ-loop
+mul-resid c = omega arith
+
+shared-slice-read-resid : tie.Need-shared-slice-read-resid Inv-loop μ-loop
+shared-slice-read-resid c = omega arith
+
+mul-resid-2 : tie.Need-mul-resid-2 Inv-loop μ-loop
+mul-resid-2 c = omega (arith, group (c .before .before))
+
+shared-slice-read-resid-2 : tie.Need-shared-slice-read-resid-2 Inv-loop μ-loop
+shared-slice-read-resid-2 c = omega (arith, group (c .before .before .before))
+
+mul-resid-3 : tie.Need-mul-resid-3 Inv-loop μ-loop
+mul-resid-3 c = omega (arith, group (c .before .before .before))
+
+shared-slice-read-resid-3 : tie.Need-shared-slice-read-resid-3 Inv-loop μ-loop
+shared-slice-read-resid-3 c = omega (arith, group (c .before .before .before .before))
+
+add-k : tie.Need-add-k Inv-loop μ-loop
+add-k c = omega arith
+
+loop-less : tie.Need-loop-less Inv-loop μ-loop
+loop-less c = omega arith
+
+loop-again : tie.Need-loop-again Inv-loop μ-loop
+loop-again c = (omega arith, c .before .before .before .before .before .loop .inv .1, c .before .before .before .before .before .loop .inv .2, search (sum-more, needs))
+
+returns : tie.Need-returns Inv-loop μ-loop
+returns c =
+    let start = c .before .before .before .before .before .before .before .before .before in
+    residual-is _ _ _ (start .args .i) (c .before .before .before .start-of .ensures) (at (now (start .args .m))) (at (now (start .args .p)))
+    (sum-done _ _ _ (c .before .loop .inv .3) (c .before .loop .inv .0) (c .loop-test .left))
+
+pub residual-spec : {M : Type 1} → statement M
+residual-spec =
+    tie.close
+    (tie.spec
+    Inv-loop
+    μ-loop
+    start-of-requires
+    shared-slice-read-len
+    cast-len
+    loop-holds
+    add-place
+    shared-slice-read-g
+    cast-g
+    mul-resid
+    shared-slice-read-resid
+    mul-resid-2
+    shared-slice-read-resid-2
+    mul-resid-3
+    shared-slice-read-resid-3
+    add-k
+    loop-less
+    loop-again
+    returns)

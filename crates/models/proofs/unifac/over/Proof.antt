@@ -1,0 +1,68 @@
+-- The quantity from what the components share, which is worked out once.
+use mathlib.Core.Path.{_∙_}
+use native.Mathlib.Omega.{arith}
+use borrow.Author.Needs.{needs}
+use Rattle.models.proofs.UnifacLaws.{listed-same, unifac-shared}
+use Rattle.models.proofs.AnswerLaws.{index-ln, index-gamma, quantity-ln, quantity-gamma, quantity-excess}
+use Rattle.models.proofs.ListLaws.{listed-less}
+use Rattle.models.proofs.unifac.over.Statement.{statement}
+use Rattle.models.proofs.unifac.over.Tie as tie
+
+share-requires : tie.Need-share-requires
+share-requires c κs = search needs
+
+enum-known-asked : tie.Need-enum-known-asked
+enum-known-asked c = search needs
+
+ln-gamma-requires : tie.Need-ln-gamma-requires
+ln-gamma-requires c κs =
+    let start = c .before .before .before .before .before .before .before .before .before .before .before in
+    (listed-less (start .pre .0) _ (start .args .ng) (index-ln (c .before .asked .given .1) (start .pre .7)) (omega arith), omega (arith, index-ln (c .before .asked .given .1) (start .pre .7), start .pre .1), start .pre .2, start .pre .4, start .pre .5)
+
+enum-known-asked-2 : tie.Need-enum-known-asked-2
+enum-known-asked-2 c = search needs
+
+ln-gamma-requires-2 : tie.Need-ln-gamma-requires-2
+ln-gamma-requires-2 c κs =
+    let start = c .before .before .before .before .before .before .before .before .before .before .before in
+    (listed-less (start .pre .0) _ (start .args .ng) (index-gamma (c .before .asked2 .given .1) (start .pre .7)) (omega arith), omega (arith, index-gamma (c .before .asked2 .given .1) (start .pre .7), start .pre .1), start .pre .2, start .pre .4, start .pre .5)
+
+exp-requires : tie.Need-exp-requires
+exp-requires c κs = search needs
+
+enum-told : tie.Need-enum-told
+enum-told c = search needs
+
+excess-gibbs-requires : tie.Need-excess-gibbs-requires
+excess-gibbs-requires c κs = search needs
+
+returns : tie.Need-returns
+returns c =
+    let start = c .before .before .before .before .before .before .before .before .before .before .before .before in
+    quantity-ln _ _ (c .before .before .asked .given .1) (c .ln-gamma .ensures) ∙ unifac-shared _ _ _ _ _ _ _ (c .before .before .before .before .share .ensures) (listed-same (start .pre .0)) _ (start .pre .7)
+
+returns-2 : tie.Need-returns-2
+returns-2 c =
+    let start = c .before .before .before .before .before .before .before .before .before .before .before .before .before in
+    quantity-gamma _ _ (c .before .before .before .asked2 .given .1) (c .before .ln-gamma2 .ensures) (c .exp .ensures) ∙ unifac-shared _ _ _ _ _ _ _ (c .before .before .before .before .before .share .ensures) (listed-same (start .pre .0)) _ (start .pre .7)
+
+returns-3 : tie.Need-returns-3
+returns-3 c =
+    let start = c .before .before .before .before .before .before .before .before .before .before .before in
+    quantity-excess _ _ (c .before .enum-told .given .1) (c .excess-gibbs .ensures) ∙ unifac-shared _ _ _ _ _ _ _ (c .before .before .before .share .ensures) (listed-same (start .pre .0)) _ (start .pre .7)
+
+pub over-spec : {M : Type 1} → statement M
+over-spec =
+    tie.close
+    (tie.spec
+    share-requires
+    enum-known-asked
+    ln-gamma-requires
+    enum-known-asked-2
+    ln-gamma-requires-2
+    exp-requires
+    enum-told
+    excess-gibbs-requires
+    returns
+    returns-2
+    returns-3)

@@ -1,0 +1,45 @@
+-- The first fault, or the value where there is none.
+use native.Mathlib.Omega.{arith}
+use borrow.Author.Needs.{needs}
+use Rattle.models.specs.Plain.{unifacPlain}
+use Rattle.models.proofs.AnswerLaws.{answer-refused, answer-value, first-left, first-right}
+use Rattle.models.proofs.unifac.plain.Statement.{statement}
+use Rattle.models.proofs.unifac.plain.Tie as tie
+
+unifac-fault-requires : tie.Need-unifac-fault-requires
+unifac-fault-requires c κs = search needs
+
+returns : tie.Need-returns
+unfolding unifacPlain
+returns c = answer-refused _ (first-left _ (c .before .unifac-fault .ensures .0) (c .if1 .taken)) (c .if1 .taken)
+
+fractions-fault-requires : tie.Need-fractions-fault-requires
+fractions-fault-requires c κs = search needs
+
+returns-2 : tie.Need-returns-2
+unfolding unifacPlain
+returns-2 c =
+    answer-refused _ (first-right (c .before .before .before .unifac-fault .ensures .0) (c .before .before .if1 .left) (c .before .fractions-fault .ensures .0)) (c .if2 .taken)
+
+value-at-requires : tie.Need-value-at-requires
+value-at-requires c κs =
+    let shape = c .before .before .before .unifac-fault .ensures .1 (c .before .before .if1 .left) in
+    let given = c .before .fractions-fault .ensures .1 (c .if2 .left) in
+    (shape, omega (arith, given .0), given .1)
+
+returns-3 : tie.Need-returns-3
+unfolding unifacPlain
+returns-3 c =
+    answer-value (first-right (c .before .before .before .before .unifac-fault .ensures .0) (c .before .before .before .if1 .left) (c .before .before .fractions-fault .ensures .0)) (c .before .if2 .left)
+    (c .value-at .ensures)
+
+pub plain-spec : {M : Type 1} → statement M
+plain-spec =
+    tie.close
+    (tie.spec
+    unifac-fault-requires
+    returns
+    fractions-fault-requires
+    returns-2
+    value-at-requires
+    returns-3)

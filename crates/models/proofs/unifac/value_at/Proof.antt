@@ -1,0 +1,37 @@
+-- The table is filled at T, and the sums go over it.
+use native.Mathlib.Nat.{mul-le-mul}
+use native.Mathlib.Omega.{arith}
+use borrow.Author.Needs.{needs}
+use Rattle.models.proofs.UnifacLaws.{value-filled}
+use Rattle.models.proofs.unifac.value_at.Statement.{statement}
+use Rattle.models.proofs.unifac.value_at.Tie as tie
+
+slice-aggregate-fill-table : tie.Need-slice-aggregate-fill-table
+slice-aggregate-fill-table c = search needs
+
+fill-table-requires : tie.Need-fill-table-requires
+fill-table-requires c κs = let all = c .before .before .before .before .before .pre .0 in (all .fewGroups, all .tables, mul-le-mul (all .fewGroups) (all .fewGroups))
+
+slice-aggregate-value-over : tie.Need-slice-aggregate-value-over
+slice-aggregate-value-over c = search needs
+
+value-over-requires : tie.Need-value-over-requires
+value-over-requires c κs =
+    let start = c .before .before .before .before .before .before .before .before in
+    let all = start .pre .0 in
+    (all, omega (arith, mul-le-mul (all .fewGroups) (all .fewGroups), c .before .before .fill-table .kept .1 .1 .1 .0), start .pre .1, start .pre .2)
+
+returns : tie.Need-returns
+returns c =
+    let start = c .before .before .before .before .before .before .before .before .before in
+    value-filled _ _ _ _ _ _ _ _ _ (start .pre .0) (start .pre .2) (c .before .before .before .fill-table .ensures) (c .value-over .ensures)
+
+pub value-at-spec : {M : Type 1} → statement M
+value-at-spec =
+    tie.close
+    (tie.spec
+    slice-aggregate-fill-table
+    fill-table-requires
+    slice-aggregate-value-over
+    value-over-requires
+    returns)

@@ -1,0 +1,79 @@
+-- The parts of the values where Q and the counts start are handed on, and equal inputs give equal values.
+use Prim.Native.Nat.{_+_, _≤_}
+use native.Mathlib.Omega.{arith}
+use denote.Ref.{now}
+use lib.ListN.{length}
+use borrow.Author.Needs.{needs}
+use Rattle.arithmetic.proofs.TableLaws.{from-length}
+use Rattle.models.specs.Values.{countsAt}
+use Rattle.models.proofs.UnifacLaws.{value-from}
+use Rattle.models.proofs.ListLaws.{listed-at}
+use Rattle.models.proofs.unifac.value_over.Statement.{statement}
+use Rattle.models.proofs.unifac.value_over.Tie as tie
+
+-- Q ends before the counts
+before-counts : (c : tie.Start) → c .args .ng + c .args .ng ≤ length (now (c .args .values))
+unfolding countsAt
+before-counts c = omega (arith, c .pre .0 .tables)
+
+counts-at-requires : tie.Need-counts-at-requires
+counts-at-requires c κs = search needs
+
+mul-over : tie.Need-mul-over
+mul-over c = search needs
+
+sub-over : tie.Need-sub-over
+sub-over c = search needs
+
+part-over-start : tie.Need-part-over-start
+part-over-start c = search needs
+
+part-over-end : tie.Need-part-over-end
+part-over-end c = search needs
+
+mul-over-2 : tie.Need-mul-over-2
+mul-over-2 c = search needs
+
+sub-over-2 : tie.Need-sub-over-2
+sub-over-2 c = omega (arith, before-counts (c .before .before .before .before .before .before .before))
+
+part-over-start-2 : tie.Need-part-over-start-2
+part-over-start-2 c = omega (arith, before-counts (c .before .before .before .before .before .before .before))
+
+part-over-end-2 : tie.Need-part-over-end-2
+part-over-end-2 c = search needs
+
+over-requires : tie.Need-over-requires
+over-requires c κs =
+    let start = c .before .before .before .before .before .before .before .before in
+    let all = start .pre .0 in (
+      listed-at (now (start .args .values)) (c .before .before .counts-at .ensures .0) (all .listed),
+      all .few,
+      all .fewGroups,
+      omega (arith, before-counts start),
+      omega (arith, before-counts start, from-length (start .args .ng) (now (start .args .values))),
+      start .pre .1,
+      start .pre .2,
+      start .pre .3,
+    )
+
+returns : tie.Need-returns
+returns c =
+    let start = c .before .before .before .before .before .before .before .before .before in
+    value-from _ _ _ _ _ _ _ _ (start .pre .0) (start .pre .3) (c .before .before .before .counts-at .ensures .0) (c .over .ensures)
+
+pub value-over-spec : {M : Type 1} → statement M
+value-over-spec =
+    tie.close
+    (tie.spec
+    counts-at-requires
+    mul-over
+    sub-over
+    part-over-start
+    part-over-end
+    mul-over-2
+    sub-over-2
+    part-over-start-2
+    part-over-end-2
+    over-requires
+    returns)

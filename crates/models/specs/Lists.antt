@@ -1,0 +1,51 @@
+-- The group lists that UNIFAC's sums may read, and a sum that is kept for every group at once.
+use mathlib.Core.Path.{_≡_}
+use mathlib.Core.Bool.{cond}
+use mathlib.Core.List.{List}
+use Prim.Native.Nat.{ℕ, _+_, _<_, _≤_}
+use lib.Dec.{eqb}
+use lib.ListN.{length, getD}
+use lib.Ieee.{Float}
+use Rattle.arithmetic.specs.Floats.{_⊕_, _⊗_}
+use Rattle.arithmetic.specs.Sums.{fold}
+use Rattle.arithmetic.specs.Tables.{from}
+use Rattle.models.specs.Unifac.{Groups}
+use Rattle.models.specs.Values.{start, countsAt}
+
+-- the lists of n components lie within the slices, and each group that they name is below ng
+pub record Listed (n ng : ℕ) (lens groups : List ℕ) (counts : List Float) : Type 0 where
+  pub many : n ≤ length lens
+  pub within : start lens n ≤ length groups
+  pub counted : start lens n ≤ length counts
+  pub below : (p : ℕ) → p < start lens n → getD groups p 0 < ng
+
+-- what a load that passes 2 has shown, the lengths of its lists apart
+pub record Sized (n ng : ℕ) (lens groups : List ℕ) (values : List Float) : Type 0 where
+  pub some : 1 ≤ n
+  pub few : n ≤ 12
+  pub someGroups : 1 ≤ ng
+  pub fewGroups : ng ≤ 32
+  pub many : length lens ≡ n
+  pub places : length groups ≡ start lens n
+  pub whole : length values ≡ countsAt ng + start lens n
+
+-- what a load that passes 2 and 3 has shown
+pub record Loaded (n ng : ℕ) (lens groups : List ℕ) (values : List Float) : Type 0 where
+  pub some : 1 ≤ n
+  pub few : n ≤ 12
+  pub someGroups : 1 ≤ ng
+  pub fewGroups : ng ≤ 32
+  pub tables : countsAt ng ≤ length values
+  pub listed : Listed n ng lens groups (from (countsAt ng) values)
+
+-- s at group k, changed by f at each of the first m places that name k
+unfoldable pub gathered : ℕ → (ℕ → ℕ) → (ℕ → Float → Float) → ℕ → Float → Float
+gathered m group f k s = fold m s (λ p s. cond (eqb (group p) k) (f p s) s)
+
+-- the number of group k once x·count is added for each place of the list of i that names k
+abbrev pub added : Groups → Float → ℕ → ℕ → Float → Float
+added c x i k s = gathered (c .length i) (c .group i) (λ p s. s ⊕ x ⊗ c .count i p) k s
+
+-- the number of group k once each place of the list of i that names k has put its count there
+abbrev pub put : Groups → ℕ → ℕ → Float → Float
+put c i k s = gathered (c .length i) (c .group i) (λ p s. c .count i p) k s

@@ -1,0 +1,394 @@
+// UNIFAC: A. Fredenslund, R. L. Jones, J. M. Prausnitz, AIChE J. 21 (1975) 1086.
+ghost use mathlib.Core.Path.{_≡_};
+ghost use Prim.Native.Nat.{ℕ, _+_, _*_, _≤_, _<_};
+ghost use lib.ListN.{length};
+ghost use Rattle.arithmetic.specs.Floats.{_⊕_, _⊗_, _⊘_};
+ghost use Rattle.arithmetic.specs.Sums.{sum};
+ghost use Rattle.arithmetic.specs.Parameters.{tdAt};
+ghost use Rattle.arithmetic.specs.Tables.{at, grid, flat, from, Filled, upTo};
+ghost use Rattle.models.specs.Answers.{indexFault};
+ghost use Rattle.models.specs.Columns.{columnSum};
+ghost use Rattle.models.specs.Exponentials.{groupEnergy};
+ghost use Rattle.models.specs.Lists.{Listed, Loaded};
+ghost use Rattle.models.specs.Plain.{unifacFault, unifacPlain};
+ghost use Rattle.models.specs.Unifac.{theta as Unifac·theta, mixed as Unifac·mixed, pure as Unifac·pure, lnGroup, combinatorialBy, unifac, unifacAt};
+ghost use Rattle.models.specs.UnifacSteps.{psiBy, lnFrom, Shares};
+ghost use Rattle.models.specs.Values.{lists, countsAt, groupRs, groupQs, groupAs};
+use crate::answers::Answer;
+use crate::answers::Quantity;
+use arithmetic::TdParam;
+
+// Ψ of column k: row is the part of the td entries, five each, that starts at its row; ln is log(T).
+pub fn psi(row: &[f64], t: f64, ln: f64, k: usize) -> f64
+    requires { ⌜ k * 5 + 5 ≤ length (now row) ⌝ }
+    ensures { λ r. ⌜ r ≡ psiBy (now (row .entry)) t ln k ⌝ }
+{
+    let place = k * 5;
+    let a = crate::parameters::five_at(row, place);
+    arithmetic::exp(-a.value_by(t, ln) / t)
+}
+
+// Writes a row of Ψ to the first ng places of out.
+pub fn fill_psi(row: &[f64], t: f64, ln: f64, ng: usize, out: &mut [f64])
+    requires { ⌜ (ng * 5 ≤ length (now row)) × (ng ≤ length (now out)) ⌝ }
+    ensures { λ _. ⌜ Filled (upTo ng (psiBy (now (row .entry)) t ln) (at (now (out .entry)))) (length (now (out .entry))) (now (out .exit)) ⌝ }
+{
+    for k in 0..ng {
+        out[k] = psi(row, t, ln, k);
+    }
+}
+
+// Writes Ψ by full rows of ng, each through the part of the table that starts there.
+fn fill_table(values: &[f64], t: f64, ng: usize, table: &mut [f64])
+    requires { ⌜ (ng ≤ 32) × (countsAt ng ≤ length (now values)) × (ng * ng ≤ length (now table)) ⌝ }
+    ensures { λ _. ⌜ Filled (flat ng (groupEnergy (λ m k. tdAt (groupAs ng (now (values .entry)) m k) t) t)) (ng * ng) (now (table .exit)) ⌝ }
+{
+    let ln = arithmetic::log(t);
+    for m in 0..ng {
+        let place = m * ng;
+        let five = ng + ng + place * 5;
+        fill_psi(&values[five..], t, ln, ng, &mut table[place..]);
+    }
+}
+
+// Θ of each group from the group fractions.
+fn theta(q: &[f64], xg: &[f64], ng: usize) -> [f64; 32]
+    requires { ⌜ (ng ≤ 32) × (ng ≤ length (now q)) × (ng ≤ length (now xg)) ⌝ }
+    ensures { λ r. ⌜ Filled (Unifac·theta ng (at (now (q .entry))) (at (now (xg .entry)))) ng r ⌝ }
+{
+    let qs = arithmetic::dot(q, xg, ng);
+    let mut theta = [0.0; 32];
+    for g in 0..ng {
+        theta[g] = q[g] * xg[g] / qs;
+    }
+    theta
+}
+
+// Adds w·row to the sums, place by place.
+fn add_row(row: &[f64], w: f64, ng: usize, sums: &mut [f64])
+    requires { ⌜ (ng ≤ length (now row)) × (ng ≤ length (now sums)) ⌝ }
+    ensures { λ _. ⌜ Filled (upTo ng (λ j. at (now (sums .entry)) j ⊕ w ⊗ at (now (row .entry)) j) (at (now (sums .entry)))) (length (now (sums .entry))) (now (sums .exit)) ⌝ }
+{
+    for j in 0..ng {
+        sums[j] = sums[j] + w * row[j];
+    }
+}
+
+// The sum of Θ_m Ψ_mk for each k, row after row.
+fn column_sums(theta: &[f64], psi: &[f64], ng: usize) -> [f64; 32]
+    requires { ⌜ (ng ≤ 32) × (ng ≤ length (now theta)) × (ng * ng ≤ length (now psi)) ⌝ }
+    ensures { λ r. ⌜ Filled (columnSum ng (grid ng (now (psi .entry))) (at (now (theta .entry)))) ng r ⌝ }
+{
+    let mut sums = [0.0; 32];
+    for m in 0..ng {
+        let place = m * ng;
+        add_row(&psi[place..], theta[m], ng, &mut sums[..]);
+    }
+    sums
+}
+
+// The sum of Θ_m row_m / denom_m.
+fn row_sum(theta: &[f64], row: &[f64], denom: &[f64], ng: usize) -> f64
+    requires { ⌜ (ng ≤ length (now theta)) × (ng ≤ length (now row)) × (ng ≤ length (now denom)) ⌝ }
+    ensures { λ r. ⌜ r ≡ sum ng (λ m. at (now (theta .entry)) m ⊗ at (now (row .entry)) m ⊘ at (now (denom .entry)) m) ⌝ }
+{
+    let mut s = 0.0;
+    for m in 0..ng {
+        s = s + theta[m] * row[m] / denom[m];
+    }
+    s
+}
+
+// ln Γ of each group; the column sums that every one divides by are worked out once.
+fn gamma_k(q: &[f64], theta: &[f64], psi: &[f64], ng: usize) -> [f64; 32]
+    requires { ⌜ (ng ≤ 32) × (ng ≤ length (now q)) × (ng ≤ length (now theta)) × (ng * ng ≤ length (now psi)) ⌝ }
+    ensures { λ r. ⌜ Filled (lnGroup ng (at (now (q .entry))) (grid ng (now (psi .entry))) (at (now (theta .entry)))) ng r ⌝ }
+{
+    let denom = column_sums(theta, psi, ng);
+    let mut gamma = [0.0; 32];
+    for k in 0..ng {
+        let place = k * ng;
+        let s = row_sum(theta, &psi[place..], &denom[..], ng);
+        gamma[k] = q[k] * (1.0 - arithmetic::log(denom[k]) - s);
+    }
+    gamma
+}
+
+// ln Γ of each group in the mixture.
+fn mixed(
+    lens: &[u8],
+    groups: &[u8],
+    counts: &[f64],
+    q: &[f64],
+    psi: &[f64],
+    x: &[f64],
+    n: usize,
+    ng: usize,
+) -> [f64; 32]
+    requires { ⌜ (Listed n ng (now lens) (now groups) (now counts)) × (n ≤ 12) × (ng ≤ 32) × (ng ≤ length (now q)) × (ng * ng ≤ length (now psi)) × (n ≤ length (now x)) ⌝ }
+    ensures { λ r. ⌜ Filled (Unifac·mixed n ng (lists (now (lens .entry)) (now (groups .entry)) (now (counts .entry))) (at (now (q .entry))) (grid ng (now (psi .entry))) (at (now (x .entry)))) ng r ⌝ }
+{
+    let xg = crate::groups::group_fractions(lens, groups, counts, x, n, ng);
+    let theta = theta(q, &xg[..], ng);
+    gamma_k(q, &theta[..], psi, ng)
+}
+
+// ln Γ of each group in pure component i.
+pub fn pure(
+    lens: &[u8],
+    groups: &[u8],
+    counts: &[f64],
+    q: &[f64],
+    psi: &[f64],
+    ng: usize,
+    i: usize,
+) -> [f64; 32]
+    requires { ⌜ (Listed (i + 1) ng (now lens) (now groups) (now counts)) × (i < 12) × (ng ≤ 32) × (ng ≤ length (now q)) × (ng * ng ≤ length (now psi)) ⌝ }
+    ensures { λ r. ⌜ Filled (Unifac·pure ng (lists (now (lens .entry)) (now (groups .entry)) (now (counts .entry))) (at (now (q .entry))) (grid ng (now (psi .entry))) i) ng r ⌝ }
+{
+    let xg = crate::groups::group_fractions_pure(lens, groups, counts, ng, i);
+    let theta = theta(q, &xg[..], ng);
+    gamma_k(q, &theta[..], psi, ng)
+}
+
+// 1 - v + ln v - 5·q·(1 - v/f + ln(v/f))
+fn combinatorial(q: f64, v: f64, f: f64) -> f64
+    ensures { λ r. ⌜ r ≡ combinatorialBy q v f ⌝ }
+{
+    1.0 - v + arithmetic::log(v) - 5.0 * q * (1.0 - v / f + arithmetic::log(v / f))
+}
+
+// What the components share: their sizes r and q, the sums of these over the fractions, ln Γ of each group.
+pub struct Shared {
+    pub r: [f64; 12],
+    pub q: [f64; 12],
+    pub rs: f64,
+    pub qs: f64,
+    pub gamma: [f64; 32],
+}
+
+fn share(
+    lens: &[u8],
+    groups: &[u8],
+    counts: &[f64],
+    r: &[f64],
+    q: &[f64],
+    psi: &[f64],
+    x: &[f64],
+    n: usize,
+    ng: usize,
+) -> Shared
+    requires { ⌜ (Listed n ng (now lens) (now groups) (now counts)) × (n ≤ 12) × (ng ≤ 32) × (ng ≤ length (now r)) × (ng ≤ length (now q)) × (ng * ng ≤ length (now psi)) × (n ≤ length (now x)) ⌝ }
+    ensures { λ s. ⌜ Shares n ng (lists (now (lens .entry)) (now (groups .entry)) (now (counts .entry))) (at (now (r .entry))) (at (now (q .entry))) (grid ng (now (psi .entry))) (at (now (x .entry))) s ⌝ }
+{
+    let r_each = crate::groups::sizes(lens, groups, counts, r, n);
+    let q_each = crate::groups::sizes(lens, groups, counts, q, n);
+    let rs = arithmetic::dot(x, &r_each[..], n);
+    let qs = arithmetic::dot(x, &q_each[..], n);
+    let gamma = mixed(lens, groups, counts, q, psi, x, n, ng);
+    Shared {
+        r: r_each,
+        q: q_each,
+        rs,
+        qs,
+        gamma,
+    }
+}
+
+// ln γ of component i from what the components share.
+fn ln_gamma(
+    s: Shared,
+    lens: &[u8],
+    groups: &[u8],
+    counts: &[f64],
+    q: &[f64],
+    psi: &[f64],
+    ng: usize,
+    i: usize,
+) -> f64
+    requires { ⌜ (Listed (i + 1) ng (now lens) (now groups) (now counts)) × (i < 12) × (ng ≤ 32) × (ng ≤ length (now q)) × (ng * ng ≤ length (now psi)) ⌝ }
+    ensures { λ r. ⌜ r ≡ lnFrom s (lists (now (lens .entry)) (now (groups .entry)) (now (counts .entry))) (Unifac·pure ng (lists (now (lens .entry)) (now (groups .entry)) (now (counts .entry))) (at (now (q .entry))) (grid ng (now (psi .entry)))) i ⌝ }
+{
+    let r_each = s.r;
+    let q_each = s.q;
+    let gamma = s.gamma;
+    let r_i = r_each[i];
+    let q_i = q_each[i];
+    let gamma_p = pure(lens, groups, counts, q, psi, ng, i);
+    let resid = crate::groups::residual(lens, groups, counts, &gamma[..], &gamma_p[..], i);
+    combinatorial(q_i, r_i / s.rs, q_i / s.qs) + resid
+}
+
+// The excess energy from what the components share.
+fn excess_gibbs(
+    s: Shared,
+    lens: &[u8],
+    groups: &[u8],
+    counts: &[f64],
+    q: &[f64],
+    psi: &[f64],
+    x: &[f64],
+    n: usize,
+    ng: usize,
+) -> f64
+    requires { ⌜ (Listed n ng (now lens) (now groups) (now counts)) × (n ≤ 12) × (ng ≤ 32) × (ng ≤ length (now q)) × (ng * ng ≤ length (now psi)) × (n ≤ length (now x)) ⌝ }
+    ensures { λ r. ⌜ r ≡ sum n (λ i. at (now (x .entry)) i ⊗ lnFrom s (lists (now (lens .entry)) (now (groups .entry)) (now (counts .entry))) (Unifac·pure ng (lists (now (lens .entry)) (now (groups .entry)) (now (counts .entry))) (at (now (q .entry))) (grid ng (now (psi .entry)))) i) ⌝ }
+{
+    let mut total = 0.0;
+    for i in 0..n {
+        total = total + x[i] * ln_gamma(s, lens, groups, counts, q, psi, ng, i);
+    }
+    total
+}
+
+// The quantity from the sizes R and Q, the counts and a table of exponentials.
+fn over(
+    lens: &[u8],
+    groups: &[u8],
+    counts: &[f64],
+    r: &[f64],
+    q: &[f64],
+    psi: &[f64],
+    x: &[f64],
+    n: usize,
+    ng: usize,
+    asked: Quantity,
+) -> f64
+    requires { ⌜ (Listed n ng (now lens) (now groups) (now counts)) × (n ≤ 12) × (ng ≤ 32) × (ng ≤ length (now r)) × (ng ≤ length (now q)) × (ng * ng ≤ length (now psi)) × (n ≤ length (now x)) × (indexFault n asked ≡ 0) ⌝ }
+    ensures { λ v. ⌜ v ≡ unifac n ng (lists (now (lens .entry)) (now (groups .entry)) (now (counts .entry))) (at (now (r .entry))) (at (now (q .entry))) (grid ng (now (psi .entry))) (at (now (x .entry))) asked ⌝ }
+{
+    let s = share(lens, groups, counts, r, q, psi, x, n, ng);
+    match asked {
+        Quantity::LnGamma(i) => ln_gamma(s, lens, groups, counts, q, psi, ng, i),
+        Quantity::Gamma(i) => arithmetic::exp(ln_gamma(s, lens, groups, counts, q, psi, ng, i)),
+        Quantity::ExcessGibbs => excess_gibbs(s, lens, groups, counts, q, psi, x, n, ng),
+    }
+}
+
+// The quantity over a table of exponentials by full rows of ng.
+pub fn value_over(
+    n: usize,
+    ng: usize,
+    lens: &[u8],
+    groups: &[u8],
+    values: &[f64],
+    psi: &[f64],
+    x: &[f64],
+    q: Quantity,
+) -> f64
+    requires { ⌜ (Loaded n ng (now lens) (now groups) (now values)) × (ng * ng ≤ length (now psi)) × (n ≤ length (now x)) × (indexFault n q ≡ 0) ⌝ }
+    ensures { λ r. ⌜ r ≡ unifac n ng (lists (now (lens .entry)) (now (groups .entry)) (from (countsAt ng) (now (values .entry)))) (groupRs ng (now (values .entry))) (groupQs ng (now (values .entry))) (grid ng (now (psi .entry))) (at (now (x .entry))) q ⌝ }
+{
+    let place = crate::groups::counts_at(ng);
+    over(
+        lens,
+        groups,
+        &values[place..],
+        values,
+        &values[ng..],
+        psi,
+        x,
+        n,
+        ng,
+        q,
+    )
+}
+
+// The quantity at T, from the values.
+pub fn value_at(
+    n: usize,
+    ng: usize,
+    lens: &[u8],
+    groups: &[u8],
+    values: &[f64],
+    t: f64,
+    x: &[f64],
+    q: Quantity,
+) -> f64
+    requires { ⌜ (Loaded n ng (now lens) (now groups) (now values)) × (n ≤ length (now x)) × (indexFault n q ≡ 0) ⌝ }
+    ensures { λ r. ⌜ r ≡ unifacAt n ng (lists (now (lens .entry)) (now (groups .entry)) (from (countsAt ng) (now (values .entry)))) (groupRs ng (now (values .entry))) (groupQs ng (now (values .entry))) (groupAs ng (now (values .entry))) t (at (now (x .entry))) q ⌝ }
+{
+    let mut table = [0.0; 1024];
+    fill_table(values, t, ng, &mut table[..]);
+    value_over(n, ng, lens, groups, values, &table[..], x, q)
+}
+
+// What a plain call declines of its lists and values: 2, then 3 or 4 at the first place at fault.
+pub fn unifac_fault(n: usize, ng: usize, lens: &[u8], groups: &[u8], values: &[f64]) -> u8
+    ensures { λ r. ⌜ (r ≡ unifacFault n ng (now (lens .entry)) (now (groups .entry)) (now (values .entry))) × (r ≡ 0 → Loaded n ng (now (lens .entry)) (now (groups .entry)) (now (values .entry))) ⌝ }
+{
+    let fault = crate::groups::lists_fault(n, ng, lens, groups, values);
+    if fault != 0 {
+        return fault;
+    }
+    let place = crate::groups::counts_at(ng);
+    crate::groups::groups_fault(ng, groups, &values[place..])
+}
+
+// The plain call: the values are R's, Q's, a by rows, five each, then the counts, list after list.
+pub fn plain(
+    n: usize,
+    ng: usize,
+    lens: &[u8],
+    groups: &[u8],
+    values: &[f64],
+    t: f64,
+    x: &[f64],
+    q: Quantity,
+) -> Answer
+    ensures { λ r. ⌜ r ≡ unifacPlain n ng (now (lens .entry)) (now (groups .entry)) (now (values .entry)) t (now (x .entry)) q ⌝ }
+{
+    let fault = unifac_fault(n, ng, lens, groups, values);
+    if fault != 0 {
+        return Answer::Refused(fault);
+    }
+    let fault = crate::faults::fractions_fault(n, x, q);
+    if fault != 0 {
+        return Answer::Refused(fault);
+    }
+    Answer::Value(value_at(n, ng, lens, groups, values, t, x, q))
+}
+
+pub fn ln_gamma_at(
+    n: usize,
+    ng: usize,
+    lens: &[u8],
+    groups: &[u8],
+    values: &[f64],
+    t: f64,
+    x: &[f64],
+    i: usize,
+) -> Answer
+    ensures { λ r. ⌜ r ≡ unifacPlain n ng (now (lens .entry)) (now (groups .entry)) (now (values .entry)) t (now (x .entry)) (Quantity.LnGamma i) ⌝ }
+{
+    plain(n, ng, lens, groups, values, t, x, Quantity::LnGamma(i))
+}
+
+pub fn gamma_at(
+    n: usize,
+    ng: usize,
+    lens: &[u8],
+    groups: &[u8],
+    values: &[f64],
+    t: f64,
+    x: &[f64],
+    i: usize,
+) -> Answer
+    ensures { λ r. ⌜ r ≡ unifacPlain n ng (now (lens .entry)) (now (groups .entry)) (now (values .entry)) t (now (x .entry)) (Quantity.Gamma i) ⌝ }
+{
+    plain(n, ng, lens, groups, values, t, x, Quantity::Gamma(i))
+}
+
+pub fn reduced_excess_gibbs_at(
+    n: usize,
+    ng: usize,
+    lens: &[u8],
+    groups: &[u8],
+    values: &[f64],
+    t: f64,
+    x: &[f64],
+) -> Answer
+    ensures { λ r. ⌜ r ≡ unifacPlain n ng (now (lens .entry)) (now (groups .entry)) (now (values .entry)) t (now (x .entry)) Quantity.ExcessGibbs ⌝ }
+{
+    plain(n, ng, lens, groups, values, t, x, Quantity::ExcessGibbs)
+}

@@ -1,0 +1,192 @@
+// UNIQUAC. A table of exponentials stands by full rows of n; its diagonal is never read.
+ghost use mathlib.Core.Path.{_≡_};
+ghost use Prim.Native.Nat.{_*_, _≤_, _<_};
+ghost use lib.ListN.{length};
+ghost use Rattle.arithmetic.specs.Floats.{_⊕_, _⊖_, _⊗_, _⊘_, one, half};
+ghost use Rattle.arithmetic.specs.Logarithm.{logOf};
+ghost use Rattle.arithmetic.specs.Sums.{sum};
+ghost use Rattle.arithmetic.specs.Tables.{at, grid, Filled};
+ghost use Rattle.models.specs.Answers.{indexFault};
+ghost use Rattle.models.specs.Columns.{unitAt};
+ghost use Rattle.models.specs.Plain.{uniquacPlain};
+ghost use Rattle.models.specs.Shared.{UniquacShared};
+ghost use Rattle.models.specs.Uniquac.{share, lnGamma, excess, uniquac, uniquacAt};
+ghost use Rattle.models.specs.Uniquac.{Z as U·Z, l as U·l};
+ghost use Rattle.models.specs.Values.{uniquacSize, energies, rs, qs};
+use crate::answers::Answer;
+use crate::answers::Quantity;
+
+// The coordination number.
+const Z: f64 = 10.0;
+
+// How many values n components have: a by rows, r's, q's. Past 12, which `plain_fault` refuses, it says nothing.
+pub fn size(n: usize) -> usize
+    ensures { λ v. ⌜ (n ≤ 12 → v ≡ uniquacSize n) ⌝ }
+{
+    if 12 < n {
+        return 0;
+    }
+    n * n + n + n
+}
+
+// x_i s_i / Σ_j x_j s_j: θ for s = q.
+fn shares(n: usize, s: &[f64], x: &[f64]) -> [f64; 12]
+    requires { ⌜ (n ≤ 12) × (n ≤ length (now s)) × (n ≤ length (now x)) ⌝ }
+    ensures { λ v. ⌜ Filled (share n (at (now (s .entry))) (at (now (x .entry)))) n v ⌝ }
+{
+    let mut shares = [0.0; 12];
+    let sum = arithmetic::dot(x, s, n);
+    for i in 0..n {
+        shares[i] = x[i] * s[i] / sum;
+    }
+    shares
+}
+
+// l of r and q.
+fn l(r: f64, q: f64) -> f64
+    ensures { λ v. ⌜ v ≡ half ⊗ U·Z ⊗ (r ⊖ q) ⊖ (r ⊖ one) ⌝ }
+{
+    0.5 * Z * (r - q) - (r - 1.0)
+}
+
+// Σ_j x_j l_j.
+fn l_sum(n: usize, r: &[f64], q: &[f64], x: &[f64]) -> f64
+    requires { ⌜ (n ≤ length (now r)) × (n ≤ length (now q)) × (n ≤ length (now x)) ⌝ }
+    ensures { λ v. ⌜ v ≡ sum n (λ j. at (now (x .entry)) j ⊗ U·l (at (now (r .entry))) (at (now (q .entry))) j) ⌝ }
+{
+    let mut s = 0.0;
+    for j in 0..n {
+        s = s + x[j] * l(r[j], q[j]);
+    }
+    s
+}
+
+// The combinatorial part of ln γ_i, from r_i, q_i, φ_i/x_i, θ_i/φ_i and Σ_j x_j l_j.
+fn combinatorial(r: f64, q: f64, segment: f64, area: f64, lx: f64) -> f64
+    ensures { λ v. ⌜ v ≡ logOf segment ⊕ half ⊗ U·Z ⊗ q ⊗ logOf area ⊕ (half ⊗ U·Z ⊗ (r ⊖ q) ⊖ (r ⊖ one)) ⊖ segment ⊗ lx ⌝ }
+{
+    arithmetic::log(segment) + 0.5 * Z * q * arithmetic::log(area) + l(r, q) - segment * lx
+}
+
+// The residual part of ln γ_i, from q_i, the part of the table that starts at row i, θ and the column sums.
+fn residual(n: usize, q: f64, row: &[f64], theta: &[f64], sums: &[f64], i: usize) -> f64
+    requires { ⌜ (n ≤ length (now row)) × (n ≤ length (now theta)) × (n ≤ length (now sums)) × (i < n) ⌝ }
+    ensures { λ v. ⌜ v ≡ q ⊗ (one ⊖ logOf (at (now (sums .entry)) i) ⊖ sum n (λ j. at (now (theta .entry)) j ⊗ unitAt i (at (now (row .entry))) j ⊘ at (now (sums .entry)) j)) ⌝ }
+{
+    let mut s = 0.0;
+    for j in 0..n {
+        s = s + theta[j] * crate::columns::unit_at(row, i, j) / sums[j];
+    }
+    q * (1.0 - arithmetic::log(sums[i]) - s)
+}
+
+// ln γ_i, from what all components share.
+fn ln_gamma(
+    n: usize,
+    r: &[f64],
+    q: &[f64],
+    e: &[f64],
+    x: &[f64],
+    rx: f64,
+    lx: f64,
+    theta: &[f64],
+    sums: &[f64],
+    i: usize,
+) -> f64
+    requires { ⌜ (n ≤ length (now r)) × (n ≤ length (now q)) × (n * n ≤ length (now e)) × (n ≤ length (now x)) × (n ≤ length (now theta)) × (n ≤ length (now sums)) × (i < n) × UniquacShared n (at (now r)) (at (now q)) (grid n (now e)) (at (now x)) rx lx (now theta) (now sums) ⌝ }
+    ensures { λ v. ⌜ v ≡ lnGamma n (at (now (r .entry))) (at (now (q .entry))) (grid n (now (e .entry))) (at (now (x .entry))) i ⌝ }
+{
+    let phi = x[i] * r[i] / rx;
+    let c = combinatorial(r[i], q[i], phi / x[i], theta[i] / phi, lx);
+    let at = i * n;
+    c + residual(n, q[i], &e[at..], theta, sums, i)
+}
+
+// The excess energy, from what all components share.
+fn excess_gibbs(
+    n: usize,
+    r: &[f64],
+    q: &[f64],
+    e: &[f64],
+    x: &[f64],
+    rx: f64,
+    lx: f64,
+    theta: &[f64],
+    sums: &[f64],
+) -> f64
+    requires { ⌜ (n ≤ length (now r)) × (n ≤ length (now q)) × (n * n ≤ length (now e)) × (n ≤ length (now x)) × (n ≤ length (now theta)) × (n ≤ length (now sums)) × UniquacShared n (at (now r)) (at (now q)) (grid n (now e)) (at (now x)) rx lx (now theta) (now sums) ⌝ }
+    ensures { λ v. ⌜ v ≡ excess n (at (now (r .entry))) (at (now (q .entry))) (grid n (now (e .entry))) (at (now (x .entry))) ⌝ }
+{
+    let mut s = 0.0;
+    for i in 0..n {
+        s = s + x[i] * ln_gamma(n, r, q, e, x, rx, lx, theta, sums, i);
+    }
+    s
+}
+
+// The quantity over a table of exponentials.
+pub fn value_over(n: usize, r: &[f64], q: &[f64], e: &[f64], x: &[f64], k: Quantity) -> f64
+    requires { ⌜ (n ≤ 12) × (n ≤ length (now r)) × (n ≤ length (now q)) × (n * n ≤ length (now e)) × (n ≤ length (now x)) × (indexFault n k ≡ 0) ⌝ }
+    ensures { λ v. ⌜ v ≡ uniquac n (at (now (r .entry))) (at (now (q .entry))) (grid n (now (e .entry))) (at (now (x .entry))) k ⌝ }
+{
+    let rx = arithmetic::dot(x, r, n);
+    let lx = l_sum(n, r, q, x);
+    let theta = shares(n, q, x);
+    let sums = crate::columns::unit_column_sums(n, e, &theta[..]);
+    match k {
+        Quantity::LnGamma(i) => ln_gamma(n, r, q, e, x, rx, lx, &theta[..], &sums[..], i),
+        Quantity::Gamma(i) => arithmetic::exp(ln_gamma(
+            n,
+            r,
+            q,
+            e,
+            x,
+            rx,
+            lx,
+            &theta[..],
+            &sums[..],
+            i,
+        )),
+        Quantity::ExcessGibbs => excess_gibbs(n, r, q, e, x, rx, lx, &theta[..], &sums[..]),
+    }
+}
+
+// The quantity at T, from the values.
+pub fn value_at(n: usize, values: &[f64], t: f64, x: &[f64], k: Quantity) -> f64
+    requires { ⌜ (n ≤ 12) × (uniquacSize n ≤ length (now values)) × (n ≤ length (now x)) × (indexFault n k ≡ 0) ⌝ }
+    ensures { λ v. ⌜ v ≡ uniquacAt n (rs n (now (values .entry))) (qs n (now (values .entry))) (energies n (now (values .entry))) t (at (now (x .entry))) k ⌝ }
+{
+    let e = crate::exponentials::energy_table(values, t, n);
+    let at = n * n;
+    let qs_at = at + n;
+    value_over(n, &values[at..], &values[qs_at..], &e[..], x, k)
+}
+
+// The plain call: the values are a by rows, the r's, the q's.
+pub fn plain(n: usize, values: &[f64], t: f64, x: &[f64], k: Quantity) -> Answer
+    ensures { λ v. ⌜ v ≡ uniquacPlain n (now (values .entry)) t (now (x .entry)) k ⌝ }
+{
+    let fault = crate::faults::plain_fault(n, size(n), values, x, k);
+    if fault != 0 {
+        return Answer::Refused(fault);
+    }
+    Answer::Value(value_at(n, values, t, x, k))
+}
+
+pub fn ln_gamma_at(n: usize, values: &[f64], t: f64, x: &[f64], i: usize) -> Answer
+    ensures { λ v. ⌜ v ≡ uniquacPlain n (now (values .entry)) t (now (x .entry)) (Quantity.LnGamma i) ⌝ }
+{
+    plain(n, values, t, x, Quantity::LnGamma(i))
+}
+
+pub fn gamma_at(n: usize, values: &[f64], t: f64, x: &[f64], i: usize) -> Answer
+    ensures { λ v. ⌜ v ≡ uniquacPlain n (now (values .entry)) t (now (x .entry)) (Quantity.Gamma i) ⌝ }
+{
+    plain(n, values, t, x, Quantity::Gamma(i))
+}
+
+pub fn reduced_excess_gibbs_at(n: usize, values: &[f64], t: f64, x: &[f64]) -> Answer
+    ensures { λ v. ⌜ v ≡ uniquacPlain n (now (values .entry)) t (now (x .entry)) Quantity.ExcessGibbs ⌝ }
+{
+    plain(n, values, t, x, Quantity::ExcessGibbs)
+}
