@@ -3,8 +3,8 @@
 use mathlib.Core.Path.{_≡_, refl, _∙_, ap}
 use mathlib.Core.Bool.{true, false}
 use lib.IntN.{pos, negsuc}
-use lib.Ieee.{Float, nan, inf, fin, binary64, add, mul, sub, div, lt, le, eq, isNan, ofInt, ofBits, round, size}
-use Rattle.arithmetic.specs.Floats.{_⊕_, _⊖_, _⊗_, _⊘_, abs, dec, one, two, half, L1, L2}
+use lib.Ieee.{Float, nan, inf, fin, binary64, add, mul, sub, div, lt, le, eq, isNan, neg, ofInt, ofBits, round, size}
+use Rattle.arithmetic.specs.Floats.{_⊕_, _⊖_, _⊗_, _⊘_, abs, dec, +0, one, two, half, L1, L2}
 use Rattle.arithmetic.proofs.LogBranches.{rest}
 use Rattle.arithmetic.specs.Exponential.{expOf, highest, lowest}
 use Rattle.arithmetic.specs.Logarithm.{logOf, significand, binade, logBy, remainder, places, M, G1, G2, G3, G4, G5, G6, G7}
@@ -173,13 +173,13 @@ unfolding significand binade
 rest-two = rw places-one logBy-one
 
 pub worked :
-    (expOf (fin false 0 (pos 0)) ≡ fin false 1 (pos 0))
-    × (expOf (fin true 0 (pos 0)) ≡ fin false 1 (pos 0))
+    (expOf +0 ≡ one)
+    × (expOf (neg +0) ≡ one)
     × (expOf (dec false 70979 2) ≡ inf false)
-    × (expOf (dec true 746 0) ≡ fin false 0 (pos 0))
-    × (logOf (fin false 1 (pos 0)) ≡ fin false 0 (pos 0))
-    × (logOf (fin false 0 (pos 0)) ≡ inf true)
-    × (logOf (fin true 1 (pos 0)) ≡ nan)
-    × (logOf (fin false 1 (pos 1)) ≡ L2 ⊕ L1)
-unfolding expOf highest lowest one dec round abs add lt le eq isNan logOf
+    × (expOf (dec true 746 0) ≡ +0)
+    × (logOf one ≡ +0)
+    × (logOf +0 ≡ inf true)
+    × (logOf (neg one) ≡ nan)
+    × (logOf two ≡ L2 ⊕ L1)
+unfolding expOf highest lowest one two dec round abs add neg lt le eq isNan logOf
 worked = (refl, refl, refl, refl, refl, refl, refl, rest-two)

@@ -7,3 +7,4 @@ pub mod ColumnLaws
 pub mod NrtlLaws
 pub mod UniquacLaws
 pub mod ExportLaws
+pub mod WorkedValues

@@ -11,5 +11,6 @@ pub mod Unifac
 pub mod Values
 pub mod Plain
 pub mod Exports
+pub mod WorkedValues
 pub mod Lists
 pub mod UnifacSteps
