@@ -8,7 +8,7 @@ use Prim.Native.Nat.{ℕ, zero, suc, _+_, _<_, _≤_}
 use native.Mathlib.Nat.{eq-or-lt-of-le, le-of-suc-le-suc}
 use native.Mathlib.Numerals.{add-one}
 use native.Mathlib.Omega.{arith}
-use lib.Dec.{eqb}
+use lib.Dec.{leb, eqb}
 use lib.ListN.{length, getD, set, replicate, getD-replicate}
 use lib.Seq.{getD-set-same, getD-set-other}
 use lib.Ieee.{Float, nan, binary64, ofBits, lt}
@@ -18,9 +18,9 @@ use Rattle.arithmetic.specs.Sums.{fold, sum, total}
 use Rattle.arithmetic.specs.Tables.{at, from, part, Filled}
 use Rattle.arithmetic.proofs.SumLaws.{fold-more, sum-same}
 use Rattle.arithmetic.proofs.TableLaws.{part-length, part-at, from-length}
-use Rattle.models.specs.Plain.{allTo}
+use Rattle.models.specs.Plain.{between, allTo, listsFault}
 use Rattle.models.specs.Unifac.{Groups, size, residual, counts, amount, amounts, fraction, pureCount, pureFraction}
-use Rattle.models.specs.Values.{start, countsAt, lists}
+use Rattle.models.specs.Values.{start, countsAt, unifacSize, lists}
 use Rattle.models.specs.Lists.{Listed, Sized, Loaded, gathered, added, put}
 
 and-false : (b : Bool) → b && false ≡ false
@@ -191,3 +191,9 @@ loaded-from {n} {ng} {lens} {groups} {values} fit below = record {
 -- the counts lent from a place that was worked out
 pub listed-at : {n ng : ℕ} {lens groups : List ℕ} (values : List Float) {s : ℕ} → s ≡ countsAt ng → Listed n ng lens groups (from (countsAt ng) values) → Listed n ng lens groups (from s values)
 listed-at values e all = rw e all
+
+-- the tests of `listsFault`, each with what it came to
+pub lists-tests : (n ng : ℕ) (lens groups : List ℕ) (values : List Float) {a b c d e : Bool} → between 1 12 n && between 1 32 ng ≡ a → eqb (length lens) n ≡ b → allTo n (λ i. leb (getD lens i 0) 12) ≡ c →
+    eqb (length groups) (start lens n) ≡ d → eqb (length values) (countsAt ng + start lens n) ≡ e → cond (a && b && c && d && e) 0 2 ≡ listsFault n ng lens groups values
+unfolding listsFault unifacSize
+lists-tests n ng lens groups values p q r s t = rw (p, q, r, s, t)

@@ -1,5 +1,6 @@
 // UNIFAC's group lists: lens has their lengths; groups and counts stand list after list.
 ghost use mathlib.Core.Path.{_≡_};
+ghost use mathlib.Core.Bool.{true, _&&_};
 ghost use Prim.Native.Nat.{ℕ, _+_, _≤_, _<_};
 ghost use lib.Dec.{leb};
 ghost use lib.ListN.{length, getD};
@@ -8,7 +9,7 @@ ghost use Rattle.arithmetic.specs.Sums.{sum};
 ghost use Rattle.arithmetic.specs.Tables.{at, Filled};
 ghost use Rattle.models.specs.Values.{start, countsAt, lists};
 ghost use Rattle.models.specs.Lists.{Listed, Sized, added, put};
-ghost use Rattle.models.specs.Plain.{allTo, listsFault, groupsFault};
+ghost use Rattle.models.specs.Plain.{between, allTo, listsFault, groupsFault};
 ghost use Rattle.models.specs.Unifac.{size as Unifac·size, amount as Unifac·amount, amounts as Unifac·amounts, residual as Unifac·residual};
 ghost use Rattle.models.specs.Unifac.{fraction, pureFraction};
 
@@ -200,20 +201,30 @@ fn short(lens: &[u8], n: usize) -> bool
     true
 }
 
+// Whether n is within 1–12 and ng within 1–32.
+fn in_range(n: usize, ng: usize) -> bool
+    ensures { λ r. ⌜ (r ≡ between 1 12 n && between 1 32 ng) × (r ≡ true → (1 ≤ n) × (n ≤ 12) × (1 ≤ ng) × (ng ≤ 32)) ⌝ }
+{
+    if n < 1 {
+        return false;
+    }
+    if 12 < n {
+        return false;
+    }
+    if ng < 1 {
+        return false;
+    }
+    if 32 < ng {
+        return false;
+    }
+    true
+}
+
 // 2: n outside 1–12, ng outside 1–32, a list over 12, or a slice of the wrong length.
 pub fn lists_fault(n: usize, ng: usize, lens: &[u8], groups: &[u8], values: &[f64]) -> u8
     ensures { λ r. ⌜ (r ≡ listsFault n ng (now (lens .entry)) (now (groups .entry)) (now (values .entry))) × (r ≡ 0 → Sized n ng (now (lens .entry)) (now (groups .entry)) (now (values .entry))) ⌝ }
 {
-    if n < 1 {
-        return 2;
-    }
-    if 12 < n {
-        return 2;
-    }
-    if ng < 1 {
-        return 2;
-    }
-    if 32 < ng {
+    if !in_range(n, ng) {
         return 2;
     }
     if lens.len() != n {
