@@ -1,7 +1,7 @@
 //! Holding answers bit for bit against each other, with all NaNs as one.
 
 /// How many differing inputs a comparison prints.
-const SHOWN: usize = 5;
+pub const SHOWN: usize = 5;
 
 /// The bits of an answer. Which of the NaNs it is stays free, so that all of them count as one.
 pub fn bits(v: f64) -> u64 {

@@ -1,9 +1,63 @@
 //! The calls that the Rattle crates export, each in a safe wrapper. Nothing checks these declarations
 //! against the Rattle source, so they stand here alone and are few.
+//!
+//! A slice of bytes passes as a pointer and then its length.
+
+use crate::case::{Case, Quantity};
 
 extern "C" {
     fn kiltgrit_exp(v: f64) -> f64;
     fn kiltgrit_log(v: f64) -> f64;
+
+    fn kiltgrit_ln_gamma(
+        model: u32,
+        n: usize,
+        ng: usize,
+        lens: *const u8,
+        lens_len: usize,
+        groups: *const u8,
+        groups_len: usize,
+        values: *const u8,
+        values_len: usize,
+        t: f64,
+        x: *const u8,
+        x_len: usize,
+        i: usize,
+        value: *mut f64,
+    ) -> u32;
+
+    fn kiltgrit_gamma(
+        model: u32,
+        n: usize,
+        ng: usize,
+        lens: *const u8,
+        lens_len: usize,
+        groups: *const u8,
+        groups_len: usize,
+        values: *const u8,
+        values_len: usize,
+        t: f64,
+        x: *const u8,
+        x_len: usize,
+        i: usize,
+        value: *mut f64,
+    ) -> u32;
+
+    fn kiltgrit_excess_gibbs(
+        model: u32,
+        n: usize,
+        ng: usize,
+        lens: *const u8,
+        lens_len: usize,
+        groups: *const u8,
+        groups_len: usize,
+        values: *const u8,
+        values_len: usize,
+        t: f64,
+        x: *const u8,
+        x_len: usize,
+        value: *mut f64,
+    ) -> u32;
 }
 
 pub fn exp(v: f64) -> f64 {
@@ -14,4 +68,38 @@ pub fn exp(v: f64) -> f64 {
 pub fn log(v: f64) -> f64 {
     // SAFETY: as for `exp`.
     unsafe { kiltgrit_log(v) }
+}
+
+/// The number that the plain call answers, 0 for none; `value` is what it leaves there.
+pub fn plain(case: &Case, value: &mut f64) -> u32 {
+    let (values, x) = (case.values.bytes(), case.x.bytes());
+    macro_rules! call {
+        ($name:ident $(, $i:ident)?) => {
+            // SAFETY: each pointer comes from a slice that outlives the call, with the length of that slice,
+            // and `value` is lent to nothing else. The call has no `requires`.
+            unsafe {
+                $name(
+                    case.model,
+                    case.n,
+                    case.ng,
+                    case.lens.as_ptr(),
+                    case.lens.len(),
+                    case.groups.as_ptr(),
+                    case.groups.len(),
+                    values.as_ptr(),
+                    values.len(),
+                    case.t,
+                    x.as_ptr(),
+                    x.len(),
+                    $($i,)?
+                    value,
+                )
+            }
+        };
+    }
+    match case.quantity {
+        Quantity::LnGamma(i) => call!(kiltgrit_ln_gamma, i),
+        Quantity::Gamma(i) => call!(kiltgrit_gamma, i),
+        Quantity::ExcessGibbs => call!(kiltgrit_excess_gibbs),
+    }
 }

@@ -11,7 +11,7 @@ const M: u64 = 0x3FE6_A09E_0000_0000;
 const BINADE: u64 = 1 << 52;
 
 /// v and the doubles up to `reach` places from it on both sides; a zero comes as +0.
-fn around(v: f64, reach: i64) -> impl Iterator<Item = f64> {
+pub fn around(v: f64, reach: i64) -> impl Iterator<Item = f64> {
     // Doubles in order as whole numbers in order.
     let bits = v.to_bits() as i64;
     let place = if bits < 0 { i64::MIN - bits } else { bits };
@@ -22,7 +22,7 @@ fn around(v: f64, reach: i64) -> impl Iterator<Item = f64> {
 }
 
 /// Zeros, ones, the ends of the normal and of the subnormal numbers, infinities, and NaNs of many payloads.
-fn special() -> Vec<f64> {
+pub fn special() -> Vec<f64> {
     let mut all = vec![-0.0];
     for v in [0.0, 1.0, 2.0, 0.5, f64::MIN_POSITIVE, f64::MAX] {
         all.extend(around(v, 2));

@@ -1,13 +1,18 @@
 //! Compares the exported calls of the Rattle crates with the original, in which document 01's exp and log
 //! stand in for libm. Prints a line for each comparison; the exit status is 0 only if nothing differs.
 //!
-//! usage: compare [--cases N] [--seed S]    N random inputs a call, beside the edges (default 1000000)
+//! usage: compare [--cases N] [--seed S]    N random inputs of exp and log each, beside the edges (default
+//!                                          1000000), N/4 calls of a model, N/10 of UNIFAC
 //!        compare --store DIR               write the lists that the program `replay` reads
 
+mod case;
+mod cases;
 mod compare;
 mod exports;
 mod inputs;
+mod models;
 mod random;
+mod rust;
 mod stored;
 
 use random::Random;
@@ -21,22 +26,8 @@ fn compare_all(cases: usize, seed: u64) -> bool {
     let mut same = true;
     same &= compare::compare("exp", &inputs::exp(random, cases), libm::exp, exports::exp);
     same &= compare::compare("log", &inputs::log(random, cases), libm::log, exports::log);
+    same &= models::compare_all(cases, random);
     same
-}
-
-fn store_all(folder: &Path) -> std::io::Result<()> {
-    std::fs::create_dir_all(folder)?;
-    let random = &mut Random::new(1);
-    stored::write(
-        &folder.join("exp.txt"),
-        &inputs::exp_stored(random, 1000),
-        libm::exp,
-    )?;
-    stored::write(
-        &folder.join("log.txt"),
-        &inputs::log_stored(random, 1000),
-        libm::log,
-    )
 }
 
 fn main() -> ExitCode {
@@ -59,7 +50,7 @@ fn main() -> ExitCode {
         }
     }
     let fine = match store {
-        Some(folder) => match store_all(Path::new(&folder)) {
+        Some(folder) => match stored::write_all(Path::new(&folder)) {
             Ok(()) => true,
             Err(error) => {
                 eprintln!("compare: {folder}: {error}");

@@ -3,17 +3,114 @@
 //! A line is a record of words, a word is 16 hexadecimal digits, and each is followed by one blank, or by LF at
 //! the end of its line. So a word takes 17 bytes.
 
+use crate::case::{Answer, Case, Quantity, NAMES, NRTL, UNIFAC};
+use crate::cases::{Draw, Sizes};
 use crate::compare::bits;
+use crate::inputs;
+use crate::random::Random;
+use crate::rust;
 use std::io;
 use std::path::Path;
 
-/// Writes a line for each input: its bits, and those of the answer.
-pub fn write(path: &Path, inputs: &[f64], rust: fn(f64) -> f64) -> io::Result<()> {
+fn write(path: &Path, lines: &[Vec<u64>]) -> io::Result<()> {
     let mut text = String::new();
-    for &v in inputs {
-        text += &format!("{:016x} {:016x}\n", v.to_bits(), bits(rust(v)));
+    for line in lines {
+        let words: Vec<String> = line.iter().map(|word| format!("{word:016x}")).collect();
+        text += &words.join(" ");
+        text += "\n";
     }
     std::fs::write(path, text)?;
-    println!("{}: {} answers", path.display(), inputs.len());
+    println!("{}: {} answers", path.display(), lines.len());
+    Ok(())
+}
+
+/// A line for each input: its bits, and those of the answer.
+fn of_numbers(inputs: &[f64], rust: fn(f64) -> f64) -> Vec<Vec<u64>> {
+    let line = |v: &f64| vec![v.to_bits(), bits(rust(*v))];
+    inputs.iter().map(line).collect()
+}
+
+/// Whether `replay` has room for a case, and its model is the list's.
+fn storable(case: &Case, model: u32) -> bool {
+    case.model == model
+        && case.lens.len() <= 16
+        && case.groups.len() <= 160
+        && case.values.all.len() <= 5328
+        && case.values.rest.is_empty()
+        && case.x.all.len() <= 16
+        && case.x.rest.is_empty()
+}
+
+/// A case's line: what is asked, i, n, ng, then four rows, each after its length, with T before the last; then
+/// the number of the refusal, 0 for none, and the value, 0 for none.
+fn line(case: &Case) -> Vec<u64> {
+    let (asked, i) = match case.quantity {
+        Quantity::LnGamma(i) => (0, i),
+        Quantity::Gamma(i) => (1, i),
+        Quantity::ExcessGibbs => (2, 0),
+    };
+    let mut line = vec![asked, i as u64, case.n as u64, case.ng as u64];
+    for row in [&case.lens, &case.groups] {
+        line.push(row.len() as u64);
+        line.extend(row.iter().map(|&b| u64::from(b)));
+    }
+    line.push(case.values.all.len() as u64);
+    line.extend(case.values.all.iter().map(|v| v.to_bits()));
+    line.push(case.t.to_bits());
+    line.push(case.x.all.len() as u64);
+    line.extend(case.x.all.iter().map(|v| v.to_bits()));
+    line.extend(match rust::answer(case) {
+        Answer::Value(bits) => [0, bits],
+        Answer::Refused(number) => [u64::from(number), 0],
+    });
+    line
+}
+
+/// The line of a case of a size whose answer is a finite value.
+fn of_size(model: u32, size: usize, random: &mut Random) -> Vec<u64> {
+    let mut draw = Draw::new(random, Sizes::Exactly(size));
+    loop {
+        let case = draw.sound(model);
+        if let Answer::Value(bits) = rust::answer(&case) {
+            if f64::from_bits(bits).is_finite() {
+                return line(&case);
+            }
+        }
+    }
+}
+
+/// Lines of a model: a value of each size, and then random cases, most of them small.
+fn of_model(model: u32, random: &mut Random) -> Vec<Vec<u64>> {
+    let (sizes, cases, most) = match model {
+        UNIFAC => (vec![1, 2, 4, 8, 16, 32], 400, 4),
+        NRTL => ((1..=12).collect(), 400, 4),
+        _ => ((1..=12).collect(), 700, 5),
+    };
+    let of_size = |size| of_size(model, size, random);
+    let mut lines: Vec<Vec<u64>> = sizes.into_iter().map(of_size).collect();
+    let mut draw = Draw::new(random, Sizes::UpTo(most));
+    while lines.len() < cases {
+        let case = draw.case(model);
+        if storable(&case, model) {
+            lines.push(line(&case));
+        }
+    }
+    lines
+}
+
+/// Writes the lists to a folder.
+pub fn write_all(folder: &Path) -> io::Result<()> {
+    std::fs::create_dir_all(folder)?;
+    let random = &mut Random::new(1);
+    let exp = of_numbers(&inputs::exp_stored(random, 1000), libm::exp);
+    let log = of_numbers(&inputs::log_stored(random, 1000), libm::log);
+    write(&folder.join("exp.txt"), &exp)?;
+    write(&folder.join("log.txt"), &log)?;
+    for (name, model) in NAMES.iter().zip(1..) {
+        write(
+            &folder.join(name).with_extension("txt"),
+            &of_model(model, random),
+        )?;
+    }
     Ok(())
 }

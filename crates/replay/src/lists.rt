@@ -1,4 +1,6 @@
 // The lists, and how a line of each is replayed.
+use crate::calls;
+use crate::calls::Model;
 use crate::words;
 use crate::words::Word;
 use arithmetic::bytes::float_of;
@@ -8,6 +10,7 @@ const MOST_LINES: u64 = 1000000;
 pub enum List {
     Exp,
     Log,
+    Plain(Model),
 }
 
 pub enum Line {
@@ -25,14 +28,6 @@ pub struct Tally {
     pub whole: bool,
 }
 
-// The call that the list is of, where that takes one number.
-fn answer(list: List, v: f64) -> f64 {
-    match list {
-        List::Exp => arithmetic::exp(v),
-        List::Log => arithmetic::log(v),
-    }
-}
-
 // A line's answer, held against its last word.
 fn held(got: f64, stored: Word) -> Line {
     match stored {
@@ -48,11 +43,19 @@ fn held(got: f64, stored: Word) -> Line {
     }
 }
 
-// A line of a list: the input and the answer.
+// The rest of a line of a list, whose first word is the input, or what is asked of a model.
+fn rest_of(fd: i32, list: List, b: u64) -> Line {
+    match list {
+        List::Exp => held(arithmetic::exp(float_of(b)), words::next(fd, b'\n')),
+        List::Log => held(arithmetic::log(float_of(b)), words::next(fd, b'\n')),
+        List::Plain(model) => calls::line(fd, model, b),
+    }
+}
+
 fn next_line(fd: i32, list: List) -> Line {
-    let input = words::next(fd, b' ');
-    match input {
-        Word::Bits(b) => held(answer(list, float_of(b)), words::next(fd, b'\n')),
+    let first = words::next(fd, b' ');
+    match first {
+        Word::Bits(b) => rest_of(fd, list, b),
         Word::End => Line::End,
         Word::Broken => Line::Broken,
     }

@@ -1,8 +1,10 @@
 // Replays the stored answers of the Rust, list by list, and writes how many there are and how many
 // differ. The lists are files in the folder that it runs in.
+mod calls;
 mod lists;
 mod words;
 
+use calls::Model;
 use libc::STDOUT_FILENO;
 use lists::List;
 use lists::Tally;
@@ -37,4 +39,8 @@ fn replay(name: &[u8], path: &[u8], list: List) {
 fn main() {
     replay(b"exp", b"exp.txt", List::Exp);
     replay(b"log", b"log.txt", List::Log);
+    replay(b"wilson", b"wilson.txt", List::Plain(Model::Wilson));
+    replay(b"uniquac", b"uniquac.txt", List::Plain(Model::Uniquac));
+    replay(b"nrtl", b"nrtl.txt", List::Plain(Model::Nrtl));
+    replay(b"unifac", b"unifac.txt", List::Plain(Model::Unifac));
 }

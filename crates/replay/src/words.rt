@@ -1,6 +1,9 @@
 // The words of a list: 16 lowercase hexadecimal digits, followed by one blank, or by LF at the end of
 // a line.
+ghost use mathlib.Core.Path.{_≡_};
 ghost use Prim.Native.Nat.{_≤_};
+ghost use lib.ListN.{length, take};
+use arithmetic::bytes::float_of;
 
 pub enum Word {
     Bits(u64),
@@ -54,6 +57,44 @@ pub fn next(fd: i32, after: u8) -> Word {
         return Word::Broken;
     }
     spelt(&text)
+}
+
+// The next word, as the length of a row; where there is none, more than any row has.
+pub fn count(fd: i32) -> usize {
+    let Word::Bits(b) = next(fd, b' ') else {
+        return 0xffff_ffff_ffff_ffff;
+    };
+    b as usize
+}
+
+// Fills the first n places of a slice from the words that follow, and answers whether all of them
+// could be read.
+pub fn fill_floats(fd: i32, a: &mut [f64], n: usize) -> bool
+    requires { ⌜ n ≤ length (now a) ⌝ }
+    ensures { λ _. ⌜ n ≡ length (take n (now (a .exit))) ⌝ }
+{
+    for k in 0..n {
+        let Word::Bits(b) = next(fd, b' ') else {
+            return false;
+        };
+        a[k] = float_of(b);
+    }
+    true
+}
+
+// The same for words below 256.
+pub fn fill_bytes(fd: i32, a: &mut [u8], n: usize) -> bool
+    requires { ⌜ n ≤ length (now a) ⌝ }
+    ensures { λ _. ⌜ n ≡ length (take n (now (a .exit))) ⌝ }
+{
+    for k in 0..n {
+        let b = count(fd);
+        if 255 < b {
+            return false;
+        }
+        a[k] = b as u8;
+    }
+    true
 }
 
 // Whether v has these bits, where any NaN is stored as 7ff8000000000000.

@@ -1,0 +1,156 @@
+-- A call is refused with its number, or leaves what it leaves where that is 0; and what a head that passes has shown.
+-- Assumes nothing.
+use mathlib.Core.Path.{_≡_, refl, sym, _∙_}
+use mathlib.Core.Bool.{Bool, true, false, _&&_, cond}
+use mathlib.Core.List.{List}
+use Prim.Native.Nat.{ℕ, _<_, _≤_}
+use native.Mathlib.Omega.{arith}
+use lib.Dec.{leb, ltb, eqb}
+use lib.ListN.{length, getD}
+use lib.Ieee.{Float}
+use borrow.Author.Tests.{ltb-true, leb-true, eqb-true, eqb-false, lt-ltb, le-ltb, eq-eqb, ne-eqb}
+use Rattle.models.specs.Composition.{tolerance, compositionFault}
+use Rattle.models.specs.Plain.{between, allTo}
+use Rattle.models.specs.Values.{start}
+use Rattle.models.proofs.AnswerLaws.{first-left}
+use Rattle.mixture.specs.declared.head.Head.{Head}
+use Rattle.mixture.specs.declared.head.Model.{Model}
+use Rattle.mixture.specs.declared.head.Model.the-variants.{Wilson, Uniquac, Nrtl, Unifac}
+use Rattle.mixture.specs.declared.answers.Answer.the-variants.{Refused}
+use Rattle.mixture.specs.Names.{byModel, ModelData}
+use Rattle.mixture.specs.Faults.{mixFault}
+use Rattle.mixture.specs.Memory.{Memory, short, isShort, After, after}
+use Rattle.mixture.specs.Layout.{modelOf, dataIn}
+use Rattle.mixture.specs.Calls.{memoryFault, inRange, headFault, outcome, fractionsFault}
+use Rattle.mixture.proofs.ListLaws.{never}
+use Rattle.mixture.proofs.PlaceLaws.{both, passed, spared, nought}
+use Rattle.mixture.proofs.RangeLaws.{between-is, all-at, first-is, start-bound, Bounds, bounds, Long, long-is}
+
+module _ (m : Memory) (h : Head) where
+  pub refused : (a : After) {f k : ℕ} → k ≡ f → (k ≡ 0 → ⊥) → after m h (Refused k) ≡ outcome f m h a
+  refused a {f} {k} e n = rw (← e, ne-eqb k 0 n)
+
+  pub done : {f : ℕ} {a b : After} → f ≡ 0 → b ≡ a → b ≡ outcome f m h a
+  done {f} e s = rw (eq-eqb f 0 e) s
+
+-- ---- how a head is judged
+
+-- the slices count by their lengths alone
+pub short-by : (m : Memory) {lv lc lm : ℕ} → (length (m .values) ≡ lv) × (length (m .cells) ≡ lc) × (length (m .marks) ≡ lm) → cond (short lv lc lm) 1 0 ≡ memoryFault m
+unfolding memoryFault
+short-by m e = rw (← e .0, ← e .1, ← e .2)
+
+module _ (d : ModelData) where
+  pub range-not : between 1 12 (d .n) ≡ false → false ≡ inRange d
+  unfolding inRange
+  range-not h = go (d .model) refl
+    where
+      go : (k : Model) → d .model ≡ k → false ≡ inRange d
+      go Wilson e = rw (e, h)
+      go Uniquac e = rw (e, h)
+      go Nrtl e = rw (e, h)
+      go Unifac e = rw (e, h)
+
+  pub range-plain : (k : Model) → d .model ≡ k → byModel k true true true false ≡ true → between 1 12 (d .n) ≡ true → true ≡ inRange d
+  unfolding inRange
+  range-plain Wilson e u h = rw (e, h)
+  range-plain Uniquac e u h = rw (e, h)
+  range-plain Nrtl e u h = rw (e, h)
+  range-plain Unifac e u h = never (sym u)
+
+  pub range-lists : {b : Bool} → d .model ≡ Unifac → between 1 12 (d .n) ≡ true
+      → b ≡ (between 1 32 (d .ng) && allTo (d .n) (λ i. leb (getD (d .lens) i 0) 12) && allTo (start (d .lens) (d .n)) (λ p. ltb (getD (d .groups) p 0) (d .ng)))
+      → b ≡ inRange d
+  unfolding inRange
+  range-lists e h s = s ∙ rw (e, h)
+
+module _ (m : Memory) (h : Head) where
+  pub judged-short : {k : ℕ} → k ≡ memoryFault m → (k ≡ 0 → ⊥) → k ≡ headFault m h
+  unfolding headFault
+  judged-short e n = first-left _ e n
+
+  module _ (long : memoryFault m ≡ 0) where
+    pub judged-none : h .model ≡ 0 → 8 ≡ headFault m h
+    unfolding headFault
+    judged-none e = rw (eq-eqb _ _ long, eq-eqb _ _ e)
+
+    pub judged-many : 4 < h .model → 1 ≡ headFault m h
+    unfolding headFault
+    judged-many b = let n : h .model ≡ 0 → ⊥ = λ e. omega arith in rw (eq-eqb _ _ long, ne-eqb _ _ n, le-ltb (h .model) 5 (omega arith))
+
+    pub judged-by : {b : Bool} → (h .model ≡ 0 → ⊥) → h .model ≤ 4 → b ≡ inRange (dataIn m h) → cond b 0 1 ≡ headFault m h
+    unfolding headFault
+    judged-by n l e = rw (eq-eqb _ _ long, ne-eqb _ _ n, lt-ltb (h .model) 5 (omega arith), e)
+
+-- ---- slices and a head that pass
+
+pub memory-long : (m : Memory) → memoryFault m ≡ 0 → Long m
+unfolding memoryFault
+memory-long m e = long-is m (spared (isShort m) 0 1 (nought 0) e .0)
+
+-- UNIFAC's ng and lists
+pub record Lists (h : Head) : Type 0 where
+  pub some : 1 ≤ h .ng
+  pub few : h .ng ≤ 32
+  pub short : (i : ℕ) → i < h .n → getD (h .lens) i 0 ≤ 12
+  pub places : start (h .lens) (h .n) ≤ 144
+  pub below : (p : ℕ) → p < start (h .lens) (h .n) → getD (h .groups) p 0 < h .ng
+
+pub record Passed (m : Memory) (h : Head) : Type 0 where
+  pub long : Long m
+  pub model : (1 ≤ h .model) × (h .model < 5)
+  pub range : Bounds (dataIn m h)
+  pub lists : modelOf (h .model) ≡ Unifac → Lists h
+
+module _ (m : Memory) (h : Head) (e : headFault m h ≡ 0) where
+  in-range : ((h .model ≡ 0) → ⊥) × (ltb (h .model) 5 ≡ true) × (inRange (dataIn m h) ≡ true)
+  unfolding headFault
+  in-range =
+      let f = first-is (memoryFault m) _ e in
+      let g = spared (eqb (h .model) 0) _ 8 (nought 7) (f .1) in
+      let k = both _ _ (passed (ltb (h .model) 5 && inRange (dataIn m h)) 0 1 (nought 0) (g .1) .0) in
+      (eqb-false _ _ (g .0), k .0, k .1)
+
+  long : Long m
+  unfolding headFault
+  long = memory-long m (first-is (memoryFault m) _ e .0)
+
+  lists : modelOf (h .model) ≡ Unifac → Lists h
+  unfolding inRange
+  lists u =
+      let f = both (between 1 12 (h .n) && between 1 32 (h .ng) && allTo (h .n) (λ i. leb (getD (h .lens) i 0) 12)) _ (rw u at (in-range .2)) in
+      let g = both (between 1 12 (h .n) && between 1 32 (h .ng)) _ (f .0) in
+      let k = both (between 1 12 (h .n)) (between 1 32 (h .ng)) (g .0) in
+      let n = between-is 1 12 (h .n) (k .0) in
+      let ng = between-is 1 32 (h .ng) (k .1) in
+      let short : (i : ℕ) → i < h .n → getD (h .lens) i 0 ≤ 12 = λ i b. leb-true _ _ (all-at (h .n) (λ i. leb (getD (h .lens) i 0) 12) (g .1) i b) in
+      record {
+        some = ng .0;
+        few = ng .1;
+        short = short;
+        places = omega (arith, start-bound (h .lens) (h .n) short, n .1);
+        below = λ p b. ltb-true _ _ (all-at (start (h .lens) (h .n)) (λ p. ltb (getD (h .groups) p 0) (h .ng)) (f .1) p b);
+      }
+
+  pub head-passed : Passed m h
+  head-passed =
+      let r = in-range in
+      let some : 1 ≤ h .model = above (h .model) (r .0) in
+      record {
+        long = long;
+        model = (some, ltb-true _ _ (r .1));
+        range = bounds (dataIn m h) (r .2);
+        lists = lists;
+      }
+    where
+      above : (k : ℕ) → (k ≡ 0 → ⊥) → 1 ≤ k
+      above k n = omega arith
+
+-- ---- fractions that pass
+
+pub fractions-fit : (m : Memory) (h : Head) (x : List Float) → fractionsFault m h x ≡ 0 → length x ≤ 12
+unfolding fractionsFault mixFault
+fractions-fit m h x e =
+    let f = first-is (headFault m h) _ e in
+    let long : length x ≡ h .n = eqb-true (length x) (h .n) (passed (eqb (length x) (h .n)) 0 7 (nought 6) (first-is (compositionFault tolerance x) _ (f .1) .1) .0) in
+    omega (arith, long, head-passed m h (f .0) .range .few)

@@ -1,0 +1,495 @@
+-- Demand 3. Memory and head keep what the book holds: the values by name, T and fractions, and of every cell whether it
+-- was touched since the last answered query and, if not, its exponential. Each call keeps that and answers as the book
+-- does, so every list of calls does. Assumes nothing.
+use mathlib.Core.Path.{_≡_, refl, sym, ap, ap₂, _∙_, subst}
+use mathlib.Core.Bool.{Bool, true, false, not, _&&_, _||_, cond, Bool·not-not}
+use mathlib.Core.List.{List, [], _∷_}
+use mathlib.Core.Logic.{inl, inr}
+use mathlib.Core.Option.{Option, none, some}
+use Prim.Native.Nat.{ℕ, _+_, _*_, _/_, _%_, _-_, _<_, _≤_}
+use native.Mathlib.Omega.{arith}
+use lib.Dec.{ltb, eqb}
+use lib.ListN.{length, getD, drop, replicate, length-append, length-drop, List·getD-append}
+use lib.Seq.{length-sets}
+use lib.Ieee.{Float, nan}
+use borrow.Author.Tests.{lt-ltb, eq-eqb, ne-eqb, eqb-true}
+use Rattle.arithmetic.specs.Floats.{+0}
+use Rattle.arithmetic.specs.Tables.{at, grid}
+use Rattle.arithmetic.proofs.Differences.{either}
+use Rattle.arithmetic.proofs.TableLaws.{cell-lt, cell-row, cell-column}
+use Rattle.models.specs.declared.answers.Quantity.{Quantity}
+use Rattle.models.specs.Answers.{indexFault}
+use Rattle.models.specs.Composition.{tolerance, compositionFault}
+use Rattle.models.specs.Values.{start, lists}
+use Rattle.mixture.specs.declared.head.Head.{Head}
+use Rattle.mixture.specs.declared.head.Model.the-variants.{Unifac}
+use Rattle.mixture.specs.declared.setting.Setting.{Setting}
+use Rattle.mixture.specs.declared.setting.Setting.the-variants.{Temperature, Entry, TdEntry, Size, Count}
+use Rattle.mixture.specs.declared.answers.Answer.{Answer}
+use Rattle.mixture.specs.declared.answers.Answer.the-variants.{Done, Value}
+use Rattle.mixture.specs.Answers.{numberOf, unless}
+use Rattle.mixture.specs.Lists.{written, padded, anyOf, howMany}
+use Rattle.mixture.specs.Names.{ModelData, Held, held, width, isCell, inputs}
+use Rattle.mixture.specs.Faults.{dataFault, caseFault, mixFault}
+use Rattle.mixture.specs.Memory.{Memory, memory, leastValues, leastCells, leastMarks, After, after}
+use Rattle.mixture.specs.Layout.{dataIn, place, numbers, cellAt}
+use Rattle.mixture.specs.Calls.{memoryFault, inRange, headFault, outcome, freshHead, afterOpen, loadFault, loadedHead, loadedMemory, afterLoad, settingFault, stales, stalesAt, setMemory, setHead, afterSetting, fractionsFault, withFractions, afterFractions, queryFault, exponential, valueBy, staleAt, worked, answered, afterQuery}
+use Rattle.mixture.specs.Book.{Call, Open, Load, Set, Fractions, Query, Book, book, empty, setIn, setT, setModel, bookAfter, gives, touched, touchedCells, plain, having, bookAnswer, isQuery, accepted, sinceAfter, bookAnswers}
+use Rattle.mixture.specs.History.{afterCall, answers, History}
+use Rattle.mixture.proofs.ListLaws.{never, or-none, length-written, getD-written, howMany-rows, howManyPairs-same}
+use Rattle.mixture.proofs.PlaceLaws.{both, passed, nought, sizeOf, start-next}
+use Rattle.mixture.proofs.StoreLaws.{stored}
+use Rattle.mixture.proofs.AgreeLaws.{Alike, Agrees, caseFault-same, width-same, isCell-same, alike-refl, agrees-trans, set-alike, set-agrees, store-agrees}
+use Rattle.mixture.proofs.RangeLaws.{Long, short-no, long-is, first-is, Sound, sound, bounds}
+use Rattle.mixture.proofs.LoadLaws.{left-inRange, left-number, left-unset, left-agrees}
+use Rattle.mixture.proofs.CellLaws.{exponential-same, exponential-still, setT-still, stales-inputs, load-inputs, fractions-inputs, valueBy-same, plain-is}
+
+-- ---- what memory and head keep of a book
+
+abbrev KeptT : Option Float → Head → Type 0
+KeptT none h = h .«has_t» ≡ false
+KeptT (some T) h = (h .«has_t» ≡ true) × (h .t ≡ T)
+
+abbrev KeptX : Option (List Float) → ℕ → Head → Type 0
+KeptX none n h = h .«has_x» ≡ false
+KeptX (some x) n h = (h .«has_x» ≡ true) × (length x ≡ n) × (h .x ≡ padded 12 +0 x)
+
+record KeptModel (m : Memory) (h : Head) (d : Held) (T : Option Float) (x : Option (List Float)) (since : List Call) : Type 0 where
+  number : h .model ≡ 0 → ⊥
+  range : (ltb (h .model) 5 && inRange (dataIn m h)) ≡ true
+  agrees : Agrees (held (dataIn m h)) d
+  keptT : KeptT T h
+  keptX : KeptX x (d .n) h
+  marks : (i j : ℕ) → i < width d → j < width d → isCell d i j ≡ true
+      → eqb (getD (m .marks) (i * width d + j) 0) 1 ≡ not (touched (d .model) since i j)
+  cells : (i j : ℕ) → i < width d → j < width d → isCell d i j ≡ true → touched (d .model) since i j ≡ false
+      → (U : Float) → T ≡ some U → grid (width d) (m .cells) i j ≡ exponential d U i j
+
+abbrev Kept : Memory → Head → Option Held → Option Float → Option (List Float) → List Call → Type 0
+Kept m h none T x since = h .model ≡ 0
+Kept m h (some d) T x since = KeptModel m h d T x since
+
+record Keeps (m : Memory) (h : Head) (b : Book) (since : List Call) : Type 0 where
+  long : Long m
+  kept : Kept m h (b .model) (b .T) (b .x) since
+
+-- ---- one call
+
+-- the answer is the book's, and memory and head keep the book that the call leaves
+record Step (a : After) (b : Book) (since : List Call) (c : Call) : Type 0 where
+  answer : a .reply .answer ≡ bookAnswer b since c
+  done : accepted b since c ≡ true → Keeps (a .memory) (a .reply .head) (bookAfter b c) (sinceAfter since c)
+  refused : accepted b since c ≡ false → Keeps (a .memory) (a .reply .head) b since
+
+-- by the number of the refusal
+step-by : (fault k : ℕ) (m : Memory) (h : Head) (a : After) (v : Answer) (b : Book) (since : List Call) (c : Call)
+    → Keeps m h b since → fault ≡ k → bookAnswer b since c ≡ unless k v → numberOf v ≡ 0
+    → (k ≡ 0 → (a .reply .answer ≡ v) × Keeps (a .memory) (a .reply .head) (bookAfter b c) (sinceAfter since c))
+    → Step (outcome fault m h a) b since c
+unfolding numberOf
+step-by fault k m h a v b since c kept e s z f =
+    elim (either (eqb k 0)) [
+      | inl t ↦
+          let g = f (eqb-true k 0 t) in
+          rw (e, t)
+          (record {
+            answer = g .0 ∙ sym (s ∙ rw t);
+            done = λ _. g .1;
+            refused = λ q. never (sym (rw (s, t, z)) ∙ q);
+          })
+      | inr t ↦
+          rw (e, t)
+          (record {
+            answer = sym (s ∙ rw t);
+            done = λ q. never (sym q ∙ rw (s, t) t);
+            refused = λ _. kept;
+          })
+    ]
+
+-- ---- the faults of memory and head
+
+head-none : (m : Memory) (h : Head) → Long m → h .model ≡ 0 → headFault m h ≡ 8
+unfolding headFault
+head-none m h l e = rw (short-no m l, eq-eqb (h .model) 0 e)
+
+head-fine : (m : Memory) (h : Head) → Long m → (h .model ≡ 0 → ⊥) → (ltb (h .model) 5 && inRange (dataIn m h)) ≡ true → headFault m h ≡ 0
+unfolding headFault
+head-fine m h l n r = rw (short-no m l, ne-eqb (h .model) 0 n, r)
+
+-- ---- open
+
+step-open : (m : Memory) (h : Head) (b : Book) (since : List Call) → Keeps m h b since → Step (afterOpen m h) b since Open
+unfolding afterOpen bookAnswer bookAfter empty numberOf
+step-open m h b since k =
+    step-by (memoryFault m) 0 m h (after m (freshHead 0 0 0 [] []) Done) Done b since Open k (short-no m (k .long)) refl refl
+    (λ _. (refl, record { long = k .long; kept = refl }))
+
+-- ---- cells at their places
+
+-- the place of i, j is that of a cell where i, j is one
+cellAt-is : (c d : Held) → Alike c d → (i j : ℕ) → i < width d → j < width d → cellAt c (i * width d + j) ≡ isCell d i j
+unfolding cellAt
+cellAt-is c d a i j hi hj =
+    rw (width-same c d a, lt-ltb _ _ (cell-lt (width d) (width d) i j hi hj), cell-row (width d) i j hj, cell-column (width d) i j hj) (isCell-same c d a i j)
+
+-- the cells of a head in range have room
+room : (e : ModelData) (d : Held) → inRange e ≡ true → Alike (held e) d → width d * width d ≤ 1024
+room e d r a = rw (width-same (held e) d a) at (bounds e r .cells)
+
+mark-room : (marks : List ℕ) (w : ℕ) → leastMarks ≤ length marks → w * w ≤ 1024 → (i j : ℕ) → i < w → j < w → i * w + j < length marks
+unfolding leastMarks
+mark-room marks w l r i j hi hj = omega (arith, cell-lt w w i j hi hj)
+
+-- a mark after those that pass were made 0
+stale-mark : (p : ℕ → Bool) (marks : List ℕ) (c : ℕ) → c < length marks → p c ≡ true → getD (written p (λ c. 0) marks) c 0 ≡ 0
+stale-mark p marks c h t = getD-written p (λ c. 0) marks c 0 h ∙ rw t
+
+-- ---- load
+
+load-kept : (m : Memory) (d : ModelData) (since : List Call) → Long m → Sound d
+    → KeptModel (loadedMemory m d) (loadedHead d) (held d) none none (Load d ∷ since)
+unfolding touched anyOf loadedMemory
+load-kept m d since l s =
+    let k = d .model in
+    let range : inRange (dataIn (loadedMemory m d) (loadedHead d)) ≡ true = left-inRange m (d .n) (d .ng) (d .lens) (d .groups) (d .values) k s in
+    let agrees = left-agrees m (d .n) (d .ng) (d .lens) (d .groups) (d .values) k s in
+    let number = left-number m (d .n) (d .ng) (d .lens) (d .groups) (d .values) k in
+    let unset = left-unset m (d .n) (d .ng) (d .lens) (d .groups) (d .values) k in
+    record {
+      number = number .0;
+      range = rw (number .1) range;
+      agrees = agrees;
+      keptT = unset .0;
+      keptX = unset .1;
+      marks = λ i j hi hj c.
+          rw (
+            load-inputs k d i j,
+            stale-mark (cellAt (held d)) (m .marks) (i * width (held d) + j) (mark-room (m .marks) (width (held d)) (l .marks) (room _ (held d) range (agrees .alike)) i j hi hj)
+                (cellAt-is (held d) (held d) (alike-refl (held d)) i j hi hj ∙ c),
+          );
+      cells = λ i j hi hj c t. never (sym (rw (load-inputs k d i j)) ∙ t);
+    }
+
+load-long : (m : Memory) (d : ModelData) → Long m → Long (loadedMemory m d)
+unfolding loadedMemory
+load-long m d l =
+    record {
+      values = rw (length-append (d .values) (drop (length (d .values)) (m .values)), length-drop (length (d .values)) (m .values)) (omega (arith, l .values));
+      cells = l .cells;
+      marks = rw (length-written (cellAt (held d)) (λ c. 0) (m .marks)) (l .marks);
+    }
+
+step-load : (m : Memory) (h : Head) (b : Book) (since : List Call) (d : ModelData) → Keeps m h b since → Step (afterLoad m h d) b since (Load d)
+unfolding afterLoad loadFault bookAnswer bookAfter sinceAfter isQuery numberOf
+step-load m h b since d k =
+    step-by (loadFault m d) (dataFault d) m h (after (loadedMemory m d) (loadedHead d) Done) Done b since (Load d) k (rw (short-no m (k .long))) refl refl
+    (λ z. (refl, record { long = load-long m d (k .long); kept = load-kept m d since (k .long) (sound d z) }))
+
+-- ---- setting
+
+-- a setting leaves the head's model, sizes and lists
+set-data : (m : Memory) (h : Head) (s : Setting) → dataIn (setMemory m (dataIn m h) s) (setHead h s) ≡ stored (dataIn m h) s
+unfolding setMemory setHead
+set-data m h (Temperature T) = refl
+set-data m h (Entry i j v) = refl
+set-data m h (TdEntry i j p) = refl
+set-data m h (Size i w v) = refl
+set-data m h (Count i j v) = refl
+
+set-number : (h : Head) (s : Setting) → setHead h s .model ≡ h .model
+unfolding setHead
+set-number h (Temperature T) = refl
+set-number h (Entry i j v) = refl
+set-number h (TdEntry i j p) = refl
+set-number h (Size i w v) = refl
+set-number h (Count i j v) = refl
+
+set-keptT : (h : Head) (s : Setting) (T : Option Float) → KeptT T h → KeptT (setT s T) (setHead h s)
+unfolding setHead setT
+set-keptT h (Temperature U) T k = (refl, refl)
+set-keptT h (Entry i j v) T k = k
+set-keptT h (TdEntry i j p) T k = k
+set-keptT h (Size i w v) T k = k
+set-keptT h (Count i j v) T k = k
+
+set-keptX : (h : Head) (s : Setting) (x : Option (List Float)) (n : ℕ) → KeptX x n h → KeptX x n (setHead h s)
+unfolding setHead
+set-keptX h (Temperature U) none n k = k
+set-keptX h (Temperature U) (some x) n k = k
+set-keptX h (Entry i j v) x n k = k
+set-keptX h (TdEntry i j p) x n k = k
+set-keptX h (Size i w v) x n k = k
+set-keptX h (Count i j v) x n k = k
+
+mark-step : (t u : Bool) (x y : ℕ) → y ≡ cond t 0 x → eqb x 1 ≡ not u → eqb y 1 ≡ not (t || u)
+mark-step true u x y e h = rw e
+mark-step false u x y e h = rw e h
+
+stales-same : (c d : Held) → Alike c d → (s : Setting) (i j : ℕ) → stales c s i j ≡ stales d s i j
+unfolding stales
+stales-same c d a (Temperature T) i j = refl
+stales-same c d a (Entry r q v) i j = rw (a .model)
+stales-same c d a (TdEntry r q p) i j = refl
+stales-same c d a (Size r w v) i j = refl
+stales-same c d a (Count r q v) i j = refl
+
+module _ (m : Memory) (h : Head) (d : Held) (T : Option Float) (x : Option (List Float)) (since : List Call) (l : Long m) (k : KeptModel m h d T x since) where
+  abbrev e : ModelData
+  e = dataIn m h
+
+  in-range : inRange e ≡ true
+  in-range = both (ltb (h .model) 5) (inRange e) (k .range) .1
+
+  stalesAt-is : (s : Setting) (i j : ℕ) → i < width d → j < width d → isCell d i j ≡ true → stalesAt (held e) s (i * width d + j) ≡ stales d s i j
+  unfolding stalesAt
+  stalesAt-is s i j hi hj c =
+      rw (cellAt-is (held e) d (k .agrees .alike) i j hi hj, c, width-same (held e) d (k .agrees .alike), cell-row (width d) i j hj, cell-column (width d) i j hj)
+      (stales-same (held e) d (k .agrees .alike) s i j)
+
+  set-range : (s : Setting) → (ltb (setHead h s .model) 5 && inRange (dataIn (setMemory m e s) (setHead h s))) ≡ true
+  unfolding inRange
+  set-range s = subst (λ (z : ModelData). (ltb (setHead h s .model) 5 && inRange z) ≡ true) (sym (set-data m h s)) (rw (set-number h s) (k .range))
+
+  values-room : sizeOf e ≤ length (m .values)
+  unfolding leastValues
+  values-room = omega (arith, bounds e in-range .values, l .values)
+
+  set-agree : (s : Setting) → caseFault d s ≡ 0 → Agrees (held (dataIn (setMemory m e s) (setHead h s))) (setIn s d)
+  set-agree s f =
+      subst (λ (z : ModelData). Agrees (held z) (setIn s d)) (sym (set-data m h s))
+      (agrees-trans (store-agrees e s (caseFault-same (held e) d (k .agrees .alike) s ∙ f) values-room) (set-agrees (held e) d (k .agrees) s))
+
+  -- touched by the setting, or before
+  touched-more : (c : Call) (i j : ℕ) → touched (d .model) (c ∷ since) i j ≡ (anyOf (inputs (d .model) i j) (gives c) || touched (d .model) since i j)
+  unfolding touched anyOf
+  touched-more c i j = refl
+
+  set-marks : (s : Setting) → caseFault d s ≡ 0 → (i j : ℕ) → i < width d → j < width d → isCell d i j ≡ true
+      → eqb (getD (setMemory m e s .marks) (i * width d + j) 0) 1 ≡ not (touched (d .model) (Set s ∷ since) i j)
+  unfolding setMemory
+  set-marks s f i j hi hj c =
+      rw (touched-more (Set s) i j, ← (stales-inputs d s i j f))
+      (mark-step (stales d s i j) (touched (d .model) since i j) (getD (m .marks) (i * width d + j) 0) _
+      (getD-written (stalesAt (held e) s) (λ c. 0) (m .marks) (i * width d + j) 0 (mark-room (m .marks) (width d) (l .marks) (room e d in-range (k .agrees .alike)) i j hi hj)
+      ∙ rw (stalesAt-is s i j hi hj c))
+      (k .marks i j hi hj c))
+
+  set-cells : (s : Setting) → caseFault d s ≡ 0 → (i j : ℕ) → i < width d → j < width d → isCell d i j ≡ true
+      → touched (d .model) (Set s ∷ since) i j ≡ false → (U : Float) → setT s T ≡ some U → grid (width d) (setMemory m e s .cells) i j ≡ exponential (setIn s d) U i j
+  unfolding setMemory
+  set-cells s f i j hi hj c t U p =
+      let b = or-none (stales d s i j) (touched (d .model) since i j) (ap (λ (z : Bool). z || touched (d .model) since i j) (stales-inputs d s i j f) ∙ sym (touched-more (Set s) i j) ∙ t) in
+      k .cells i j hi hj c (b .1) U (sym (setT-still d s i j T (b .0)) ∙ p) ∙ sym (exponential-still d s U i j (b .0))
+
+  set-kept : (s : Setting) → caseFault d s ≡ 0 → KeptModel (setMemory m e s) (setHead h s) (setIn s d) (setT s T) x (Set s ∷ since)
+  set-kept s f =
+      let a = set-alike s d in
+      let w : width d ≡ width (setIn s d) = width-same d (setIn s d) a in
+      record {
+        number = rw (set-number h s) (k .number);
+        range = set-range s;
+        agrees = set-agree s f;
+        keptT = set-keptT h s T (k .keptT);
+        keptX = subst (λ (n : ℕ). KeptX x n (setHead h s)) (a .n) (set-keptX h s x (d .n) (k .keptX));
+        marks = λ i j hi hj c. rw (← w, ← (a .model)) (set-marks s f i j (rw w hi) (rw w hj) (isCell-same d (setIn s d) a i j ∙ c));
+        cells = λ i j hi hj c t U p. rw (← w) (set-cells s f i j (rw w hi) (rw w hj) (isCell-same d (setIn s d) a i j ∙ c) (rw (a .model) t) U p);
+      }
+
+set-long : (m : Memory) (e : ModelData) (s : Setting) → Long m → Long (setMemory m e s)
+unfolding setMemory
+set-long m e s l =
+    record {
+      values = rw (length-sets (m .values) (place e s) (numbers s)) (l .values);
+      cells = l .cells;
+      marks = rw (length-written _ (λ c. 0) (m .marks)) (l .marks);
+    }
+
+step-set : (m : Memory) (h : Head) (o : Option Held) (T : Option Float) (x : Option (List Float)) (since : List Call) (s : Setting)
+    → Keeps m h (book o T x) since → Step (afterSetting m h s) (book o T x) since (Set s)
+unfolding afterSetting settingFault bookAnswer having bookAfter setModel sinceAfter isQuery numberOf
+step-set m h none T x since s k =
+    step-by (settingFault m h s) 8 m h (after (setMemory m (dataIn m h) s) (setHead h s) Done) Done (book none T x) since (Set s) k
+    (rw (head-none m h (k .long) (k .kept))) refl refl (λ z. absurd (nought 7 z))
+step-set m h (some d) T x since s k =
+    step-by (settingFault m h s) (caseFault d s) m h (after (setMemory m (dataIn m h) s) (setHead h s) Done) Done (book (some d) T x) since (Set s) k
+    (rw (head-fine m h (k .long) (k .kept .number) (k .kept .range)) (caseFault-same (held (dataIn m h)) d (k .kept .agrees .alike) s)) refl refl
+    (λ z. (refl, record { long = set-long m (dataIn m h) s (k .long); kept = set-kept m h d T x since (k .long) (k .kept) s z }))
+
+-- ---- fractions
+
+mix-length : (n : ℕ) (x : List Float) → mixFault n x ≡ 0 → length x ≡ n
+unfolding mixFault
+mix-length n x z = eqb-true (length x) n (passed (eqb (length x) n) 0 7 (nought 6) (first-is (compositionFault tolerance x) (cond (eqb (length x) n) 0 7) z .1) .0)
+
+fractions-keptT : (h : Head) (T : Option Float) (x : List Float) → KeptT T h → KeptT T (withFractions h x)
+fractions-keptT h none x k = k
+fractions-keptT h (some T) x k = k
+
+fractions-kept : (m : Memory) (h : Head) (d : Held) (T : Option Float) (o : Option (List Float)) (since : List Call) (x : List Float) → length x ≡ d .n
+    → KeptModel m h d T o since → KeptModel m (withFractions h x) d T (some x) (Fractions x ∷ since)
+unfolding touched anyOf
+fractions-kept m h d T o since x n k =
+    record {
+      number = k .number;
+      range = k .range;
+      agrees = k .agrees;
+      keptT = fractions-keptT h T x (k .keptT);
+      keptX = (refl, n, refl);
+      marks = λ i j hi hj c. rw (← (fractions-inputs (d .model) x i j)) (k .marks i j hi hj c);
+      cells = λ i j hi hj c t. k .cells i j hi hj c (rw (← (fractions-inputs (d .model) x i j)) at t);
+    }
+
+step-fractions : (m : Memory) (h : Head) (o : Option Held) (T : Option Float) (u : Option (List Float)) (since : List Call) (x : List Float)
+    → Keeps m h (book o T u) since → Step (afterFractions m h x) (book o T u) since (Fractions x)
+unfolding afterFractions fractionsFault bookAnswer having bookAfter sinceAfter isQuery numberOf
+step-fractions m h none T u since x k =
+    step-by (fractionsFault m h x) 8 m h (after m (withFractions h x) Done) Done (book none T u) since (Fractions x) k
+    (rw (head-none m h (k .long) (k .kept))) refl refl (λ z. absurd (nought 7 z))
+step-fractions m h (some d) T u since x k =
+    step-by (fractionsFault m h x) (mixFault (d .n) x) m h (after m (withFractions h x) Done) Done (book (some d) T u) since (Fractions x) k
+    (rw (head-fine m h (k .long) (k .kept .number) (k .kept .range)) (ap (λ (n : ℕ). mixFault n x) (k .kept .agrees .alike .n))) refl refl
+    (λ z. (refl, record { long = k .long; kept = fractions-kept m h d T u since x (mix-length (d .n) x z) (k .kept) }))
+
+-- ---- query
+
+some-is : (T U : Float) → _≡_ {A = Option Float} (some T) (some U) → T ≡ U
+some-is T U e = cc
+
+module _ (m : Memory) (h : Head) (d : Held) (T : Float) (x : List Float) (since : List Call) (l : Long m) (k : KeptModel m h d (some T) (some x) since) where
+  abbrev c : Held
+  c = held (dataIn m h)
+
+  range : inRange (dataIn m h) ≡ true
+  range = both (ltb (h .model) 5) (inRange (dataIn m h)) (k .range) .1
+
+  same : width c ≡ width d
+  same = width-same c d (k .agrees .alike)
+
+  small : width d * width d ≤ 1024
+  small = room (dataIn m h) d range (k .agrees .alike)
+
+  -- a place is stale where it is that of a touched cell
+  stale-is : (i j : ℕ) → i < width d → j < width d → staleAt m c (i * width d + j) ≡ (isCell d i j && touched (d .model) since i j)
+  unfolding staleAt
+  stale-is i j hi hj =
+      rw (cellAt-is c d (k .agrees .alike) i j hi hj)
+      (elim (either (isCell d i j)) [
+        | inl t ↦ rw (t, k .marks i j hi hj t) (Bool·not-not (touched (d .model) since i j))
+        | inr t ↦ rw t
+      ])
+
+  -- after the query every cell is marked fresh, and is its exponential
+  fresh : (i j : ℕ) → i < width d → j < width d → isCell d i j ≡ true → eqb (getD (worked m c (h .t) .marks) (i * width d + j) 0) 1 ≡ true
+  unfolding worked
+  fresh i j hi hj t =
+      rw (getD-written (staleAt m c) (λ c. 1) (m .marks) (i * width d + j) 0 (mark-room (m .marks) (width d) (l .marks) small i j hi hj), stale-is i j hi hj, t)
+      (elim (either (touched (d .model) since i j)) [
+        | inl u ↦ rw u
+        | inr u ↦ rw u (k .marks i j hi hj t ∙ rw u)
+      ])
+
+  right : (i j : ℕ) → i < width d → j < width d → isCell d i j ≡ true → grid (width d) (worked m c (h .t) .cells) i j ≡ exponential d T i j
+  unfolding worked leastCells
+  right i j hi hj t =
+      rw (
+        getD-written (staleAt m c) (λ p. exponential c (h .t) (p / width c) (p % width c)) (m .cells) (i * width d + j) nan (omega (arith, cell-lt (width d) (width d) i j hi hj, l .cells, small)),
+        stale-is i j hi hj,
+        t,
+      )
+      (elim (either (touched (d .model) since i j)) [
+        | inl u ↦ rw (u, same, cell-row (width d) i j hj, cell-column (width d) i j hj, k .keptT .1) (exponential-same c d (k .agrees) T i j hi hj)
+        | inr u ↦ rw u (k .cells i j hi hj t u T refl)
+      ])
+
+  known : d .model ≡ Unifac → (i p : ℕ) → i < d .n → p < d .lists .length i → d .lists .group i p < d .ng
+  unfolding lists
+  known e i p hi hp =
+      let g = k .agrees .alike .groups e in
+      subst (λ (z : ℕ). z < d .ng) (g .group i p hi hp)
+      (subst (λ (z : ℕ). c .lists .group i p < z) (g .ng)
+      (bounds (dataIn m h) range .groups (k .agrees .alike .model ∙ e) (start (h .lens) i + p)
+      (start-next (h .lens) i (h .n) p (rw (k .agrees .alike .n) hi) (rw (g .length i hi) hp))))
+
+  fraction : (i : ℕ) → i < d .n → at (h .x) i ≡ at x i
+  fraction i b = rw (k .keptX .2) (List·getD-append x (replicate (12 - length x) +0) nan i (rw (k .keptX .1) b))
+
+  value : (q : Quantity) → indexFault (d .n) q ≡ 0 → valueBy c (h .t) (grid (width c) (worked m c (h .t) .cells)) (at (h .x)) q ≡ plain d T x q
+  value q z =
+      valueBy-same c d (k .agrees) (h .t) (grid (width c) (worked m c (h .t) .cells)) (exponential d T) (at (h .x)) (at x)
+      (λ i j hi hj t. rw same (right i j hi hj t)) fraction known q z
+      ∙ rw (k .keptT .1) (plain-is d T x q)
+
+  count : howMany (width c * width c) (staleAt m c) ≡ touchedCells d since
+  unfolding touchedCells
+  count = rw same (howMany-rows (width d) (width d) (staleAt m c) ∙ howManyPairs-same (width d) (width d) _ _ stale-is)
+
+  query-kept : (q : Quantity) → KeptModel (worked m c (h .t)) h d (some T) (some x) []
+  unfolding worked touched anyOf
+  query-kept q =
+      record {
+        number = k .number;
+        range = k .range;
+        agrees = k .agrees;
+        keptT = k .keptT;
+        keptX = k .keptX;
+        marks = fresh;
+        cells = λ i j hi hj t u U e. right i j hi hj t ∙ ap (λ (t : Float). exponential d t i j) (some-is T U e);
+      }
+
+work-long : (m : Memory) (h : Head) (d : Held) → Long m → Long (worked m (held (dataIn m h)) (h .t))
+unfolding worked
+work-long m h d l =
+    record {
+      values = l .values;
+      cells = rw (length-written _ _ (m .cells)) (l .cells);
+      marks = rw (length-written _ _ (m .marks)) (l .marks);
+    }
+
+step-query : (m : Memory) (h : Head) (o : Option Held) (T : Option Float) (x : Option (List Float)) (since : List Call) (q : Quantity)
+    → Keeps m h (book o T x) since → Step (afterQuery m h q) (book o T x) since (Query q)
+unfolding afterQuery queryFault answered bookAnswer having bookAfter sinceAfter isQuery numberOf
+step-query m h none T x since q k =
+    step-by (queryFault m h q) 8 m h (answered m (held (dataIn m h)) h q) Done (book none T x) since (Query q) k
+    (rw (head-none m h (k .long) (k .kept))) refl refl (λ z. absurd (nought 7 z))
+step-query m h (some d) none x since q k =
+    step-by (queryFault m h q) 9 m h (answered m (held (dataIn m h)) h q) Done (book (some d) none x) since (Query q) k
+    (rw (head-fine m h (k .long) (k .kept .number) (k .kept .range), k .kept .keptT)) refl refl (λ z. absurd (nought 8 z))
+step-query m h (some d) (some T) none since q k =
+    step-by (queryFault m h q) 9 m h (answered m (held (dataIn m h)) h q) Done (book (some d) (some T) none) since (Query q) k
+    (rw (head-fine m h (k .long) (k .kept .number) (k .kept .range), k .kept .keptT .0, k .kept .keptX)) refl refl (λ z. absurd (nought 8 z))
+step-query m h (some d) (some T) (some x) since q k =
+    step-by (queryFault m h q) (indexFault (d .n) q) m h (answered m (held (dataIn m h)) h q) (Value (plain d T x q) (touchedCells d since))
+    (book (some d) (some T) (some x)) since (Query q) k
+    (rw (head-fine m h (k .long) (k .kept .number) (k .kept .range), k .kept .keptT .0, k .kept .keptX .0) (ap (λ (n : ℕ). indexFault n q) (k .kept .agrees .alike .n))) refl refl
+    (λ z. (
+      ap₂ Value (value m h d T x since (k .long) (k .kept) q z) (count m h d T x since (k .long) (k .kept)),
+      record { long = work-long m h d (k .long); kept = query-kept m h d T x since (k .long) (k .kept) q },
+    ))
+
+-- ---- every list
+
+step : (m : Memory) (h : Head) (b : Book) (since : List Call) (c : Call) → Keeps m h b since → Step (afterCall m h c) b since c
+unfolding afterCall
+step m h b since Open k = step-open m h b since k
+step m h b since (Load d) k = step-load m h b since d k
+step m h b since (Set s) k = step-set m h (b .model) (b .T) (b .x) since s k
+step m h b since (Fractions x) k = step-fractions m h (b .model) (b .T) (b .x) since x k
+step m h b since (Query q) k = step-query m h (b .model) (b .T) (b .x) since q k
+
+follows : (cs : List Call) (m : Memory) (h : Head) (b : Book) (since : List Call) → Keeps m h b since → answers m h cs ≡ bookAnswers b since cs
+unfolding answers bookAnswers
+follows [] m h b since k = refl
+follows (c ∷ cs) m h b since k =
+    let s = step m h b since c k in
+    rw (s .answer)
+    (ap (λ (z : List Answer). bookAnswer b since c ∷ z)
+    (elim (either (accepted b since c)) [
+      | inl t ↦ rw t (follows cs _ _ (bookAfter b c) (sinceAfter since c) (s .done t))
+      | inr t ↦ rw t (follows cs _ _ b since (s .refused t))
+    ]))
+
+pub history : History
+unfolding answers afterCall afterOpen empty
+history m h cs s =
+    rw (short-no m (long-is m s))
+    (ap (λ (z : List Answer). Done ∷ z) (follows cs m (freshHead 0 0 0 [] []) empty [] (record { long = long-is m s; kept = refl })))

@@ -1,0 +1,15 @@
+pub mod ListLaws
+pub mod PlaceLaws
+pub mod StoreLaws
+pub mod AgreeLaws
+pub mod RangeLaws
+pub mod LoadLaws
+pub mod CellLaws
+pub mod History
+pub mod Writes
+pub mod RowLaws
+pub mod Plain
+pub mod WrittenBack
+pub mod CountLaws
+pub mod CopyLaws
+pub mod CallLaws

@@ -1,0 +1,76 @@
+-- Lists written at places, padded lists, and counts by rows or in one run. Assumes nothing.
+use mathlib.Core.Path.{_≡_, refl, ap}
+use mathlib.Core.Bool.{Bool, true, false, _||_, cond}
+use mathlib.Core.List.{List, [], _∷_, _++_}
+use Prim.Native.Nat.{ℕ, zero, suc, _+_, _*_, _<_}
+use native.Mathlib.Nat.{add-zero, add-suc, suc-mul, zero-mul, add-assoc}
+use native.Mathlib.Omega.{arith}
+use lib.ListN.{length, getD, replicate}
+use Rattle.mixture.specs.Lists.{written, howMany, howManyPairs}
+
+-- ---- cases
+
+pub never : {A : Type 0} → _≡_ {A = Bool} true false → A
+never h = let z : _≡_ {A = ℕ} 1 0 = ap (λ (x : Bool). cond x 1 0) h in absurd (omega arith)
+
+pub or-none : (a b : Bool) → (a || b) ≡ false → (a ≡ false) × (b ≡ false)
+or-none true b h = never h
+or-none false b h = (refl, h)
+
+-- ---- a list written at places
+
+pub length-written : {A : Type 0} (p : ℕ → Bool) (f : ℕ → A) (l : List A) → length (written p f l) ≡ length l
+unfolding written
+length-written p f [] = refl
+length-written p f (a ∷ l) = ap suc (length-written (λ k. p (suc k)) (λ k. f (suc k)) l)
+
+pub getD-written : {A : Type 0} (p : ℕ → Bool) (f : ℕ → A) (l : List A) (c : ℕ) (d : A) → c < length l
+    → getD (written p f l) c d ≡ cond (p c) (f c) (getD l c d)
+unfolding written
+getD-written p f [] c d h = absurd (omega arith)
+getD-written p f (a ∷ l) zero d h = refl
+getD-written p f (a ∷ l) (suc c) d h = getD-written (λ k. p (suc k)) (λ k. f (suc k)) l c d (omega arith)
+
+-- a place that doesn't pass is kept
+pub getD-kept : {A : Type 0} (p : ℕ → Bool) (f : ℕ → A) (l : List A) (c : ℕ) (d : A) → p c ≡ false → getD (written p f l) c d ≡ getD l c d
+unfolding written
+getD-kept p f [] c d h = refl
+getD-kept p f (a ∷ l) zero d h = rw h
+getD-kept p f (a ∷ l) (suc c) d h = getD-kept (λ k. p (suc k)) (λ k. f (suc k)) l c d h
+
+-- ---- padded lists
+
+getD-zeros : {A : Type 0} (m : ℕ) (z : A) (c : ℕ) → getD (replicate m z) c z ≡ z
+getD-zeros zero z c = refl
+getD-zeros (suc m) z zero = refl
+getD-zeros (suc m) z (suc c) = getD-zeros m z c
+
+-- a reading that gives z past the end doesn't see z's past the end
+pub getD-past : {A : Type 0} (m : ℕ) (z : A) (l : List A) (c : ℕ) → getD (l ++ replicate m z) c z ≡ getD l c z
+getD-past m z [] c = getD-zeros m z c
+getD-past m z (a ∷ l) zero = refl
+getD-past m z (a ∷ l) (suc c) = getD-past m z l c
+
+-- ---- counts
+
+pub howMany-same : (n : ℕ) (p q : ℕ → Bool) → ((k : ℕ) → k < n → p k ≡ q k) → howMany n p ≡ howMany n q
+unfolding howMany
+howMany-same zero p q h = refl
+howMany-same (suc n) p q h = rw (howMany-same n p q (λ k b. h k (omega arith)), h n (omega arith))
+
+pub howMany-add : (m n : ℕ) (p : ℕ → Bool) → howMany (m + n) p ≡ howMany m p + howMany n (λ j. p (m + j))
+unfolding howMany
+howMany-add m zero p = rw (add-zero m, add-zero)
+howMany-add m (suc n) p = rw (add-suc m n, howMany-add m n p, add-assoc)
+
+-- rows of n one after the other
+pub howMany-rows : (m n : ℕ) (p : ℕ → Bool) → howMany (m * n) p ≡ howManyPairs m n (λ i j. p (i * n + j))
+unfolding howMany howManyPairs
+howMany-rows zero n p = rw (zero-mul n)
+howMany-rows (suc m) n p = rw (suc-mul m n, howMany-add (m * n) n p, howMany-rows m n p)
+
+pub howManyPairs-same : (m n : ℕ) (p q : ℕ → ℕ → Bool) → ((i j : ℕ) → i < m → j < n → p i j ≡ q i j) → howManyPairs m n p ≡ howManyPairs m n q
+unfolding howManyPairs
+howManyPairs-same zero n p q h = refl
+howManyPairs-same (suc m) n p q h =
+    rw (howManyPairs-same m n p q (λ i j b c. h i j (omega arith) c), howMany-same n (p m) (q m) (λ j c. h m j (omega arith) c))

@@ -1,0 +1,24 @@
+-- 1 and 8 of the head first; then those of the fractions.
+use Rattle.models.proofs.AnswerLaws.{first-left, first-right}
+use Rattle.mixture.specs.Calls.{fractionsFault}
+use borrow.Author.Needs.{needs}
+use Rattle.mixture.proofs.fractions.fractions_fault.Statement.{statement}
+use Rattle.mixture.proofs.fractions.fractions_fault.Tie as tie
+
+head-fault-requires : tie.Need-head-fault-requires
+head-fault-requires c κs = search needs
+
+returns : tie.Need-returns
+unfolding fractionsFault
+returns c = λ m e. first-left _ (c .before .head-fault .ensures m e) (c .if1 .taken)
+
+mix-fault-requires : tie.Need-mix-fault-requires
+mix-fault-requires c κs = search needs
+
+returns-2 : tie.Need-returns-2
+unfolding fractionsFault
+returns-2 c = λ m e. first-right (c .before .before .head-fault .ensures m e) (c .before .if1 .left) (c .mix-fault .ensures .0)
+
+pub fractions-fault-spec : {M : Type 1} → statement M
+fractions-fault-spec =
+    tie.close (tie.spec head-fault-requires returns mix-fault-requires returns-2)

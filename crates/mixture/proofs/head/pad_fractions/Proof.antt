@@ -1,0 +1,64 @@
+-- The fractions copied into zeros: before each turn the places passed are copied, and the rest are still 0.
+use mathlib.Core.Path.{_≡_, refl}
+use mathlib.Core.List.{_++_}
+use Prim.Native.Nat.{_-_, _≤_}
+use native.Mathlib.Omega.{arith}
+use lib.Ieee.{nan, ofBits}
+use Rattle.arithmetic.specs.Floats.{+0}
+use denote.Ref.{now}
+use lib.ListN.{length, take, drop, replicate}
+use Rattle.mixture.proofs.CopyLaws.{copy-turn, pad-done}
+use Rattle.mixture.proofs.head.pad_fractions.Statement.{statement}
+use Rattle.mixture.proofs.head.pad_fractions.Tie as tie
+
+abbrev Inv-loop : tie.InvT-loop
+Inv-loop s r₀ k₀ k-end r k = (k ≤ length s) × (r ≡ take k s ++ drop k (replicate 12 +0))
+
+abbrev μ-loop : tie.MeasureT-loop
+μ-loop s r₀ k₀ k-end r k = length s - k
+
+loop-holds : tie.Need-loop-holds Inv-loop μ-loop
+unfolding ofBits
+loop-holds c = (omega arith, refl)
+
+mul-r : tie.Need-mul-r Inv-loop μ-loop
+mul-r c = omega arith
+
+shared-slice-read-r : tie.Need-shared-slice-read-r Inv-loop μ-loop
+shared-slice-read-r c = omega arith
+
+mul-r-2 : tie.Need-mul-r-2 Inv-loop μ-loop
+mul-r-2 c = omega arith
+
+array-write-r : tie.Need-array-write-r Inv-loop μ-loop
+array-write-r c = omega arith
+
+add-k : tie.Need-add-k Inv-loop μ-loop
+add-k c = omega arith
+
+loop-less : tie.Need-loop-less Inv-loop μ-loop
+loop-less c = omega arith
+
+loop-again : tie.Need-loop-again Inv-loop μ-loop
+loop-again c =
+    let top = c .before .before in
+    (omega arith, copy-turn nan _ (replicate 12 +0) _ _ (top .loop .inv .1) (top .before .pre) (c .before .loop-test .taken))
+
+returns : tie.Need-returns Inv-loop μ-loop
+returns c = pad-done +0 12 (now (c .before .before .args .s)) _ (c .before .loop .k) (c .before .loop .inv .1) (omega arith)
+
+pub pad-fractions-spec : {M : Type 1} → statement M
+pad-fractions-spec =
+    tie.close
+    (tie.spec
+    Inv-loop
+    μ-loop
+    loop-holds
+    mul-r
+    shared-slice-read-r
+    mul-r-2
+    array-write-r
+    add-k
+    loop-less
+    loop-again
+    returns)

@@ -1,0 +1,47 @@
+-- Where the lent memory keeps what document 01 names: values in the strip's order, cells and marks by full rows.
+use mathlib.Core.Bool.{Bool, _&&_, cond}
+use mathlib.Core.List.{List, [], _∷_}
+use Prim.Native.Nat.{ℕ, _+_, _*_, _/_, _%_}
+use lib.Dec.{ltb, eqb}
+use lib.Ieee.{Float}
+use Rattle.models.specs.Values.{countsAt, start}
+use Rattle.mixture.specs.declared.head.Head.{Head}
+use Rattle.mixture.specs.declared.head.Model.{Model}
+use Rattle.mixture.specs.declared.head.Model.the-variants.{Wilson, Uniquac, Nrtl, Unifac}
+use Rattle.mixture.specs.declared.setting.Setting.{Setting}
+use Rattle.mixture.specs.declared.setting.Setting.the-variants.{Temperature, Entry, TdEntry, Size, Count}
+use Rattle.mixture.specs.Names.{byModel, ModelData, Held, width, isCell}
+use Rattle.mixture.specs.Memory.{Memory}
+
+-- the model of a head's number from 1 to 4
+unfoldable pub modelOf : ℕ → Model
+modelOf k = cond (eqb k 1) Wilson (cond (eqb k 2) Uniquac (cond (eqb k 3) Nrtl Unifac))
+
+-- what memory and head hold, as a load brings it
+abbrev pub dataIn : Memory → Head → ModelData
+dataIn m h =
+    record { model = modelOf (h .model); n = h .n; ng = h .ng; lens = h .lens; groups = h .groups; values = m .values }
+
+-- ---- values
+
+-- a setting's numbers
+abbrev pub numbers : Setting → List Float
+numbers (Temperature T) = []
+numbers (Entry i j v) = v ∷ []
+numbers (TdEntry i j p) = p .a ∷ p .b ∷ p .c ∷ p .d ∷ p .e ∷ []
+numbers (Size i which v) = v ∷ []
+numbers (Count i j v) = v ∷ []
+
+-- the place that they stand from
+unfoldable pub place : ModelData → Setting → ℕ
+place d (Temperature T) = 0
+place d (Entry i j v) = byModel (d .model) (i * d .n + j) (i * d .n + j) (d .n * d .n * 5 + (i * d .n + j)) 0
+place d (TdEntry i j p) = byModel (d .model) 0 0 ((i * d .n + j) * 5) (d .ng + d .ng + (i * d .ng + j) * 5)
+place d (Size i which v) = byModel (d .model) (d .n * d .n + i) (d .n * d .n + (which * d .n + i)) 0 (which * d .ng + i)
+place d (Count i j v) = byModel (d .model) 0 0 0 (countsAt (d .ng) + (start (d .lens) i + j))
+
+-- ---- cells and marks
+
+-- the place c is that of a cell, in row c / w and column c % w
+unfoldable pub cellAt : Held → ℕ → Bool
+cellAt d c = ltb c (width d * width d) && isCell d (c / width d) (c % width d)

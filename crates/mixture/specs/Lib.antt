@@ -1,0 +1,11 @@
+pub mod Answers
+pub mod Lists
+pub mod Names
+pub mod Faults
+pub mod Memory
+pub mod Layout
+pub mod Calls
+pub mod Book
+pub mod History
+pub mod Writes
+pub mod Plain

@@ -1,0 +1,115 @@
+// The head, which goes in and comes back by value.
+ghost use mathlib.Core.Path.{_≡_};
+ghost use mathlib.Core.Bool.{false};
+ghost use mathlib.Core.List.{[]};
+ghost use Prim.Native.Nat.{_≤_};
+ghost use lib.ListN.{length, replicate};
+ghost use Rattle.arithmetic.specs.Floats.{+0};
+ghost use Rattle.mixture.specs.Lists.{padded};
+ghost use Rattle.mixture.specs.Calls.{freshHead, headWith};
+
+pub enum Model {
+    Wilson,
+    Uniquac,
+    Nrtl,
+    Unifac,
+}
+
+// The model's number is 0 for none, 1 Wilson, 2 UNIQUAC, 3 NRTL, 4 UNIFAC. Groups stand list after list.
+pub struct Head {
+    pub model: u8,
+    pub n: usize,
+    pub ng: usize,
+    pub lens: [u8; 12],
+    pub groups: [u8; 144],
+    pub t: f64,
+    pub x: [f64; 12],
+    pub has_t: bool,
+    pub has_x: bool,
+}
+
+// The bytes, with 0 in the places past them.
+fn pad_lens(s: &[u8]) -> [u8; 12]
+    requires { ⌜ length (now s) ≤ 12 ⌝ }
+    ensures { λ r. ⌜ r ≡ padded 12 0 (now (s .entry)) ⌝ }
+{
+    let mut r = [0u8; 12];
+    for k in 0..s.len() {
+        r[k] = s[k];
+    }
+    r
+}
+
+fn pad_groups(s: &[u8]) -> [u8; 144]
+    requires { ⌜ length (now s) ≤ 144 ⌝ }
+    ensures { λ r. ⌜ r ≡ padded 144 0 (now (s .entry)) ⌝ }
+{
+    let mut r = [0u8; 144];
+    for k in 0..s.len() {
+        r[k] = s[k];
+    }
+    r
+}
+
+// The fractions, with 0 in the places past them.
+pub fn pad_fractions(s: &[f64]) -> [f64; 12]
+    requires { ⌜ length (now s) ≤ 12 ⌝ }
+    ensures { λ r. ⌜ r ≡ padded 12 +0 (now (s .entry)) ⌝ }
+{
+    let mut r = [0.0; 12];
+    for k in 0..s.len() {
+        r[k] = s[k];
+    }
+    r
+}
+
+// A head with T and fractions unset.
+fn unset_head(model: u8, n: usize, ng: usize, lens: [u8; 12], groups: [u8; 144]) -> Head
+    ensures { λ r. ⌜ r ≡ record { model = model; n = n; ng = ng; lens = lens; groups = groups; t = +0; x = replicate 12 +0; «has_t» = false; «has_x» = false } ⌝ }
+{
+    Head {
+        model: model,
+        n: n,
+        ng: ng,
+        lens: lens,
+        groups: groups,
+        t: 0.0,
+        x: [0.0; 12],
+        has_t: false,
+        has_x: false,
+    }
+}
+
+// A head with T and fractions unset and no lists.
+pub fn bare_head(model: u8, n: usize) -> Head
+    ensures { λ r. ⌜ r ≡ freshHead model n 0 [] [] ⌝ }
+{
+    unset_head(model, n, 0, [0u8; 12], [0u8; 144])
+}
+
+// UNIFAC's head with T and fractions unset.
+pub fn listed_head(n: usize, ng: usize, lens: &[u8], groups: &[u8]) -> Head
+    requires { ⌜ (length (now lens) ≤ 12) × (length (now groups) ≤ 144) ⌝ }
+    ensures { λ r. ⌜ r ≡ freshHead 4 n ng (now (lens .entry)) (now (groups .entry)) ⌝ }
+{
+    unset_head(4, n, ng, pad_lens(lens), pad_groups(groups))
+}
+
+// The head with another T and other fractions.
+pub fn head_with(head: Head, t: f64, has_t: bool, x: [f64; 12], has_x: bool) -> Head
+    ensures { λ r. ⌜ r ≡ headWith head t «has_t» x «has_x» ⌝ }
+{
+    let lens = head.lens;
+    let groups = head.groups;
+    Head {
+        model: head.model,
+        n: head.n,
+        ng: head.ng,
+        lens: lens,
+        groups: groups,
+        t: t,
+        x: x,
+        has_t: has_t,
+        has_x: has_x,
+    }
+}

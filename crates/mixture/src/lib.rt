@@ -1,0 +1,13 @@
+// A mixture that keeps its exponentials in lent memory. Document 01, "Mixture".
+pub mod answers;
+pub mod faults;
+pub mod fractions;
+pub mod head;
+pub mod open;
+pub mod setting;
+
+pub use answers::Answer;
+pub use answers::Reply;
+pub use head::Head;
+pub use head::Model;
+pub use setting::Setting;

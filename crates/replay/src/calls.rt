@@ -1,0 +1,174 @@
+// A line of a model's list: what is asked (0 ln γ of i, 1 γ of i, 2 the excess energy), i, n, ng, the
+// lengths of the group lists, the groups, the values, T, the fractions; then the number of the
+// refusal, 0 for none, and the value, 0 for none. The four rows have their lengths before them.
+use crate::lists::Line;
+use crate::words;
+use crate::words::Word;
+use arithmetic::bytes::float_of;
+use models::Answer;
+use models::Quantity;
+
+pub enum Model {
+    Wilson,
+    Uniquac,
+    Nrtl,
+    Unifac,
+}
+
+fn answer(
+    model: Model,
+    n: usize,
+    ng: usize,
+    lens: &[u8],
+    groups: &[u8],
+    values: &[f64],
+    t: f64,
+    x: &[f64],
+    q: Quantity,
+) -> Answer {
+    match model {
+        Model::Wilson => models::wilson::plain(n, values, t, x, q),
+        Model::Uniquac => models::uniquac::plain(n, values, t, x, q),
+        Model::Nrtl => models::nrtl::plain(n, values, t, x, q),
+        Model::Unifac => models::unifac::plain(n, ng, lens, groups, values, t, x, q),
+    }
+}
+
+fn is_stored(a: Answer, number: u64, value: u64) -> bool {
+    match a {
+        Answer::Value(v) => {
+            if number != 0 {
+                return false;
+            }
+            words::has_bits(v, value)
+        }
+        Answer::Refused(k) => {
+            if number != k as u64 {
+                return false;
+            }
+            value == 0
+        }
+    }
+}
+
+// The answer, held against the line's last two words.
+fn held(fd: i32, a: Answer) -> Line {
+    let Word::Bits(number) = words::next(fd, b' ') else {
+        return Line::Broken;
+    };
+    let Word::Bits(value) = words::next(fd, b'\n') else {
+        return Line::Broken;
+    };
+    if is_stored(a, number, value) {
+        Line::Same
+    } else {
+        Line::Differs
+    }
+}
+
+// From the fractions on.
+fn with_values(
+    fd: i32,
+    model: Model,
+    n: usize,
+    ng: usize,
+    lens: &[u8],
+    groups: &[u8],
+    values: &[f64],
+    t: f64,
+    q: Quantity,
+) -> Line {
+    let count = words::count(fd);
+    if 16 < count {
+        return Line::Broken;
+    }
+    let mut x = [0.0; 16];
+    if !words::fill_floats(fd, &mut x[..], count) {
+        return Line::Broken;
+    }
+    held(
+        fd,
+        answer(model, n, ng, lens, groups, values, t, &x[..count], q),
+    )
+}
+
+// From the values on.
+fn with_lists(
+    fd: i32,
+    model: Model,
+    n: usize,
+    ng: usize,
+    lens: &[u8],
+    groups: &[u8],
+    q: Quantity,
+) -> Line {
+    let count = words::count(fd);
+    if 5328 < count {
+        return Line::Broken;
+    }
+    let mut values = [0.0; 5328];
+    if !words::fill_floats(fd, &mut values[..], count) {
+        return Line::Broken;
+    }
+    let Word::Bits(t) = words::next(fd, b' ') else {
+        return Line::Broken;
+    };
+    with_values(
+        fd,
+        model,
+        n,
+        ng,
+        lens,
+        groups,
+        &values[..count],
+        float_of(t),
+        q,
+    )
+}
+
+// From the groups on.
+fn with_lens(fd: i32, model: Model, n: usize, ng: usize, lens: &[u8], q: Quantity) -> Line {
+    let count = words::count(fd);
+    if 160 < count {
+        return Line::Broken;
+    }
+    let mut groups = [0u8; 160];
+    if !words::fill_bytes(fd, &mut groups[..], count) {
+        return Line::Broken;
+    }
+    with_lists(fd, model, n, ng, lens, &groups[..count], q)
+}
+
+// From the lengths of the lists on.
+fn with_quantity(fd: i32, model: Model, n: usize, ng: usize, q: Quantity) -> Line {
+    let count = words::count(fd);
+    if 16 < count {
+        return Line::Broken;
+    }
+    let mut lens = [0u8; 16];
+    if !words::fill_bytes(fd, &mut lens[..], count) {
+        return Line::Broken;
+    }
+    with_lens(fd, model, n, ng, &lens[..count], q)
+}
+
+// A line whose first word has been read.
+pub fn line(fd: i32, model: Model, asked: u64) -> Line {
+    let Word::Bits(i) = words::next(fd, b' ') else {
+        return Line::Broken;
+    };
+    let Word::Bits(n) = words::next(fd, b' ') else {
+        return Line::Broken;
+    };
+    let Word::Bits(ng) = words::next(fd, b' ') else {
+        return Line::Broken;
+    };
+    let n = n as usize;
+    let ng = ng as usize;
+    match asked {
+        0 => with_quantity(fd, model, n, ng, Quantity::LnGamma(i as usize)),
+        1 => with_quantity(fd, model, n, ng, Quantity::Gamma(i as usize)),
+        2 => with_quantity(fd, model, n, ng, Quantity::ExcessGibbs),
+        _ => Line::Broken,
+    }
+}

@@ -1,0 +1,151 @@
+//! The original's answer to a plain call, with its refusals as document 01's numbers.
+
+use crate::case::{Answer, Case, Quantity, NRTL, UNIFAC, UNIQUAC, WILSON};
+use crate::compare::bits;
+use original::nrtl::Nrtl;
+use original::parameters::{InteractionMatrix, TdMatrix, TdParam, Volumes};
+use original::unifac::{GroupTable, UnifacModel, UnifacVariant};
+use original::uniquac::{StructuralParams, Uniquac};
+use original::wilson::Wilson;
+use tpt_thermo_core::error::ThermoError;
+use tpt_thermo_core::quantities::Temperature;
+
+/// The mapping from the original's texts to document 01's numbers. The texts of wrong sizes don't come up,
+/// since `out_of_range` goes before.
+pub fn number(error: ThermoError) -> u32 {
+    let ThermoError::InvalidInput(text) = error;
+    match text {
+        "UNIFAC group index out of range" => 3,
+        "UNIFAC negative group count" => 4,
+        "empty composition" => 5,
+        "composition does not sum to 1" => 6,
+        "composition/ index mismatch" | "composition length mismatch" => 7,
+        _ => panic!("docs/DIFFERENCES.md has no number for {text:?}"),
+    }
+}
+
+/// How many numbers the model's values are, for an n, ng and lists in range.
+pub fn size(case: &Case) -> Option<usize> {
+    let (n, ng) = (case.n, case.ng);
+    match case.model {
+        WILSON => Some(n * n + n),
+        UNIQUAC => Some(n * n + 2 * n),
+        NRTL => Some(6 * n * n),
+        UNIFAC => Some(2 * ng + 5 * ng * ng + case.groups.len()),
+        _ => None,
+    }
+}
+
+/// Document 01's 2. The original's range is wider, so this isn't asked of it.
+fn out_of_range(case: &Case) -> bool {
+    let lists = || {
+        let places = case.lens.iter().map(|&len| usize::from(len)).sum();
+        (1..=32).contains(&case.ng)
+            && case.lens.len() == case.n
+            && case.lens.iter().all(|&len| len <= 12)
+            && case.groups.len() == places
+    };
+    let fine = (1..=12).contains(&case.n)
+        && (case.model != UNIFAC || lists())
+        && size(case) == Some(case.values.all.len())
+        && case.values.rest.is_empty();
+    !fine
+}
+
+fn energies(values: &[f64], n: usize) -> InteractionMatrix {
+    let mut a = InteractionMatrix::zeros(n);
+    for i in 0..n {
+        for j in 0..n {
+            a.set(i, j, values[i * n + j]);
+        }
+    }
+    a
+}
+
+fn td(five: &[f64]) -> TdParam {
+    let [a, b, c, d, e] = five.try_into().unwrap();
+    TdParam { a, b, c, d, e }
+}
+
+fn wilson(case: &Case) -> Result<Wilson, ThermoError> {
+    let (n, values) = (case.n, &case.values.all);
+    Wilson::new(energies(values, n), Volumes::new(values[n * n..].to_vec()))
+}
+
+fn uniquac(case: &Case) -> Result<Uniquac, ThermoError> {
+    let (n, values) = (case.n, &case.values.all);
+    let (r, q) = values[n * n..].split_at(n);
+    let sizes = r.iter().copied().zip(q.iter().copied()).collect();
+    Uniquac::new(StructuralParams::new(sizes), energies(values, n))
+}
+
+fn nrtl(case: &Case) -> Result<Nrtl, ThermoError> {
+    let (n, values) = (case.n, &case.values.all);
+    let (taus, alphas) = values.split_at(5 * n * n);
+    let mut tau = TdMatrix::zeros(n);
+    for i in 0..n {
+        for j in 0..n {
+            tau.set(i, j, td(&taus[5 * (i * n + j)..][..5]));
+        }
+    }
+    Nrtl::new(tau, alphas.chunks(n).map(<[f64]>::to_vec).collect())
+}
+
+fn unifac(case: &Case) -> Result<UnifacModel, ThermoError> {
+    let (ng, values) = (case.ng, &case.values.all);
+    let (r, rest) = values.split_at(ng);
+    let (q, rest) = rest.split_at(ng);
+    let (a, counts) = rest.split_at(5 * ng * ng);
+    let rows = a.chunks(5 * ng);
+    let a = rows.map(|row| row.chunks(5).map(td).collect()).collect();
+    let mut pairs = case.groups.iter().zip(counts);
+    let lists = case.lens.iter().map(|&len| {
+        let list = pairs.by_ref().take(usize::from(len));
+        list.map(|(&group, &count)| (usize::from(group), count))
+            .collect()
+    });
+    let lists = lists.collect();
+    let table = GroupTable::new(r.to_vec(), q.to_vec(), a)?;
+    // The variant, which the port drops, changes nothing in these calls: both come up.
+    let variant = match case.n % 2 {
+        0 => UnifacVariant::Original,
+        _ => UnifacVariant::Dortmund,
+    };
+    UnifacModel::new(case.n, lists, table, variant)
+}
+
+/// Makes the model and asks it.
+macro_rules! ask {
+    ($make:ident, $case:ident) => {{
+        let model = $make($case)?;
+        let t = Temperature { value: $case.t };
+        let x = &$case.x.all;
+        match $case.quantity {
+            Quantity::LnGamma(i) => model.ln_gamma_at(t, x, i),
+            Quantity::Gamma(i) => model.gamma_at(t, x, i),
+            Quantity::ExcessGibbs => model.reduced_excess_gibbs_at(t, x),
+        }
+    }};
+}
+
+fn asked(case: &Case) -> Result<f64, ThermoError> {
+    match case.model {
+        WILSON => ask!(wilson, case),
+        UNIQUAC => ask!(uniquac, case),
+        NRTL => ask!(nrtl, case),
+        _ => ask!(unifac, case),
+    }
+}
+
+/// What document 01 says that the call answers, with the original's refusals from 3 on and its value. A rest
+/// of the fractions' bytes gives 7, after 5 and 6.
+pub fn answer(case: &Case) -> Answer {
+    if out_of_range(case) {
+        return Answer::Refused(2);
+    }
+    match asked(case) {
+        Err(error) => Answer::Refused(number(error)),
+        Ok(_) if !case.x.rest.is_empty() => Answer::Refused(7),
+        Ok(v) => Answer::Value(bits(v)),
+    }
+}
