@@ -2,29 +2,30 @@
 -- Assumes nothing.
 use mathlib.Core.Path.{_≡_, refl, sym, _∙_}
 use mathlib.Core.Bool.{Bool, true, false, _&&_, cond}
-use mathlib.Core.List.{List}
+use mathlib.Core.List.{List, _++_}
 use Prim.Native.Nat.{ℕ, _<_, _≤_}
 use native.Mathlib.Omega.{arith}
 use lib.Dec.{leb, ltb, eqb}
-use lib.ListN.{length, getD}
+use lib.ListN.{length, getD, drop}
 use lib.Ieee.{Float}
-use borrow.Author.Tests.{ltb-true, leb-true, eqb-true, eqb-false, lt-ltb, le-ltb, eq-eqb, ne-eqb}
+use borrow.Author.Tests.{ltb-true, leb-true, le-leb, eqb-true, eqb-false, lt-ltb, le-ltb, eq-eqb, ne-eqb}
 use Rattle.models.specs.Composition.{tolerance, compositionFault}
 use Rattle.models.specs.Plain.{between, allTo}
 use Rattle.models.specs.Values.{start}
-use Rattle.models.proofs.AnswerLaws.{first-left}
+use Rattle.models.proofs.AnswerLaws.{first-left, first-right}
 use Rattle.mixture.specs.declared.head.Head.{Head}
 use Rattle.mixture.specs.declared.head.Model.{Model}
 use Rattle.mixture.specs.declared.head.Model.the-variants.{Wilson, Uniquac, Nrtl, Unifac}
-use Rattle.mixture.specs.declared.answers.Answer.the-variants.{Refused}
-use Rattle.mixture.specs.Names.{byModel, ModelData}
-use Rattle.mixture.specs.Faults.{mixFault}
-use Rattle.mixture.specs.Memory.{Memory, short, isShort, After, after}
-use Rattle.mixture.specs.Layout.{modelOf, dataIn}
-use Rattle.mixture.specs.Calls.{memoryFault, inRange, headFault, outcome, fractionsFault}
+use Rattle.mixture.specs.declared.answers.Answer.the-variants.{Refused, Done}
+use Rattle.mixture.specs.Lists.{written}
+use Rattle.mixture.specs.Names.{byModel, ModelData, held}
+use Rattle.mixture.specs.Faults.{dataFault, mixFault}
+use Rattle.mixture.specs.Memory.{Memory, memory, leastValues, leastMarks, short, isShort, After, after}
+use Rattle.mixture.specs.Layout.{modelOf, dataIn, cellAt}
+use Rattle.mixture.specs.Calls.{memoryFault, inRange, headFault, outcome, fractionsFault, loadFault, loadedHead, loadedMemory, afterLoad}
 use Rattle.mixture.proofs.ListLaws.{never}
 use Rattle.mixture.proofs.PlaceLaws.{both, passed, spared, nought}
-use Rattle.mixture.proofs.RangeLaws.{between-is, all-at, first-is, start-bound, Bounds, bounds, Long, long-is}
+use Rattle.mixture.proofs.RangeLaws.{between-is, all-at, at-all, first-is, start-bound, Bounds, bounds, Long, long-is, Sound, sound}
 
 module _ (m : Memory) (h : Head) where
   pub refused : (a : After) {f k : ℕ} → k ≡ f → (k ≡ 0 → ⊥) → after m h (Refused k) ≡ outcome f m h a
@@ -154,3 +155,65 @@ fractions-fit m h x e =
     let f = first-is (headFault m h) _ e in
     let long : length x ≡ h .n = eqb-true (length x) (h .n) (passed (eqb (length x) (h .n)) 0 7 (nought 6) (first-is (compositionFault tolerance x) _ (f .1) .1) .0) in
     omega (arith, long, head-passed m h (f .0) .range .few)
+
+-- ---- a load that passes
+
+module _ (d : ModelData) (s : Sound d) where
+  sound-range : inRange d ≡ true
+  unfolding inRange
+  sound-range = go (d .model) refl
+    where
+      go : (k : Model) → d .model ≡ k → inRange d ≡ true
+      go Wilson e = rw (e, le-leb 1 (d .n) (s .some), le-leb (d .n) 12 (s .few))
+      go Uniquac e = rw (e, le-leb 1 (d .n) (s .some), le-leb (d .n) 12 (s .few))
+      go Nrtl e = rw (e, le-leb 1 (d .n) (s .some), le-leb (d .n) 12 (s .few))
+      go Unifac e =
+          let l = s .lists e in
+          rw (
+            e,
+            le-leb 1 (d .n) (s .some),
+            le-leb (d .n) 12 (s .few),
+            le-leb 1 (d .ng) (l .some),
+            le-leb (d .ng) 32 (l .few),
+            at-all (d .n) (λ i. leb (getD (d .lens) i 0) 12) (λ i b. le-leb _ _ (l .short i b)),
+            at-all (start (d .lens) (d .n)) (λ p. ltb (getD (d .groups) p 0) (d .ng)) (λ p b. lt-ltb _ _ (l .group p b)),
+          )
+
+  sound-width : (k : Model) → d .model ≡ k → (1 ≤ byModel k (d .n) (d .n) (d .n) (d .ng)) × (byModel k (d .n) (d .n) (d .n) (d .ng) ≤ 32)
+  sound-width Wilson e = (s .some, omega (arith, s .few))
+  sound-width Uniquac e = (s .some, omega (arith, s .few))
+  sound-width Nrtl e = (s .some, omega (arith, s .few))
+  sound-width Unifac e = (s .lists e .some, s .lists e .few)
+
+pub record Fits (m : Memory) (d : ModelData) : Type 0 where
+  pub values : length (d .values) ≤ length (m .values)
+  pub marks : 1024 ≤ length (m .marks)
+  pub width : (1 ≤ byModel (d .model) (d .n) (d .n) (d .n) (d .ng)) × (byModel (d .model) (d .n) (d .n) (d .n) (d .ng) ≤ 32)
+  pub lists : d .model ≡ Unifac → (length (d .lens) ≤ 12) × (length (d .groups) ≤ 144)
+
+pub load-fits : (m : Memory) (d : ModelData) → memoryFault m ≡ 0 → dataFault d ≡ 0 → Fits m d
+unfolding leastValues leastMarks
+load-fits m d e f =
+    let long = memory-long m e in
+    let s = sound d f in
+    record {
+      values = omega (arith, s .size, bounds d (sound-range d s) .values, long .values);
+      marks = long .marks;
+      width = sound-width d s (d .model) refl;
+      lists = λ u. let l = s .lists u in (omega (arith, l .lens, s .few), omega (arith, l .places, start-bound (d .lens) (d .n) (l .short), s .few));
+    }
+
+module _ (m : Memory) (h : Head) (d : ModelData) where
+  pub load-short : {k : ℕ} → k ≡ memoryFault m → (k ≡ 0 → ⊥) → after m h (Refused k) ≡ afterLoad m h d
+  unfolding afterLoad loadFault
+  load-short e n = refused m h _ (first-left _ e n) n
+
+  pub load-refused : {k : ℕ} → memoryFault m ≡ 0 → k ≡ dataFault d → (k ≡ 0 → ⊥) → after m h (Refused k) ≡ afterLoad m h d
+  unfolding afterLoad loadFault
+  load-refused e f n = refused m h _ (first-right refl e f) n
+
+  pub load-done : {v : List Float} {k : List ℕ} {g : Head} → memoryFault m ≡ 0 → dataFault d ≡ 0
+      → v ≡ d .values ++ drop (length (d .values)) (m .values) → k ≡ written (cellAt (held d)) (λ c. 0) (m .marks) → g ≡ loadedHead d
+      → after (memory v (m .cells) k) g Done ≡ afterLoad m h d
+  unfolding afterLoad loadFault loadedMemory
+  load-done e f v k g = rw (eq-eqb (memoryFault m) 0 e, eq-eqb (dataFault d) 0 f, v, k, g)

@@ -11,5 +11,10 @@ pub mod RowLaws
 pub mod Plain
 pub mod WrittenBack
 pub mod CountLaws
+pub mod RefillLaws
+pub mod SolvedLaws
 pub mod CopyLaws
 pub mod CallLaws
+pub mod QueryLaws
+pub mod StaleLaws
+pub mod BlockLaws

@@ -5,7 +5,9 @@ pub mod Faults
 pub mod Memory
 pub mod Layout
 pub mod Calls
+pub mod Blocks
 pub mod Book
 pub mod History
 pub mod Writes
 pub mod Plain
+pub mod Refills

@@ -3,8 +3,13 @@ pub mod answers;
 pub mod faults;
 pub mod fractions;
 pub mod head;
+pub mod load;
 pub mod open;
+pub mod parts;
+pub mod query;
+pub mod refill;
 pub mod setting;
+pub mod stale;
 
 pub use answers::Answer;
 pub use answers::Reply;

@@ -12,7 +12,7 @@ use lib.Seq.{getD-set-same, getD-set-other}
 use lib.Ieee.{Float, nan}
 use borrow.Author.Tests.{lt-ltb, le-ltb, eq-eqb, ne-eqb, ltb-true, ltb-false, eqb-false}
 use Rattle.arithmetic.specs.Tables.{at, grid, from, Filled}
-use Rattle.arithmetic.proofs.TableLaws.{cell-lt, from-at, back-before, back-within}
+use Rattle.arithmetic.proofs.TableLaws.{cell-lt, from-at, back-before, back-within, by-place}
 use Rattle.models.specs.Exponentials.{energy}
 use Rattle.models.specs.Rows.{rowFilled, OffDiagonal}
 use Rattle.models.specs.Values.{energies}
@@ -30,14 +30,6 @@ unfolding energies
 energy-row n l T i j h b c = energy-same _ _ T T i j (from-at l (i * n) j (omega arith)) (from-at l (i * n) i (omega arith)) refl
 
 -- ---- a row, written entry by entry
-
--- k is below j, at j or above j
-by-place : (k j : ℕ) {P : Type 0} → (k < j → P) → (j ≡ k → P) → (j < k → P) → P
-by-place k j {P} f g h = by-test (ltb k j) refl
-  where
-    by-test : (t : Bool) → ltb k j ≡ t → P
-    by-test true e = f (ltb-true k j e)
-    by-test false e = ⊎-elim g h (eq-or-lt-of-le (ltb-false k j e))
 
 pub row-none : (i : ℕ) (E : ℕ → Float) (l : List Float) (p : ℕ) → Filled (rowFilled 0 i E l) p l
 unfolding rowFilled

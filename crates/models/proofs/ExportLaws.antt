@@ -17,9 +17,9 @@ use Rattle.arithmetic.proofs.SumLaws.{sum-same}
 use Rattle.models.specs.declared.answers.Quantity.{Quantity}
 use Rattle.models.specs.declared.answers.Answer.{Answer}
 use Rattle.models.specs.declared.answers.Answer.the-variants.{Value, Refused}
-use Rattle.models.specs.Answers.{answer, first, indexFault}
+use Rattle.models.specs.Answers.{numberOf, answer, first, indexFault}
 use Rattle.models.specs.Composition.{tolerance, sumFault, compositionFault}
-use Rattle.models.specs.Exports.{loadFault, valueAt, Ready, exportedBy, exported}
+use Rattle.models.specs.Exports.{loadFault, valueAt, Ready, exportedBy, exported, left}
 use Rattle.models.specs.Lists.{Loaded}
 use Rattle.models.specs.Plain.{between, shapeFault, allTo, listsFault, unifacFault, fractionsFault}
 use Rattle.models.specs.Values.{wilsonSize, energies, volumes, uniquacSize, rs, qs, nrtlSize, taus, alphas, countsAt, groupRs, groupQs, groupAs, start, unifacSize, lists}
@@ -215,3 +215,7 @@ pub exported-long : (m n ng : ℕ) (lens groups : List ℕ) (values : List Float
     Refused 2 ≡ exportedBy m n ng lens groups values T x q
 unfolding exportedBy
 exported-long m n ng lens groups values T x q h = answer-refused _ (first-left _ (load-long m n ng lens groups values h) (λ e. omega arith)) (λ e. omega arith)
+
+-- the number and the value of an equal answer
+pub given-as : {a b : Answer} {r : ℕ} (old : Float) {new : Float} → a ≡ b → (r ≡ numberOf a) × (new ≡ left a old) → (r ≡ numberOf b) × (new ≡ left b old)
+given-as old e p = (p .0 ∙ ap numberOf e, p .1 ∙ ap (λ (a : Answer). left a old) e)

@@ -9,6 +9,7 @@ use lib.Dec.{eqb}
 use lib.ListN.{length}
 use borrow.Author.Tests.{eqb-false}
 use lib.Ieee.{Float}
+use Rattle.arithmetic.specs.Exponential.{expOf}
 use Rattle.arithmetic.specs.Floats.{_⊕_, _⊖_, _⊗_, _⊘_}
 use Rattle.arithmetic.specs.Sums.{sum}
 use Rattle.arithmetic.specs.Parameters.{tdAt}
@@ -17,14 +18,15 @@ use Rattle.arithmetic.proofs.Differences.{either}
 use Rattle.arithmetic.proofs.SumLaws.{sum-same}
 use Rattle.arithmetic.proofs.TableLaws.{from-at, cell-lt, upto-below}
 use Rattle.models.specs.declared.answers.Quantity.{Quantity}
+use Rattle.models.specs.declared.answers.Quantity.the-variants.{LnGamma, Gamma, ExcessGibbs}
 use Rattle.models.specs.Answers.{indexFault}
-use Rattle.models.specs.Columns.{unitDiagonal, columnSum}
+use Rattle.models.specs.Columns.{unitAt, unitDiagonal, columnSum}
 use Rattle.models.specs.Exponentials.{nonrandomness}
 use Rattle.models.specs.Nrtl.{tauAt, tau, numerator, lnGamma, excess, nrtl, nrtlAt}
 use Rattle.models.specs.Rows.{OffDiagonal}
 use Rattle.models.specs.Values.{fiveAt, tdGrid, taus, alphas}
-use Rattle.models.proofs.AnswerLaws.{quantity-same}
-use Rattle.models.proofs.ColumnLaws.{unit-same, column-same}
+use Rattle.models.proofs.AnswerLaws.{index-ln, index-gamma, quantity-ln, quantity-gamma, quantity-excess, quantity-same}
+use Rattle.models.proofs.ColumnLaws.{unit-row, unit-same, column-same}
 
 -- the row lent as a part gives the table's entry
 pub tau-row : (n : ℕ) (l : List Float) (i j : ℕ) → i * n + n ≤ length l → j < n → tauAt i (at (from (i * n) l)) j ≡ tau (grid n l) i j
@@ -46,13 +48,34 @@ plus-same p q = rw (p, q)
 -- ---- the sums worked out once
 
 module _ (n : ℕ) (τ G : ℕ → ℕ → Float) (x : ℕ → Float) {u d : List Float} (us : Filled (numerator n τ G x) n u) (ds : Filled (columnSum n (unitDiagonal G) x) n d) where
-  pub ln-hoisted : (i : ℕ) → i < n → at u i ⊘ at d i ⊕ sum n (λ j. x j ⊗ unitDiagonal G i j ⊘ at d j ⊗ (tau τ i j ⊖ at u j ⊘ at d j)) ≡ lnGamma n τ G x i
+  ln-hoisted : (i : ℕ) → i < n → at u i ⊘ at d i ⊕ sum n (λ j. x j ⊗ unitDiagonal G i j ⊘ at d j ⊗ (tau τ i j ⊖ at u j ⊘ at d j)) ≡ lnGamma n τ G x i
   unfolding lnGamma
   ln-hoisted i b = plus-same (rw (us .each i b, ds .each i b)) (sum-same n _ _ (λ j c. rw (us .each j c, ds .each j c)))
 
-  pub excess-hoisted : sum n (λ i. x i ⊗ at u i ⊘ at d i) ≡ excess n τ G x
+  excess-hoisted : sum n (λ i. x i ⊗ at u i ⊘ at d i) ≡ excess n τ G x
   unfolding excess
   excess-hoisted = sum-same n _ _ (λ i b. rw (us .each i b, ds .each i b))
+
+  -- what `value_over` answers for each quantity
+  pub nrtl-ln : {q : Quantity} {i : ℕ} {v : Float} → q ≡ LnGamma i → indexFault n q ≡ 0 →
+      v ≡ at u i ⊘ at d i ⊕ sum n (λ j. x j ⊗ unitDiagonal G i j ⊘ at d j ⊗ (tau τ i j ⊖ at u j ⊘ at d j)) → v ≡ nrtl n τ G x q
+  unfolding nrtl
+  nrtl-ln {q} {i} e z p = quantity-ln (lnGamma n τ G x) (excess n τ G x) e (p ∙ ln-hoisted i (index-ln e z))
+
+  pub nrtl-gamma : {q : Quantity} {i : ℕ} {v w : Float} → q ≡ Gamma i → indexFault n q ≡ 0 →
+      w ≡ at u i ⊘ at d i ⊕ sum n (λ j. x j ⊗ unitDiagonal G i j ⊘ at d j ⊗ (tau τ i j ⊖ at u j ⊘ at d j)) → v ≡ expOf w → v ≡ nrtl n τ G x q
+  unfolding nrtl
+  nrtl-gamma {q} {i} e z p r = quantity-gamma (lnGamma n τ G x) (excess n τ G x) e (p ∙ ln-hoisted i (index-gamma e z)) r
+
+  pub nrtl-excess : {q : Quantity} {v : Float} → q ≡ ExcessGibbs → v ≡ sum n (λ i. x i ⊗ at u i ⊘ at d i) → v ≡ nrtl n τ G x q
+  unfolding nrtl
+  nrtl-excess e p = quantity-excess (lnGamma n τ G x) (excess n τ G x) e (p ∙ excess-hoisted)
+
+-- the second sum over the rows that start at i
+pub second-rows : (n : ℕ) (tl gl : List Float) (u d x : ℕ → Float) (i : ℕ) {v : Float} → i * n + n ≤ length tl → i * n + n ≤ length gl →
+    v ≡ sum n (λ j. x j ⊗ unitAt i (at (from (i * n) gl)) j ⊘ d j ⊗ (tauAt i (at (from (i * n) tl)) j ⊖ u j ⊘ d j)) →
+    u i ⊘ d i ⊕ v ≡ u i ⊘ d i ⊕ sum n (λ j. x j ⊗ unitDiagonal (grid n gl) i j ⊘ d j ⊗ (tau (grid n tl) i j ⊖ u j ⊘ d j))
+second-rows n tl gl u d x i h k p = plus-same refl (p ∙ sum-same n _ _ (λ j b. rw (unit-row n gl i j k b, tau-row n tl i j h b)))
 
 -- ---- equal entries, equal values
 

@@ -9,6 +9,7 @@ use lib.Dec.{eqb}
 use lib.ListN.{getD, length, take}
 use lib.Ieee.{Float}
 use Rattle.arithmetic.specs.Floats.{_⊕_, _⊖_, _⊗_, _⊘_, +0, one}
+use Rattle.arithmetic.specs.Exponential.{expOf}
 use Rattle.arithmetic.specs.Logarithm.{logOf}
 use Rattle.arithmetic.specs.Parameters.{tdAt}
 use Rattle.arithmetic.specs.Sums.{fold, sum}
@@ -17,6 +18,7 @@ use Rattle.arithmetic.specs.declared.parameters.TdParam.{TdParam}
 use Rattle.arithmetic.proofs.SumLaws.{fold-same, sum-same}
 use Rattle.arithmetic.proofs.TableLaws.{row-end, row-next, flat-cell, filled-cell, from-at, from-length, upto-below, back-before, back-within, by-place}
 use Rattle.models.specs.declared.answers.Quantity.{Quantity}
+use Rattle.models.specs.declared.answers.Quantity.the-variants.{LnGamma, Gamma, ExcessGibbs}
 use Rattle.models.specs.declared.unifac.Shared.{Shared}
 use Rattle.models.specs.Answers.{indexFault, quantity}
 use Rattle.models.specs.Columns.{columnSum}
@@ -25,7 +27,7 @@ use Rattle.models.specs.Lists.{Listed, Loaded}
 use Rattle.models.specs.Unifac.{Groups, size, sizeSum, combinatorialBy, combinatorial, counts, amount, amounts, fraction, pureCount, pureFraction, theta, lnGroup, mixed, pure, residual, lnGamma, excess, unifac, unifacAt}
 use Rattle.models.specs.UnifacSteps.{psiBy, Shares, lnFrom}
 use Rattle.models.specs.Values.{start, fiveAt, countsAt, groupRs, groupQs, groupAs, lists}
-use Rattle.models.proofs.AnswerLaws.{quantity-same}
+use Rattle.models.proofs.AnswerLaws.{quantity-ln, quantity-gamma, quantity-excess, quantity-same}
 use Rattle.models.proofs.ListLaws.{start-same, list-place, listed-less, list-group}
 
 -- ---- an exponential
@@ -243,10 +245,20 @@ module _ (n ng : ℕ) (c : Groups) (R Q : ℕ → Float) (Ψ : ℕ → ℕ → F
         residual-same (lists i h) (at (s .gamma)) (mixed n ng c Q Ψ x) P P (all .groups .each) (λ k b. refl),
       )
 
-  pub unifac-shared : (q : Quantity) → indexFault n q ≡ 0 →
+  unifac-shared : (q : Quantity) → indexFault n q ≡ 0 →
       quantity q (lnFrom s c (pure ng c Q Ψ)) (sum n (λ i. x i ⊗ lnFrom s c (pure ng c Q Ψ) i)) ≡ unifac n ng c R Q Ψ x q
   unfolding unifac excess
   unifac-shared q z = quantity-same n q _ _ _ _ z (ln-shared (pure ng c Q Ψ)) (sum-same n _ _ (λ i h. rw (ln-shared (pure ng c Q Ψ) i h)))
+
+  -- what `over` answers for each quantity
+  pub unifac-ln : {q : Quantity} {i : ℕ} {v : Float} → q ≡ LnGamma i → indexFault n q ≡ 0 → v ≡ lnFrom s c (pure ng c Q Ψ) i → v ≡ unifac n ng c R Q Ψ x q
+  unifac-ln {q} e z p = quantity-ln _ _ e p ∙ unifac-shared q z
+
+  pub unifac-gamma : {q : Quantity} {i : ℕ} {v w : Float} → q ≡ Gamma i → indexFault n q ≡ 0 → w ≡ lnFrom s c (pure ng c Q Ψ) i → v ≡ expOf w → v ≡ unifac n ng c R Q Ψ x q
+  unifac-gamma {q} e z p r = quantity-gamma _ _ e p r ∙ unifac-shared q z
+
+  pub unifac-excess : {q : Quantity} {v : Float} → q ≡ ExcessGibbs → indexFault n q ≡ 0 → v ≡ sum n (λ i. x i ⊗ lnFrom s c (pure ng c Q Ψ) i) → v ≡ unifac n ng c R Q Ψ x q
+  unifac-excess {q} e z p = quantity-excess (lnFrom s c (pure ng c Q Ψ)) _ e p ∙ unifac-shared q z
 
 -- ---- lists and values in slices
 

@@ -16,7 +16,6 @@ ghost use Rattle.models.specs.UnifacSteps.{psiBy, lnFrom, Shares};
 ghost use Rattle.models.specs.Values.{lists, countsAt, groupRs, groupQs, groupAs};
 use crate::answers::Answer;
 use crate::answers::Quantity;
-use arithmetic::TdParam;
 
 // Ψ of column k: row is the part of the td entries, five each, that starts at its row; ln is log(T).
 pub fn psi(row: &[f64], t: f64, ln: f64, k: usize) -> f64

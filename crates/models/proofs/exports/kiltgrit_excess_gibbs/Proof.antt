@@ -4,11 +4,8 @@ use Prim.Native.Nat.{ℕ, zero, suc, _+_, _*_, _-_, _<_, _≤_}
 use native.Mathlib.Omega.{arith}
 use borrow.Author.Needs.{needs}
 use lib.ListN.{length, getD}
-use lib.Ieee.{Float}
 use denote.Ref.{now}
-use Rattle.models.specs.declared.answers.Answer.{Answer}
-use Rattle.models.specs.Answers.{numberOf}
-use Rattle.models.specs.Exports.{left}
+use Rattle.models.proofs.ExportLaws.{given-as}
 use Rattle.models.proofs.exports.kiltgrit_excess_gibbs.Statement.{statement}
 use Rattle.models.proofs.exports.kiltgrit_excess_gibbs.Tie as tie
 
@@ -19,7 +16,7 @@ give-requires : tie.Need-give-requires
 give-requires c κs = search needs
 
 returns : tie.Need-returns
-returns c = let said = c .before .before .call .ensures in (c .give .ensures .0 ∙ ap numberOf said, c .give .ensures .1 ∙ ap (λ (a : Answer). left a (now (c .before .before .before .before .before .before .before .args .value))) said)
+returns c = given-as (now (c .before .before .before .before .before .before .before .args .value)) (c .before .before .call .ensures) (c .give .ensures)
 
 pub kiltgrit-excess-gibbs-spec : {M : Type 1} → statement M
 kiltgrit-excess-gibbs-spec = tie.close (tie.spec call-requires give-requires returns)

@@ -13,9 +13,7 @@ use Rattle.arithmetic.specs.Tables.{at, grid, Filled}
 use Rattle.arithmetic.proofs.TableLaws.{row-end, from-length}
 use Rattle.models.specs.Columns.{unitAt, unitDiagonal}
 use Rattle.models.specs.Nrtl.{tauAt}
-use Rattle.arithmetic.proofs.SumLaws.{sum-same}
-use Rattle.models.proofs.ColumnLaws.{unit-row}
-use Rattle.models.proofs.NrtlLaws.{tau-row}
+use Rattle.models.proofs.NrtlLaws.{second-rows}
 use Rattle.models.proofs.nrtl.ln_gamma.Statement.{statement}
 use Rattle.models.proofs.nrtl.ln_gamma.Tie as tie
 
@@ -74,12 +72,8 @@ second-requires c κs =
 returns : tie.Need-returns
 returns c =
     let start = c .before .before .before .before .before .before .before .before .before .before in
-    let n = start .args .n in
-    let i = start .args .i in
-    ap (λ (v : Float). at (now (start .args .u)) i ⊘ at (now (start .args .d)) i ⊕ v)
-    (c .second .ensures
-    ∙ sum-same n _ _
-    (λ j b. rw (unit-row n (now (start .args .g)) i j (omega (arith, ends start)) b, tau-row n (now (start .args .tau)) i j (omega (arith, ends start)) b)))
+    second-rows (start .args .n) (now (start .args .tau)) (now (start .args .g)) (at (now (start .args .u))) (at (now (start .args .d))) (at (now (start .args .x))) (start .args .i)
+    (omega (arith, ends start)) (omega (arith, ends start)) (c .second .ensures)
 
 pub ln-gamma-spec : {M : Type 1} → statement M
 ln-gamma-spec =

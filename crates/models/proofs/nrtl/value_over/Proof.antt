@@ -6,9 +6,8 @@ use borrow.Author.Needs.{needs}
 use lib.ListN.{length, getD}
 use denote.Ref.{now}
 use Rattle.arithmetic.specs.Tables.{at, grid}
-use Rattle.models.specs.Nrtl.{lnGamma, excess, nrtl}
-use Rattle.models.proofs.AnswerLaws.{index-ln, index-gamma, quantity-ln, quantity-gamma, quantity-excess}
-use Rattle.models.proofs.NrtlLaws.{ln-hoisted, excess-hoisted}
+use Rattle.models.proofs.AnswerLaws.{index-ln, index-gamma}
+use Rattle.models.proofs.NrtlLaws.{nrtl-ln, nrtl-gamma, nrtl-excess}
 use Rattle.models.proofs.nrtl.value_over.Statement.{statement}
 use Rattle.models.proofs.nrtl.value_over.Tie as tie
 
@@ -62,38 +61,14 @@ excess-by-requires : tie.Need-excess-by-requires
 excess-by-requires c κs = search needs
 
 returns : tie.Need-returns
-unfolding nrtl
-returns c =
-    let start = c .before .before .before .before .before .before .before .before .before .before .before in
-    let τ = grid (start .args .n) (now (start .args .tau)) in
-    let G = grid (start .args .n) (now (start .args .g)) in
-    let x = at (now (start .args .x)) in
-    let asked = c .before .before .before .before .q .given .1 in
-    quantity-ln (lnGamma (start .args .n) τ G x) (excess (start .args .n) τ G x) asked
-    (c .ln-gamma .ensures ∙ ln-hoisted (start .args .n) τ G x (c .before .before .before .before .before .before .before .numerators .ensures) (c .before .before .before .before .before .before .unit-column-sums .ensures) _ (index-ln asked (start .pre .4)))
+returns c = nrtl-ln (c .before .before .before .before .before .before .before .before .before .before .before .args .n) (grid (c .before .before .before .before .before .before .before .before .before .before .before .args .n) (now (c .before .before .before .before .before .before .before .before .before .before .before .args .tau))) (grid (c .before .before .before .before .before .before .before .before .before .before .before .args .n) (now (c .before .before .before .before .before .before .before .before .before .before .before .args .g))) (at (now (c .before .before .before .before .before .before .before .before .before .before .before .args .x))) (c .before .before .before .before .before .before .before .numerators .ensures) (c .before .before .before .before .before .before .unit-column-sums .ensures) (c .before .before .before .before .q .given .1) (c .before .before .before .before .before .before .before .before .before .before .before .pre .4) (c .ln-gamma .ensures)
 
 returns-2 : tie.Need-returns-2
-unfolding nrtl
 returns-2 c =
-    let call = c .before in
-    let start = call .before .before .before .before .before .before .before .before .before .before .before in
-    let τ = grid (start .args .n) (now (start .args .tau)) in
-    let G = grid (start .args .n) (now (start .args .g)) in
-    let x = at (now (start .args .x)) in
-    let asked = call .before .before .before .before .q2 .given .1 in
-    quantity-gamma (lnGamma (start .args .n) τ G x) (excess (start .args .n) τ G x) asked
-    (call .ln-gamma2 .ensures ∙ ln-hoisted (start .args .n) τ G x (call .before .before .before .before .before .before .before .numerators .ensures) (call .before .before .before .before .before .before .unit-column-sums .ensures) _ (index-gamma asked (start .pre .4)))
-    (c .exp .ensures)
+    nrtl-gamma (c .before .before .before .before .before .before .before .before .before .before .before .before .args .n) (grid (c .before .before .before .before .before .before .before .before .before .before .before .before .args .n) (now (c .before .before .before .before .before .before .before .before .before .before .before .before .args .tau))) (grid (c .before .before .before .before .before .before .before .before .before .before .before .before .args .n) (now (c .before .before .before .before .before .before .before .before .before .before .before .before .args .g))) (at (now (c .before .before .before .before .before .before .before .before .before .before .before .before .args .x))) (c .before .before .before .before .before .before .before .before .numerators .ensures) (c .before .before .before .before .before .before .before .unit-column-sums .ensures) (c .before .before .before .before .before .q2 .given .1) (c .before .before .before .before .before .before .before .before .before .before .before .before .pre .4) (c .before .ln-gamma2 .ensures) (c .exp .ensures)
 
 returns-3 : tie.Need-returns-3
-unfolding nrtl
-returns-3 c =
-    let start = c .before .before .before .before .before .before .before .before .before .before in
-    let τ = grid (start .args .n) (now (start .args .tau)) in
-    let G = grid (start .args .n) (now (start .args .g)) in
-    let x = at (now (start .args .x)) in
-    quantity-excess (lnGamma (start .args .n) τ G x) (excess (start .args .n) τ G x) (c .before .before .before .enum-told .given .1)
-    (c .excess-by .ensures ∙ excess-hoisted (start .args .n) τ G x (c .before .before .before .before .before .before .numerators .ensures) (c .before .before .before .before .before .unit-column-sums .ensures))
+returns-3 c = nrtl-excess (c .before .before .before .before .before .before .before .before .before .before .args .n) (grid (c .before .before .before .before .before .before .before .before .before .before .args .n) (now (c .before .before .before .before .before .before .before .before .before .before .args .tau))) (grid (c .before .before .before .before .before .before .before .before .before .before .args .n) (now (c .before .before .before .before .before .before .before .before .before .before .args .g))) (at (now (c .before .before .before .before .before .before .before .before .before .before .args .x))) (c .before .before .before .before .before .before .numerators .ensures) (c .before .before .before .before .before .unit-column-sums .ensures) (c .before .before .before .enum-told .given .1) (c .excess-by .ensures)
 
 pub value-over-spec : {M : Type 1} → statement M
 value-over-spec =

@@ -2,8 +2,8 @@
 use mathlib.Core.Path.{_∙_}
 use native.Mathlib.Omega.{arith}
 use borrow.Author.Needs.{needs}
-use Rattle.models.proofs.UnifacLaws.{listed-same, unifac-shared}
-use Rattle.models.proofs.AnswerLaws.{index-ln, index-gamma, quantity-ln, quantity-gamma, quantity-excess}
+use Rattle.models.proofs.UnifacLaws.{listed-same, unifac-ln, unifac-gamma, unifac-excess}
+use Rattle.models.proofs.AnswerLaws.{index-ln, index-gamma}
 use Rattle.models.proofs.ListLaws.{listed-less}
 use Rattle.models.proofs.unifac.over.Statement.{statement}
 use Rattle.models.proofs.unifac.over.Tie as tie
@@ -39,17 +39,17 @@ excess-gibbs-requires c κs = search needs
 returns : tie.Need-returns
 returns c =
     let start = c .before .before .before .before .before .before .before .before .before .before .before .before in
-    quantity-ln _ _ (c .before .before .asked .given .1) (c .ln-gamma .ensures) ∙ unifac-shared _ _ _ _ _ _ _ (c .before .before .before .before .share .ensures) (listed-same (start .pre .0)) _ (start .pre .7)
+    unifac-ln _ _ _ _ _ _ _ (c .before .before .before .before .share .ensures) (listed-same (start .pre .0)) (c .before .before .asked .given .1) (start .pre .7) (c .ln-gamma .ensures)
 
 returns-2 : tie.Need-returns-2
 returns-2 c =
     let start = c .before .before .before .before .before .before .before .before .before .before .before .before .before in
-    quantity-gamma _ _ (c .before .before .before .asked2 .given .1) (c .before .ln-gamma2 .ensures) (c .exp .ensures) ∙ unifac-shared _ _ _ _ _ _ _ (c .before .before .before .before .before .share .ensures) (listed-same (start .pre .0)) _ (start .pre .7)
+    unifac-gamma _ _ _ _ _ _ _ (c .before .before .before .before .before .share .ensures) (listed-same (start .pre .0)) (c .before .before .before .asked2 .given .1) (start .pre .7) (c .before .ln-gamma2 .ensures) (c .exp .ensures)
 
 returns-3 : tie.Need-returns-3
 returns-3 c =
     let start = c .before .before .before .before .before .before .before .before .before .before .before in
-    quantity-excess _ _ (c .before .enum-told .given .1) (c .excess-gibbs .ensures) ∙ unifac-shared _ _ _ _ _ _ _ (c .before .before .before .share .ensures) (listed-same (start .pre .0)) _ (start .pre .7)
+    unifac-excess _ _ _ _ _ _ _ (c .before .before .before .share .ensures) (listed-same (start .pre .0)) (c .before .enum-told .given .1) (start .pre .7) (c .excess-gibbs .ensures)
 
 pub over-spec : {M : Type 1} → statement M
 over-spec =

@@ -1,0 +1,278 @@
+-- Stale cells worked out place by place, row by row through parts, are `written` and `howMany` over all of them. Assumes nothing.
+use mathlib.Core.Path.{_≡_, refl, sym, ap, _∙_, subst}
+use mathlib.Core.Bool.{Bool, true, false, _&&_, cond, and-false}
+use mathlib.Core.List.{List, [], _∷_, _++_, append-nil}
+use mathlib.Core.Logic.{inl, inr}
+use Prim.Native.Nat.{ℕ, zero, suc, _+_, _*_, _-_, _/_, _%_, _<_, _≤_}
+use native.Mathlib.Nat.{ne-of-lt, ne-of-gt, add-zero, le-antisymm}
+use native.Mathlib.Numerals.{add-one}
+use native.Mathlib.Omega.{arith}
+use borrow.Rule.Slice.PartMut.{putMid}
+use borrow.Author.Tests.{lt-ltb, le-ltb, eq-eqb, ne-eqb}
+use lib.Dec.{ltb}
+use lib.ListN.{length, getD, set, take, drop, length-set, length-append, length-drop, drop-of-length-le, List·getD-append}
+use lib.Seq.{getD-set-same, getD-set-other, getD-take, getD-drop, getD-append-add, length-take-le, ext-getD}
+use lib.Ieee.{Float, nan}
+use Rattle.arithmetic.specs.Tables.{from}
+use Rattle.arithmetic.proofs.Differences.{le-or}
+use Rattle.arithmetic.proofs.TableLaws.{by-place, row-end, row-next, from-length, cell-row, cell-column}
+use Rattle.mixture.specs.declared.head.Model.{Model}
+use Rattle.mixture.specs.declared.head.Model.the-variants.{Wilson, Uniquac, Nrtl, Unifac}
+use Rattle.mixture.specs.Names.{byModel}
+use Rattle.mixture.specs.Lists.{written, howMany}
+use Rattle.mixture.specs.Refills.{rowCell, staleCell, Refilled}
+use Rattle.mixture.proofs.ListLaws.{length-written, getD-written, getD-kept, howMany-add, howMany-same}
+
+-- ---- a writable part, back
+
+-- what comes back of `&mut l[s..]` stands after the first s
+put-is : {A : Type 0} (l : List A) (s : ℕ) → s ≤ length l → (ys : List A) → putMid s (length l - s) l ys ≡ take s l ++ ys
+unfolding putMid
+put-is l s h ys = rw (drop-of-length-le (drop s l) {i = length l - s} (rw (length-drop s l) (omega arith)), append-nil)
+
+-- ---- the first n places
+
+-- of the first n places those that pass
+abbrev pub among : ℕ → (ℕ → Bool) → ℕ → Bool
+among n p c = ltb c n && p c
+
+among-past : (n : ℕ) (p : ℕ → Bool) (c : ℕ) → n ≤ c → among n p c ≡ false
+among-past n p c h = rw (le-ltb c n h)
+
+pub among-in : (n : ℕ) (p : ℕ → Bool) (c : ℕ) → c < n → among n p c ≡ p c
+among-in n p c h = rw (lt-ltb c n h)
+
+pub written-same : {A : Type 0} (p q : ℕ → Bool) (f g : ℕ → A) (l : List A) → ((c : ℕ) → c < length l → p c ≡ q c) → ((c : ℕ) → c < length l → q c ≡ true → f c ≡ g c)
+    → written p f l ≡ written q g l
+unfolding written
+written-same p q f g [] h e = refl
+written-same p q f g (a ∷ l) h e =
+    rw (h 0 (omega arith), head (q 0) (e 0 (omega arith)), written-same (λ c. p (suc c)) (λ c. q (suc c)) (λ c. f (suc c)) (λ c. g (suc c)) l (λ c b. h (suc c) (omega arith)) (λ c b. e (suc c) (omega arith)))
+  where
+    head : (t : Bool) → (t ≡ true → f 0 ≡ g 0) → cond t (f 0) a ≡ cond t (g 0) a
+    head true k = k refl
+    head false k = refl
+
+written-none : {A : Type 0} (p : ℕ → Bool) (f : ℕ → A) (l : List A) → ((c : ℕ) → p c ≡ false) → written p f l ≡ l
+unfolding written
+written-none p f [] h = refl
+written-none p f (a ∷ l) h = rw (h 0, written-none (λ c. p (suc c)) (λ c. f (suc c)) l (λ c. h (suc c)))
+
+-- a place that isn't j is among the first j where it is among the first j + 1
+among-other : (j : ℕ) (p : ℕ → Bool) (c : ℕ) → (j ≡ c → ⊥) → among j p c ≡ among (j + 1) p c
+among-other j p c ne =
+    by-place c j (λ b. rw (lt-ltb c j b, lt-ltb c (j + 1) (omega arith))) (λ e. absurd (ne e)) (λ b. rw (le-ltb c j (omega arith), le-ltb c (j + 1) (omega arith)))
+
+module _ {A : Type 0} (p : ℕ → Bool) (f : ℕ → A) (l : List A) (j : ℕ) where
+  written-skip : p j ≡ false → written (among j p) f l ≡ written (among (j + 1) p) f l
+  written-skip t = written-same (among j p) (among (j + 1) p) f f l (λ c b. by-place c j (λ d. among-other j p c (λ q. omega arith)) (λ e. rw (← e, t, and-false, and-false)) (λ d. among-other j p c (λ q. omega arith))) (λ c b q. refl)
+
+  written-more : (z v : A) → p j ≡ true → j < length l → v ≡ f j → set (written (among j p) f l) j v ≡ written (among (j + 1) p) f l
+  written-more z v t h e =
+      ext-getD z _ _ (length-set (written (among j p) f l) j v ∙ length-written (among j p) f l ∙ sym (length-written (among (j + 1) p) f l))
+      (λ c b.
+      let k : c < length l = rw (length-set (written (among j p) f l) j v, length-written (among j p) f l) at b in
+      by-place c j (λ d. other c k (ne-of-lt d) (λ q. omega arith))
+      (λ q.
+      rw (← q)
+      (getD-set-same (written (among j p) f l) j v z (rw (length-written (among j p) f l) h)
+      ∙ (e ∙ sym (getD-written (among (j + 1) p) f l j z h ∙ rw (among-in (j + 1) p j (omega arith), t)))))
+      (λ d. other c k (ne-of-gt d) (λ q. omega arith)))
+    where
+      other : (c : ℕ) → c < length l → (c ≡ j → ⊥) → (j ≡ c → ⊥) → getD (set (written (among j p) f l) j v) c z ≡ getD (written (among (j + 1) p) f l) c z
+      other c k ne en =
+          getD-set-other (written (among j p) f l) j c v z ne
+          ∙ (getD-written (among j p) f l c z k ∙ (ap (λ (t : Bool). cond t (f c) (getD l c z)) (among-other j p c en) ∙ sym (getD-written (among (j + 1) p) f l c z k)))
+
+one-le : (t : Bool) → cond t 1 0 ≤ 1
+one-le true = omega arith
+one-le false = omega arith
+
+howMany-le : (n : ℕ) (p : ℕ → Bool) → howMany n p ≤ n
+unfolding howMany
+howMany-le zero p = omega arith
+howMany-le (suc n) p = omega (arith, howMany-le n p, one-le (p n))
+
+-- ---- a stale cell
+
+module _ (mark i j : ℕ) where
+  pub stale-fresh : (k : Model) → mark ≡ 1 → false ≡ staleCell k mark i j
+  unfolding staleCell
+  stale-fresh k e = sym (rw (eq-eqb mark 1 e, and-false))
+
+  pub stale-off : (k : Model) → (mark ≡ 1 → ⊥) → (i ≡ j → ⊥) → true ≡ staleCell k mark i j
+  unfolding staleCell
+  stale-off k f ne = rw (ne-eqb mark 1 f, ne-eqb i j ne) (go k)
+    where
+      go : (k : Model) → true ≡ (byModel k true true true true && true)
+      go Wilson = refl
+      go Uniquac = refl
+      go Nrtl = refl
+      go Unifac = refl
+
+  -- only UNIFAC has cells on the diagonal
+  pub stale-diagonal : {k : Model} (l : Model) → k ≡ l → (mark ≡ 1 → ⊥) → i ≡ j → byModel l false false false true ≡ staleCell k mark i j
+  unfolding staleCell
+  stale-diagonal l q f e = rw (q, ne-eqb mark 1 f, eq-eqb i j e) (go l)
+    where
+      go : (k : Model) → byModel k false false false true ≡ (byModel k false false false true && true)
+      go Wilson = refl
+      go Uniquac = refl
+      go Nrtl = refl
+      go Unifac = refl
+
+-- ---- a row, place by place
+
+module _ (p : ℕ → Bool) (f : ℕ → Float) (cells : List Float) (marks : List ℕ) where
+  pub refilled-none : (n : ℕ) → n ≡ 0 → Refilled n p f cells marks cells marks 0
+  unfolding howMany
+  refilled-none n e =
+      rw e
+      record {
+        worked = sym (written-none (among 0 p) f cells (λ c. among-past 0 p c (omega arith)));
+        marked = sym (written-none (among 0 p) (λ c. 1) marks (λ c. among-past 0 p c (omega arith)));
+        counted = refl;
+      }
+
+  module _ (j : ℕ) {cells′ : List Float} {marks′ : List ℕ} {r : ℕ} (now : Refilled j p f cells marks cells′ marks′ r) where
+    -- the mark that the loop reads next is still the old one
+    pub refilled-mark : getD marks′ j 0 ≡ getD marks j 0
+    refilled-mark = rw (now .marked) (getD-kept (among j p) (λ c. 1) marks j 0 (among-past j p j (omega arith)))
+
+    pub refilled-skip : p j ≡ false → Refilled (j + 1) p f cells marks cells′ marks′ r
+    unfolding howMany
+    refilled-skip t =
+        record {
+          worked = now .worked ∙ written-skip p f cells j t;
+          marked = now .marked ∙ written-skip p (λ c. 1) marks j t;
+          counted = now .counted ∙ rw (add-one j, t, add-zero);
+        }
+
+    pub refilled-more : {v : Float} → p j ≡ true → j < length cells → j < length marks → v ≡ f j → Refilled (j + 1) p f cells marks (set cells′ j v) (set marks′ j 1) (r + 1)
+    unfolding howMany
+    refilled-more {v} t h k e =
+        record {
+          worked = rw (now .worked) (written-more p f cells j nan v t h e);
+          marked = rw (now .marked) (written-more p (λ c. 1) marks j 0 1 t k refl);
+          counted = rw (add-one j, t, now .counted);
+        }
+
+    pub refilled-length : (length cells′ ≡ length cells) × (length marks′ ≡ length marks)
+    refilled-length = (ap length (now .worked) ∙ length-written (among j p) f cells, ap length (now .marked) ∙ length-written (among j p) (λ c. 1) marks)
+
+    pub refilled-count : r ≤ j
+    refilled-count = rw (now .counted) (howMany-le j p)
+
+-- ---- a turn of the loop over a row, which goes by what the mark says
+
+refilled-is : {n : ℕ} {p : ℕ → Bool} {f : ℕ → Float} {cells : List Float} {marks : List ℕ} {c d : List Float} {k m : List ℕ} {r s : ℕ}
+    → d ≡ c → m ≡ k → s ≡ r → Refilled n p f cells marks c k r → Refilled n p f cells marks d m s
+refilled-is e g h all = record { worked = e ∙ all .worked; marked = g ∙ all .marked; counted = h ∙ all .counted }
+
+module _ (k : Model) (i : ℕ) (f : ℕ → Float) (cells : List Float) (marks : List ℕ) (j : ℕ) {c : List Float} {l : List ℕ} {r : ℕ} {b : Bool}
+    (now : Refilled j (λ c. staleCell k (getD marks c 0) i c) f cells marks c l r) (told : b ≡ staleCell k (getD l j 0) i j) where
+  stale-told : b ≡ staleCell k (getD marks j 0) i j
+  stale-told = told ∙ ap (λ (mark : ℕ). staleCell k mark i j) (refilled-mark _ f cells marks j now)
+
+  pub row-more : {d : List Float} {m : List ℕ} {s : ℕ} {v : Float} → b ≡ true → j < length cells → j < length marks → v ≡ f j → d ≡ set c j v → m ≡ set l j 1 → s ≡ r + 1
+      → Refilled (j + 1) (λ c. staleCell k (getD marks c 0) i c) f cells marks d m s
+  row-more t h g e x y z = refilled-is x y z (refilled-more _ f cells marks j now (sym stale-told ∙ t) h g e)
+
+  pub row-skip : {d : List Float} {m : List ℕ} {s : ℕ} → b ≡ false → d ≡ c → m ≡ l → s ≡ r → Refilled (j + 1) (λ c. staleCell k (getD marks c 0) i c) f cells marks d m s
+  row-skip t x y z = refilled-is x y z (refilled-skip _ f cells marks j now (sym stale-told ∙ t))
+
+-- ---- a row that comes back in the middle
+
+-- what a row is lent is still the old
+lent : {A : Type 0} (s : ℕ) (p : ℕ → Bool) (f : ℕ → A) (old : List A) (z : A) {l : List A} → l ≡ written (among s p) f old → (j : ℕ) → s + j < length old
+    → getD (from s l) j z ≡ getD old (s + j) z
+lent {A} s p f old z {l} above j b =
+    getD-take (length l - s) (drop s l) j z (omega (arith, ap length above, length-written (among s p) f old))
+    ∙ (getD-drop s l j z ∙ (ap (λ (m : List A). getD m (s + j) z) above ∙ getD-kept (among s p) f old (s + j) z (among-past s p (s + j) (omega arith))))
+
+module _ {A : Type 0} (s w : ℕ) (p q : ℕ → Bool) (f g : ℕ → A) (old : List A) (z : A) (h : s + w ≤ length old)
+    (ps : (j : ℕ) → j < w → q j ≡ p (s + j)) (fs : (j : ℕ) → j < w → g j ≡ f (s + j)) where
+  -- place s + j, before and after
+  at-new : (j : ℕ) → cond (among w q j) (g j) (getD old (s + j) z) ≡ cond (among (s + w) p (s + j)) (f (s + j)) (getD old (s + j) z)
+  at-new j =
+      elim (le-or w j) [
+        | inl b ↦ rw (among-past w q j b, among-past (s + w) p (s + j) (omega arith))
+        | inr b ↦ rw (among-in w q j b, among-in (s + w) p (s + j) (omega arith), ps j b, fs j b)
+      ]
+
+  at-old : (c : ℕ) → c < s → among s p c ≡ among (s + w) p c
+  at-old c b = rw (among-in s p c b, among-in (s + w) p c (omega arith))
+
+  module _ {l ys : List A} (above : l ≡ written (among s p) f old) (row : ys ≡ written (among w q) g (from s l)) where
+    long : length l ≡ length old
+    long = ap length above ∙ length-written (among s p) f old
+
+    row-long : length ys ≡ length old - s
+    row-long = ap length row ∙ (length-written (among w q) g (from s l) ∙ (from-length s l ∙ rw long))
+
+    lower : (c : ℕ) → c < s → getD (take s l ++ ys) c z ≡ getD (written (among (s + w) p) f old) c z
+    lower c b =
+        List·getD-append (take s l) ys z c (rw (length-take-le s l (rw long (omega arith))) b)
+        ∙ (getD-take s l c z b
+        ∙ (ap (λ (m : List A). getD m c z) above
+        ∙ (getD-written (among s p) f old c z (omega arith)
+        ∙ (ap (λ (t : Bool). cond t (f c) (getD old c z)) (at-old c b) ∙ sym (getD-written (among (s + w) p) f old c z (omega arith))))))
+
+    upper : (j : ℕ) → s + j < length old → getD (take s l ++ ys) (s + j) z ≡ getD (written (among (s + w) p) f old) (s + j) z
+    upper j b =
+        ap (λ (m : ℕ). getD (take s l ++ ys) (m + j) z) (sym (length-take-le s l (rw long (omega arith))))
+        ∙ (getD-append-add (take s l) ys j z
+        ∙ (ap (λ (m : List A). getD m j z) row
+        ∙ (getD-written (among w q) g (from s l) j z (rw (from-length s l, long) (omega arith))
+        ∙ (ap (cond (among w q j) (g j)) (lent s p f old z above j b) ∙ (at-new j ∙ sym (getD-written (among (s + w) p) f old (s + j) z b))))))
+
+    row-back : putMid s (length l - s) l ys ≡ written (among (s + w) p) f old
+    row-back =
+        put-is l s (rw long (omega arith)) ys
+        ∙ ext-getD z (take s l ++ ys) (written (among (s + w) p) f old)
+        (length-append (take s l) ys ∙ (rw (length-take-le s l (rw long (omega arith)), row-long, length-written (among (s + w) p) f old) (omega arith)))
+        (λ c b.
+        let k = rw (length-append (take s l) ys, length-take-le s l (rw long (omega arith)), row-long) at b in
+        elim (le-or s c) [
+          | inl d ↦ let e : s + (c - s) ≡ c = omega arith in subst (λ (m : ℕ). getD (take s l ++ ys) m z ≡ getD (written (among (s + w) p) f old) m z) e (upper (c - s) (omega arith))
+          | inr d ↦ lower c d
+        ])
+
+module _ (k : Model) (w i : ℕ) (f : ℕ → Float) (cells : List Float) (marks : List ℕ) (hc : i * w + w ≤ length cells) (hm : i * w + w ≤ length marks) where
+  -- the rows above i, and row i
+  pub refilled-row : {c ys : List Float} {l zs : List ℕ} {r s : ℕ} (g : ℕ → Float)
+      → Refilled (i * w) (λ c. staleCell k (getD marks c 0) (c / w) (c % w)) f cells marks c l r
+      → Refilled w (λ j. staleCell k (getD (from (i * w) l) j 0) i j) g (from (i * w) c) (from (i * w) l) ys zs s
+      → ((j : ℕ) → j < w → g j ≡ f (i * w + j))
+      → Refilled ((i + 1) * w) (λ c. staleCell k (getD marks c 0) (c / w) (c % w)) f cells marks
+      (putMid (i * w) (length c - i * w) c ys) (putMid (i * w) (length l - i * w) l zs) (r + s)
+  refilled-row {c} {ys} {l} {zs} {r} {s} g above row gs =
+      record {
+        worked = row-back (i * w) w p q f g cells nan hc ps gs (above .worked) (row .worked) ∙ rw (row-next w i);
+        marked = row-back (i * w) w p q (λ c. 1) (λ c. 1) marks 0 hm ps (λ j b. refl) (above .marked) (row .marked) ∙ rw (row-next w i);
+        counted = rw (above .counted, row .counted, howMany-same w q (λ j. p (i * w + j)) ps, row-next w i) (sym (howMany-add (i * w) w p));
+      }
+    where
+      p : ℕ → Bool
+      p c = staleCell k (getD marks c 0) (c / w) (c % w)
+
+      q : ℕ → Bool
+      q j = staleCell k (getD (from (i * w) l) j 0) i j
+
+      ps : (j : ℕ) → j < w → q j ≡ p (i * w + j)
+      ps j b = rw (cell-row w i j b, cell-column w i j b) (ap (λ (mark : ℕ). staleCell k mark i j) (lent (i * w) p (λ c. 1) marks 0 (above .marked) j (omega arith)))
+
+-- entry j of row i, by its place
+pub row-cells : (k : Model) (w stride : ℕ) (table tau : List Float) (T L : Float) (i j : ℕ) → j < w → rowCell k (from (i * stride) table) (from (i * stride) tau) T L i j
+    ≡ rowCell k (from ((i * w + j) / w * stride) table) (from ((i * w + j) / w * stride) tau) T L ((i * w + j) / w) ((i * w + j) % w)
+row-cells k w stride table tau T L i j b = rw (cell-row w i j b, cell-column w i j b)
+
+-- a loop that counts i to w has all of them at its end
+pub refilled-done : (i w : ℕ) {p : ℕ → Bool} {f : ℕ → Float} {cells : List Float} {marks : List ℕ} {c : List Float} {l : List ℕ} {r : ℕ}
+    → i ≤ w → w ≤ i → Refilled (i * w) p f cells marks c l r → Refilled (w * w) p f cells marks c l r
+refilled-done i w {p} {f} {cells} {marks} {c} {l} {r} a b all = subst (λ (k : ℕ). Refilled (k * w) p f cells marks c l r) (le-antisymm a b) all
+
+-- the last of n rows ends within the table
+pub last-row : (n : ℕ) → (n - 1) * n + n ≤ n * n
+last-row zero = omega arith
+last-row (suc n) = row-end (suc n) (suc n) (suc n - 1) (omega arith)

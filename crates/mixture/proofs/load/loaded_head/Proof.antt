@@ -1,0 +1,63 @@
+-- The fresh head of each model; only UNIFAC's has lists.
+use Rattle.mixture.specs.Calls.{loadedHead}
+use mathlib.Core.Path.{_∙_}
+use borrow.Author.Needs.{needs}
+use Rattle.mixture.proofs.load.loaded_head.Statement.{statement}
+use Rattle.mixture.proofs.load.loaded_head.Tie as tie
+
+enum-told : tie.Need-enum-told
+enum-told c = search needs
+
+bare-head-requires : tie.Need-bare-head-requires
+bare-head-requires c κs = search needs
+
+enum-told-2 : tie.Need-enum-told-2
+enum-told-2 c = search needs
+
+bare-head-requires-2 : tie.Need-bare-head-requires-2
+bare-head-requires-2 c κs = search needs
+
+enum-told-3 : tie.Need-enum-told-3
+enum-told-3 c = search needs
+
+bare-head-requires-3 : tie.Need-bare-head-requires-3
+bare-head-requires-3 c κs = search needs
+
+enum-told-4 : tie.Need-enum-told-4
+enum-told-4 c = search needs
+
+listed-head-requires : tie.Need-listed-head-requires
+listed-head-requires c κs = c .before .before .before .before .pre (c .enum-told4 .given .1)
+
+returns : tie.Need-returns
+unfolding loadedHead
+returns c = λ v. c .bare-head .ensures ∙ rw (c .before .enum-told .given .1)
+
+returns-2 : tie.Need-returns-2
+unfolding loadedHead
+returns-2 c = λ v. c .bare-head2 .ensures ∙ rw (c .before .enum-told2 .given .1)
+
+returns-3 : tie.Need-returns-3
+unfolding loadedHead
+returns-3 c = λ v. c .bare-head3 .ensures ∙ rw (c .before .enum-told3 .given .1)
+
+returns-4 : tie.Need-returns-4
+unfolding loadedHead
+returns-4 c = λ v. c .listed-head .ensures ∙ rw (c .before .enum-told4 .given .1)
+
+pub loaded-head-spec : {M : Type 1} → statement M
+loaded-head-spec =
+    tie.close
+    (tie.spec
+    enum-told
+    bare-head-requires
+    enum-told-2
+    bare-head-requires-2
+    enum-told-3
+    bare-head-requires-3
+    enum-told-4
+    listed-head-requires
+    returns
+    returns-2
+    returns-3
+    returns-4)

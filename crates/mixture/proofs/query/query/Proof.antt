@@ -1,0 +1,38 @@
+-- The fault's number where there is one; else the refilled cells, the value and the count. Assumes nothing.
+use mathlib.Core.Path.{_≡_, refl, sym, _∙_}
+use borrow.Author.Needs.{needs}
+use denote.Ref.{now}
+use Rattle.mixture.specs.Memory.{Memory, memory}
+use Rattle.mixture.specs.Calls.{queryFault}
+use Rattle.mixture.proofs.QueryLaws.{query-refused, query-answered}
+use Rattle.mixture.proofs.query.query.Statement.{statement}
+use Rattle.mixture.proofs.query.query.Tie as tie
+
+abbrev memOf : tie.Start → Memory
+memOf s = memory (now (s .args .values)) (now (s .args .cells)) (now (s .args .marks))
+
+fault-none : (c : tie.Else1) → let s = c .before .before .before .before .before in queryFault (memOf s) (s .args .head) (s .args .q) ≡ 0
+fault-none c = sym (c .before .query-fault .ensures (memOf (c .before .before .before .before .before)) (refl, refl, refl)) ∙ c .if1 .left
+
+query-fault-requires : tie.Need-query-fault-requires
+query-fault-requires c κs = search needs
+
+returns : tie.Need-returns
+returns c = query-refused (memOf (c .before .before .before .before .before)) _ _ (c .before .query-fault .ensures (memOf (c .before .before .before .before .before)) (refl, refl, refl)) (c .if1 .taken)
+
+solve-requires : tie.Need-solve-requires
+solve-requires c κs = fault-none (c .before .before)
+
+same-length : tie.Need-same-length
+same-length c = search needs
+
+same-length-2 : tie.Need-same-length-2
+same-length-2 c = search needs
+
+returns-2 : tie.Need-returns-2
+returns-2 c = query-answered (memOf (c .before .before .before .before .before .before .before .before .before .before .before .before)) _ _ (fault-none (c .before .before .before .before .before .before .before)) (c .before .before .before .before .solve .ensures)
+
+pub query-spec : {M : Type 1} → statement M
+query-spec =
+    tie.close
+    (tie.spec query-fault-requires returns solve-requires same-length same-length-2 returns-2)

@@ -1,0 +1,85 @@
+-- The refilled cells hold E, and the value is Wilson's over them. Assumes nothing.
+use Prim.Native.Nat.{_*_, _-_, _≤_}
+use native.Mathlib.Omega.{arith}
+use borrow.Author.Needs.{needs}
+use native.Mathlib.Nat.{mul-le-mul, mul-le-mul-right}
+use denote.Ref.{now}
+use Rattle.arithmetic.proofs.TableLaws.{from-length}
+use Rattle.mixture.specs.Memory.{leastValues, leastCells, leastMarks}
+use Rattle.mixture.proofs.SolvedLaws.{wilson-solved}
+use Rattle.mixture.proofs.query.wilson.Statement.{statement}
+use Rattle.mixture.proofs.query.wilson.Tie as tie
+
+-- the table of n·n is within the values and the cells
+small : (c : tie.Start) → (c .args .n * c .args .n ≤ 144) × ((c .args .n - 1) * c .args .n ≤ c .args .n * c .args .n)
+small c = (mul-le-mul (c .pre .0) (c .pre .0), mul-le-mul-right _ (omega arith))
+
+refill-requires : tie.Need-refill-requires
+unfolding leastValues leastCells leastMarks
+refill-requires c κs =
+    let start = c .before .before .before .before .before in
+    let w = small start in
+    (omega (arith, start .pre .0), omega (arith, w, start .pre .0, start .pre .2), omega (arith, w, start .pre .0, start .pre .2), omega (arith, w, start .pre .3), omega (arith, w, start .pre .4))
+
+mul-place : tie.Need-mul-place
+unfolding leastValues leastCells leastMarks
+mul-place c = let start = c .before .before .before .before .before .before .before .before .before .before in omega (arith, small start, start .pre .2)
+
+mul-value-over : tie.Need-mul-value-over
+unfolding leastValues leastCells leastMarks
+mul-value-over c = let start = c .before .before .before .before .before .before .before .before .before .before in omega (arith, small start, start .pre .2)
+
+sub-value-over : tie.Need-sub-value-over
+unfolding leastValues leastCells leastMarks
+sub-value-over c = let start = c .before .before .before .before .before .before .before .before .before .before in omega (arith, small start, start .pre .2)
+
+part-value-over-start : tie.Need-part-value-over-start
+unfolding leastValues leastCells leastMarks
+part-value-over-start c = let start = c .before .before .before .before .before .before .before .before .before .before in omega (arith, small start, start .pre .2)
+
+part-value-over-end : tie.Need-part-value-over-end
+part-value-over-end c = search needs
+
+slice-aggregate-value-over : tie.Need-slice-aggregate-value-over
+slice-aggregate-value-over c = search needs
+
+value-over-requires : tie.Need-value-over-requires
+unfolding leastValues leastCells leastMarks
+value-over-requires c κs =
+    let start = c .before .before .before .before .before .before .before .before .before .before .before .before .before in
+    let w = small start in
+    let n = start .args .n in (
+      start .pre .0,
+      omega (arith, from-length (n * n) (now (start .args .values)), w, start .pre .0, start .pre .2),
+      omega (arith, c .before .before .before .before .before .before .before .refill .kept, w, start .pre .3),
+      omega (arith, start .pre .0),
+      start .pre .1,
+    )
+
+same-length : tie.Need-same-length
+same-length c = search needs
+
+same-length-2 : tie.Need-same-length-2
+same-length-2 c = search needs
+
+returns : tie.Need-returns
+unfolding leastValues leastCells leastMarks
+returns c =
+    let start = c .before .before .before .before .before .before .before .before .before .before .before .before .before .before in
+    wilson-solved (start .args .n) (now (start .args .values)) (start .args .t) _ _ _ (start .pre .1) (omega (arith, small start, start .pre .0, start .pre .2)) (c .before .before .before .before .before .before .before .before .refill .ensures) (c .value-over .ensures)
+
+pub wilson-spec : {M : Type 1} → statement M
+wilson-spec =
+    tie.close
+    (tie.spec
+    refill-requires
+    mul-place
+    mul-value-over
+    sub-value-over
+    part-value-over-start
+    part-value-over-end
+    slice-aggregate-value-over
+    value-over-requires
+    same-length
+    same-length-2
+    returns)

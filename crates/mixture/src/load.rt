@@ -1,0 +1,112 @@
+// Loading a model: document 01, "Mixture".
+ghost use mathlib.Core.Path.{_≡_};
+ghost use mathlib.Core.List.{List, _++_};
+ghost use Prim.Native.Nat.{_*_, _≤_};
+ghost use lib.ListN.{length, drop};
+ghost use lib.Ieee.{Float};
+ghost use Rattle.mixture.specs.declared.head.Model.the-variants.{Unifac};
+ghost use Rattle.mixture.specs.Lists.{written};
+ghost use Rattle.mixture.specs.Names.{byModel, ModelData, held};
+ghost use Rattle.mixture.specs.Faults.{dataFault};
+ghost use Rattle.mixture.specs.Memory.{Memory, memory, after};
+ghost use Rattle.mixture.specs.Layout.{cellAt};
+ghost use Rattle.mixture.specs.Calls.{loadFault, loadedHead, afterLoad};
+use crate::answers::Answer;
+use crate::answers::Reply;
+use crate::faults::memory_fault;
+use crate::head::Head;
+use crate::head::Model;
+use crate::head::bare_head;
+use crate::head::listed_head;
+use crate::parts::by_model;
+use crate::parts::has_diagonal;
+use crate::stale::Block;
+use crate::stale::stale;
+
+// 2; for UNIFAC then 3 or 4 at the first place at fault.
+fn data_fault(model: Model, n: usize, ng: usize, lens: &[u8], groups: &[u8], given: &[f64]) -> u8
+    ensures { λ r. ⌜ r ≡ dataFault (record { model = model; n = n; ng = ng; lens = now (lens .entry); groups = now (groups .entry); values = now (given .entry) }) ⌝ }
+{
+    match model {
+        Model::Wilson => models::faults::shape_fault(n, models::wilson::size(n), given),
+        Model::Uniquac => models::faults::shape_fault(n, models::uniquac::size(n), given),
+        Model::Nrtl => models::faults::shape_fault(n, models::nrtl::size(n), given),
+        Model::Unifac => models::unifac::unifac_fault(n, ng, lens, groups, given),
+    }
+}
+
+// The given values in the first places.
+fn copy(values: &mut [f64], given: &[f64])
+    requires { ⌜ length (now given) ≤ length (now values) ⌝ }
+    ensures { λ _. ⌜ now (values .exit) ≡ now (given .entry) ++ drop (length (now (given .entry))) (now (values .entry)) ⌝ }
+{
+    for k in 0..given.len() {
+        values[k] = given[k];
+    }
+}
+
+// Writes 0 to the marks of all the model's cells.
+fn stale_cells(marks: &mut [u8], model: Model, n: usize, ng: usize)
+    requires { ⌜ (1 ≤ byModel model n n n ng) × (byModel model n n n ng ≤ 32) × (1024 ≤ length (now marks)) ⌝ }
+    ensures { λ _. ⌜ ((d : ModelData) → (d .model ≡ model) × (d .n ≡ n) × (d .ng ≡ ng) → now (marks .exit) ≡ written (cellAt (held d)) (λ c. 0) (now (marks .entry))) ⌝ }
+{
+    let w = by_model(model, n, n, n, ng);
+    let diagonal = has_diagonal(model);
+    let all = Block {
+        top: 0,
+        bottom: w,
+        left: 0,
+        right: w,
+    };
+    stale(marks, w, diagonal, all);
+}
+
+// The head of a load that is accepted, with 0 in its unset and unused fields.
+fn loaded_head(model: Model, n: usize, ng: usize, lens: &[u8], groups: &[u8]) -> Head
+    requires { ⌜ (model ≡ Unifac → (length (now lens) ≤ 12) × (length (now groups) ≤ 144)) ⌝ }
+    ensures { λ r. ⌜ ((v : List Float) → r ≡ loadedHead (record { model = model; n = n; ng = ng; lens = now (lens .entry); groups = now (groups .entry); values = v })) ⌝ }
+{
+    match model {
+        Model::Wilson => bare_head(1, n),
+        Model::Uniquac => bare_head(2, n),
+        Model::Nrtl => bare_head(3, n),
+        Model::Unifac => listed_head(n, ng, lens, groups),
+    }
+}
+
+// Writes the model's values, unsets T and fractions and makes all cells stale.
+pub fn load(
+    values: &mut [f64],
+    cells: &[f64],
+    marks: &mut [u8],
+    head: Head,
+    model: Model,
+    n: usize,
+    ng: usize,
+    lens: &[u8],
+    groups: &[u8],
+    given: &[f64],
+) -> Reply
+    ensures { λ r. ⌜ after (memory (now (values .exit)) (now (cells .entry)) (now (marks .exit))) (r .head) (r .answer) ≡ afterLoad (memory (now (values .entry)) (now (cells .entry)) (now (marks .entry))) head (record { model = model; n = n; ng = ng; lens = now (lens .entry); groups = now (groups .entry); values = now (given .entry) }) ⌝ }
+{
+    let short = memory_fault(values.len(), cells.len(), marks.len());
+    if short != 0 {
+        return Reply {
+            head: head,
+            answer: Answer::Refused(short),
+        };
+    }
+    let fault = data_fault(model, n, ng, lens, groups, given);
+    if fault != 0 {
+        return Reply {
+            head: head,
+            answer: Answer::Refused(fault),
+        };
+    }
+    copy(values, given);
+    stale_cells(marks, model, n, ng);
+    Reply {
+        head: loaded_head(model, n, ng, lens, groups),
+        answer: Answer::Done,
+    }
+}

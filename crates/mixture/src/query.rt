@@ -1,0 +1,193 @@
+// A query: works out every stale cell, marks it fresh, and answers with the value and the number of cells worked.
+ghost use mathlib.Core.Path.{_≡_};
+ghost use Prim.Native.Nat.{_*_, _≤_};
+ghost use lib.ListN.{length};
+ghost use Rattle.arithmetic.specs.Parameters.{tdAt};
+ghost use Rattle.arithmetic.specs.Tables.{at, from};
+ghost use Rattle.models.specs.Answers.{indexFault};
+ghost use Rattle.models.specs.Exponentials.{energy, nonrandomness, groupEnergy};
+ghost use Rattle.models.specs.Values.{energies, volumes, rs, qs, taus, alphas, lists, countsAt, groupRs, groupQs, groupAs};
+ghost use Rattle.models.specs.Wilson.{wilson as W·wilson};
+ghost use Rattle.models.specs.Uniquac.{uniquac as U·uniquac};
+ghost use Rattle.models.specs.Nrtl.{nrtl as N·nrtl};
+ghost use Rattle.models.specs.Unifac.{unifac as F·unifac};
+ghost use Rattle.mixture.specs.Memory.{Memory, memory, after, leastValues, leastCells, leastMarks};
+ghost use Rattle.mixture.specs.Calls.{queryFault, afterQuery};
+ghost use Rattle.mixture.specs.Refills.{Ranged, Solved, Answered};
+use crate::answers::Answer;
+use crate::answers::Reply;
+use crate::faults::head_fault;
+use crate::faults::model_of;
+use crate::head::Head;
+use crate::head::Model;
+use crate::refill;
+use models::Quantity;
+
+// A value and the number of cells worked.
+pub struct Worked {
+    pub value: f64,
+    pub count: usize,
+}
+
+fn wilson(
+    n: usize,
+    t: f64,
+    x: [f64; 12],
+    q: Quantity,
+    values: &[f64],
+    cells: &mut [f64],
+    marks: &mut [u8],
+) -> Worked
+    requires { ⌜ (n ≤ 12) × (indexFault n q ≡ 0) × (leastValues ≤ length (now values)) × (leastCells ≤ length (now cells)) × (leastMarks ≤ length (now marks)) ⌝ }
+    ensures { λ r. ⌜ Solved Model.Wilson n (energy (energies n (now (values .entry))) t) (λ E. W·wilson n (volumes n (now (values .entry))) E (at x) q) (now (cells .entry)) (now (marks .entry)) (now (cells .exit)) (now (marks .exit)) r ⌝ }
+{
+    let count = refill::refill(Model::Wilson, n, n, values, values, t, 0.0, cells, marks);
+    let place = n * n;
+    let value = models::wilson::value_over(n, &values[place..], &cells[..], &x[..], q);
+    Worked { value, count }
+}
+
+fn uniquac(
+    n: usize,
+    t: f64,
+    x: [f64; 12],
+    q: Quantity,
+    values: &[f64],
+    cells: &mut [f64],
+    marks: &mut [u8],
+) -> Worked
+    requires { ⌜ (n ≤ 12) × (indexFault n q ≡ 0) × (leastValues ≤ length (now values)) × (leastCells ≤ length (now cells)) × (leastMarks ≤ length (now marks)) ⌝ }
+    ensures { λ r. ⌜ Solved Model.Uniquac n (energy (energies n (now (values .entry))) t) (λ E. U·uniquac n (rs n (now (values .entry))) (qs n (now (values .entry))) E (at x) q) (now (cells .entry)) (now (marks .entry)) (now (cells .exit)) (now (marks .exit)) r ⌝ }
+{
+    let count = refill::refill(Model::Uniquac, n, n, values, values, t, 0.0, cells, marks);
+    let r_place = n * n;
+    let q_place = r_place + n;
+    let value = models::uniquac::value_over(
+        n,
+        &values[r_place..],
+        &values[q_place..],
+        &cells[..],
+        &x[..],
+        q,
+    );
+    Worked { value, count }
+}
+
+// τ at T, which no cell keeps, is worked out once for the cells and the value.
+fn nrtl(
+    n: usize,
+    t: f64,
+    x: [f64; 12],
+    q: Quantity,
+    values: &[f64],
+    cells: &mut [f64],
+    marks: &mut [u8],
+) -> Worked
+    requires { ⌜ (n ≤ 12) × (indexFault n q ≡ 0) × (leastValues ≤ length (now values)) × (leastCells ≤ length (now cells)) × (leastMarks ≤ length (now marks)) ⌝ }
+    ensures { λ r. ⌜ Solved Model.Nrtl n (nonrandomness (alphas n (now (values .entry))) (λ i j. tdAt (taus n (now (values .entry)) i j) t)) (λ G. N·nrtl n (λ i j. tdAt (taus n (now (values .entry)) i j) t) G (at x) q) (now (cells .entry)) (now (marks .entry)) (now (cells .exit)) (now (marks .exit)) r ⌝ }
+{
+    let mut tau = [0.0; 144];
+    models::nrtl::fill_taus(n, values, t, &mut tau[..]);
+    let place = n * n * 5;
+    let count = refill::refill(
+        Model::Nrtl,
+        n,
+        n,
+        &values[place..],
+        &tau[..],
+        t,
+        0.0,
+        cells,
+        marks,
+    );
+    let value = models::nrtl::value_over(n, &tau[..], &cells[..], &x[..], q);
+    Worked { value, count }
+}
+
+fn unifac(
+    n: usize,
+    ng: usize,
+    lens: [u8; 12],
+    groups: [u8; 144],
+    t: f64,
+    x: [f64; 12],
+    q: Quantity,
+    values: &[f64],
+    cells: &mut [f64],
+    marks: &mut [u8],
+) -> Worked
+    requires { ⌜ (Ranged n ng lens groups) × (indexFault n q ≡ 0) × (leastValues ≤ length (now values)) × (leastCells ≤ length (now cells)) × (leastMarks ≤ length (now marks)) ⌝ }
+    ensures { λ r. ⌜ Solved Model.Unifac ng (groupEnergy (λ m k. tdAt (groupAs ng (now (values .entry)) m k) t) t) (λ Ψ. F·unifac n ng (lists lens groups (from (countsAt ng) (now (values .entry)))) (groupRs ng (now (values .entry))) (groupQs ng (now (values .entry))) Ψ (at x) q) (now (cells .entry)) (now (marks .entry)) (now (cells .exit)) (now (marks .exit)) r ⌝ }
+{
+    let ln = arithmetic::log(t);
+    let place = ng + ng;
+    let table = &values[place..];
+    let count = refill::refill(Model::Unifac, ng, ng * 5, table, table, t, ln, cells, marks);
+    let value = models::unifac::value_over(
+        n,
+        ng,
+        &lens[..],
+        &groups[..],
+        values,
+        &cells[..],
+        &x[..],
+        q,
+    );
+    Worked { value, count }
+}
+
+// What a query is declined for: 1 and 8; 9, T or fractions unset; 7, no component i. Memory counts by its lengths alone.
+fn query_fault(lv: usize, lc: usize, lm: usize, head: Head, q: Quantity) -> u8
+    ensures { λ r. ⌜ ((m : Memory) → (length (m .values) ≡ lv) × (length (m .cells) ≡ lc) × (length (m .marks) ≡ lm) → r ≡ queryFault m head q) ⌝ }
+{
+    let fault = head_fault(lv, lc, lm, head);
+    if fault != 0 {
+        return fault;
+    }
+    if !head.has_t {
+        return 9;
+    }
+    if !head.has_x {
+        return 9;
+    }
+    models::faults::index_fault(head.n, q)
+}
+
+// Refills and answers by the head's model.
+fn solve(values: &[f64], cells: &mut [f64], marks: &mut [u8], head: Head, q: Quantity) -> Worked
+    requires { ⌜ queryFault (memory (now values) (now cells) (now marks)) head q ≡ 0 ⌝ }
+    ensures { λ r. ⌜ Answered (memory (now (values .entry)) (now (cells .entry)) (now (marks .entry))) head q (now (cells .exit)) (now (marks .exit)) r ⌝ }
+{
+    let n = head.n;
+    let t = head.t;
+    let x = head.x;
+    let model = model_of(head.model);
+    match model {
+        Model::Wilson => wilson(n, t, x, q, values, cells, marks),
+        Model::Uniquac => uniquac(n, t, x, q, values, cells, marks),
+        Model::Nrtl => nrtl(n, t, x, q, values, cells, marks),
+        Model::Unifac => {
+            let lens = head.lens;
+            let groups = head.groups;
+            unifac(n, head.ng, lens, groups, t, x, q, values, cells, marks)
+        }
+    }
+}
+
+// Works out every stale cell and answers with the value and their number.
+pub fn query(values: &[f64], cells: &mut [f64], marks: &mut [u8], head: Head, q: Quantity) -> Reply
+    ensures { λ r. ⌜ after (memory (now (values .entry)) (now (cells .exit)) (now (marks .exit))) (r .head) (r .answer) ≡ afterQuery (memory (now (values .entry)) (now (cells .entry)) (now (marks .entry))) head q ⌝ }
+{
+    let fault = query_fault(values.len(), cells.len(), marks.len(), head, q);
+    if fault != 0 {
+        return Reply {
+            head: head,
+            answer: Answer::Refused(fault),
+        };
+    }
+    let worked = solve(values, cells, marks, head, q);
+    Reply {
+        head: head,
+        answer: Answer::Value(worked.value, worked.count),
+    }
+}

@@ -1,0 +1,99 @@
+// A query's stale cells: each is worked out from T and its inputs, and marked 1.
+ghost use mathlib.Core.Path.{_≡_};
+ghost use Prim.Native.Nat.{_+_, _*_, _-_, _/_, _%_, _≤_, _<_};
+ghost use lib.ListN.{length, getD};
+ghost use Rattle.arithmetic.specs.Tables.{from};
+ghost use Rattle.mixture.specs.Refills.{rowCell, staleCell, Refilled};
+use crate::head::Model;
+
+// Entry j of row i. `row` starts at the row's energies, α or td entries; `tau` at its τ at T, which only NRTL reads; ln is
+// log(T), which only UNIFAC reads.
+fn exponential(model: Model, row: &[f64], tau: &[f64], t: f64, ln: f64, i: usize, j: usize) -> f64
+    requires { ⌜ (i < length (now row)) × (j * 5 + 5 ≤ length (now row)) × (j < length (now tau)) ⌝ }
+    ensures { λ r. ⌜ r ≡ rowCell model (now (row .entry)) (now (tau .entry)) t ln i j ⌝ }
+{
+    match model {
+        Model::Wilson => models::exponentials::energy(row, t, i, j),
+        Model::Uniquac => models::exponentials::energy(row, t, i, j),
+        Model::Nrtl => models::nrtl::exponential(row[j], tau[j]),
+        Model::Unifac => models::unifac::psi(row, t, ln, j),
+    }
+}
+
+// Whether i, j is a cell with a mark other than 1. Only UNIFAC has cells on the diagonal.
+fn is_stale(model: Model, mark: u8, i: usize, j: usize) -> bool
+    ensures { λ r. ⌜ r ≡ staleCell model mark i j ⌝ }
+{
+    if mark == 1 {
+        return false;
+    }
+    if i != j {
+        return true;
+    }
+    match model {
+        Model::Wilson => false,
+        Model::Uniquac => false,
+        Model::Nrtl => false,
+        Model::Unifac => true,
+    }
+}
+
+// Works out the stale cells of row i, and counts them. All four slices start at that row.
+fn refill_row(
+    model: Model,
+    w: usize,
+    i: usize,
+    row: &[f64],
+    tau: &[f64],
+    t: f64,
+    ln: f64,
+    cells: &mut [f64],
+    marks: &mut [u8],
+) -> usize
+    requires { ⌜ (i < w) × (w * 5 ≤ length (now row)) × (w ≤ length (now tau)) × (w ≤ length (now cells)) × (w ≤ length (now marks)) ⌝ }
+    ensures { λ r. ⌜ Refilled w (λ j. staleCell model (getD (now (marks .entry)) j 0) i j) (rowCell model (now (row .entry)) (now (tau .entry)) t ln i) (now (cells .entry)) (now (marks .entry)) (now (cells .exit)) (now (marks .exit)) r ⌝ }
+{
+    let mut count: usize = 0;
+    for j in 0..w {
+        if is_stale(model, marks[j], i, j) {
+            cells[j] = exponential(model, row, tau, t, ln, i, j);
+            marks[j] = 1;
+            count += 1;
+        }
+    }
+    count
+}
+
+// Works out every stale cell, row by row, and counts them. Row i of `table` and of `tau` starts at i·stride.
+pub fn refill(
+    model: Model,
+    w: usize,
+    stride: usize,
+    table: &[f64],
+    tau: &[f64],
+    t: f64,
+    ln: f64,
+    cells: &mut [f64],
+    marks: &mut [u8],
+) -> usize
+    requires { ⌜ (w ≤ 32) × ((w - 1) * stride + w * 5 ≤ length (now table)) × ((w - 1) * stride + w ≤ length (now tau)) × (w * w ≤ length (now cells)) × (w * w ≤ length (now marks)) ⌝ }
+    ensures { λ r. ⌜ Refilled (w * w) (λ c. staleCell model (getD (now (marks .entry)) c 0) (c / w) (c % w)) (λ c. rowCell model (from (c / w * stride) (now (table .entry))) (from (c / w * stride) (now (tau .entry))) t ln (c / w) (c % w)) (now (cells .entry)) (now (marks .entry)) (now (cells .exit)) (now (marks .exit)) r ⌝ }
+{
+    let mut count: usize = 0;
+    for i in 0..w {
+        let place = i * w;
+        let start = i * stride;
+        count += refill_row(
+            model,
+            w,
+            i,
+            &table[start..],
+            &tau[start..],
+            t,
+            ln,
+            &mut cells[place..],
+            &mut marks[place..],
+        );
+    }
+    count
+}

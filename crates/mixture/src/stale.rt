@@ -1,0 +1,51 @@
+// Marks made stale: a block of rows and columns, off the diagonal where that has no cells.
+ghost use mathlib.Core.Path.{_≡_};
+ghost use mathlib.Core.Bool.{not, _&&_, cond};
+ghost use Prim.Native.Nat.{_+_, _*_, _≤_};
+ghost use lib.Dec.{leb, ltb, eqb};
+ghost use lib.ListN.{length};
+ghost use Rattle.mixture.specs.Lists.{written};
+ghost use Rattle.mixture.specs.Blocks.{inBlock};
+
+// Rows from top to below bottom, columns from left to below right.
+pub struct Block {
+    pub top: usize,
+    pub bottom: usize,
+    pub left: usize,
+    pub right: usize,
+}
+
+// Writes 0 from left to below right of the row that begins at start, except at skip.
+fn stale_row(marks: &mut [u8], start: usize, left: usize, right: usize, skip: usize)
+    requires { ⌜ (left ≤ right) × (start + right ≤ length (now marks)) ⌝ }
+    ensures { λ _. ⌜ now (marks .exit) ≡ written (λ c. leb (start + left) c && ltb c (start + right) && not (eqb c (start + skip))) (λ c. 0) (now (marks .entry)) ⌝ }
+{
+    for j in left..right {
+        if j != skip {
+            marks[start + j] = 0;
+        }
+    }
+}
+
+// The column that row i skips: its own where the diagonal has no cells, else none.
+fn skipped(w: usize, diagonal: bool, i: usize) -> usize
+    ensures { λ r. ⌜ r ≡ cond diagonal w i ⌝ }
+{
+    if diagonal {
+        return w;
+    }
+    i
+}
+
+// Writes 0 to the marks of the block's cells in rows of w, those of the diagonal only where it has cells.
+pub fn stale(marks: &mut [u8], w: usize, diagonal: bool, block: Block)
+    requires { ⌜ (1 ≤ w) × (w ≤ 32) × (block .top ≤ block .bottom) × (block .bottom ≤ w) × (block .left ≤ block .right) × (block .right ≤ w) × (w * w ≤ length (now marks)) ⌝ }
+    ensures { λ _. ⌜ now (marks .exit) ≡ written (inBlock w diagonal block) (λ c. 0) (now (marks .entry)) ⌝ }
+{
+    let left = block.left;
+    let right = block.right;
+    for i in block.top..block.bottom {
+        let skip = skipped(w, diagonal, i);
+        stale_row(marks, i * w, left, right, skip);
+    }
+}
