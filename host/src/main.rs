@@ -8,6 +8,7 @@
 mod case;
 mod cases;
 mod compare;
+mod differences;
 mod exports;
 mod inputs;
 mod models;
@@ -27,6 +28,7 @@ fn compare_all(cases: usize, seed: u64) -> bool {
     same &= compare::compare("exp", &inputs::exp(random, cases), libm::exp, exports::exp);
     same &= compare::compare("log", &inputs::log(random, cases), libm::log, exports::log);
     same &= models::compare_all(cases, random);
+    same &= differences::compare_all();
     same
 }
 

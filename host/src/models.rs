@@ -50,7 +50,7 @@ impl fmt::Display for Tally {
 }
 
 /// What the Rattle call answers, and whether a refused one left the result as it was, bit for bit.
-fn rattle(case: &Case, before: u64) -> (Answer, bool) {
+pub fn rattle(case: &Case, before: u64) -> (Answer, bool) {
     let mut value = f64::from_bits(before);
     match exports::plain(case, &mut value) {
         0 => (Answer::Value(bits(value)), true),

@@ -96,7 +96,7 @@ fn unifac(case: &Case) -> Result<UnifacModel, ThermoError> {
     let (r, rest) = values.split_at(ng);
     let (q, rest) = rest.split_at(ng);
     let (a, counts) = rest.split_at(5 * ng * ng);
-    let rows = a.chunks(5 * ng);
+    let rows = a.chunks((5 * ng).max(1));
     let a = rows.map(|row| row.chunks(5).map(td).collect()).collect();
     let mut pairs = case.groups.iter().zip(counts);
     let lists = case.lens.iter().map(|&len| {
@@ -128,7 +128,7 @@ macro_rules! ask {
     }};
 }
 
-fn asked(case: &Case) -> Result<f64, ThermoError> {
+fn ask_model(case: &Case) -> Result<f64, ThermoError> {
     match case.model {
         WILSON => ask!(wilson, case),
         UNIQUAC => ask!(uniquac, case),
@@ -137,15 +137,22 @@ fn asked(case: &Case) -> Result<f64, ThermoError> {
     }
 }
 
-/// What document 01 says that the call answers, with the original's refusals from 3 on and its value. A rest
-/// of the fractions' bytes gives 7, after 5 and 6.
+/// The original's own answer, in its own range.
+pub fn asked(case: &Case) -> Answer {
+    match ask_model(case) {
+        Err(error) => Answer::Refused(number(error)),
+        Ok(v) => Answer::Value(bits(v)),
+    }
+}
+
+/// What document 01 says that the call answers, by the original from 3 on. A rest of the fractions' bytes gives
+/// 7, after 5 and 6.
 pub fn answer(case: &Case) -> Answer {
     if out_of_range(case) {
         return Answer::Refused(2);
     }
     match asked(case) {
-        Err(error) => Answer::Refused(number(error)),
-        Ok(_) if !case.x.rest.is_empty() => Answer::Refused(7),
-        Ok(v) => Answer::Value(bits(v)),
+        Answer::Value(_) if !case.x.rest.is_empty() => Answer::Refused(7),
+        answer => answer,
     }
 }

@@ -4,10 +4,10 @@ use mathlib.Core.Bool.{Bool, true, false, not, _&&_, _||_, cond}
 use mathlib.Core.List.{List}
 use mathlib.Core.Logic.{inl, inr}
 use Prim.Native.Nat.{ℕ, _+_, _*_, _/_, _%_, _<_, _≤_}
-use native.Mathlib.Nat.{div-add-mod', mod-lt, mul-le-mul-right}
+use native.Mathlib.Nat.{zero-add, div-add-mod', mod-lt, mul-le-mul-right}
 use native.Mathlib.Omega.{arith}
 use lib.Dec.{leb, ltb, eqb}
-use borrow.Author.Tests.{lt-ltb, le-ltb, le-leb, lt-leb, eq-eqb, ne-eqb}
+use borrow.Author.Tests.{eqb-true, lt-ltb, le-ltb, le-leb, lt-leb, eq-eqb, ne-eqb}
 use Rattle.arithmetic.proofs.Differences.{either, le-or}
 use Rattle.arithmetic.proofs.TableLaws.{by-place, cell-lt}
 use Rattle.mixture.specs.declared.head.Model.{Model}
@@ -16,8 +16,8 @@ use Rattle.mixture.specs.declared.stale.Block.{Block}
 use Rattle.mixture.specs.Lists.{written}
 use Rattle.mixture.specs.Names.{byModel, ModelData, Held, held, width, isCell}
 use Rattle.mixture.specs.Layout.{cellAt}
-use Rattle.mixture.specs.Blocks.{inBlock}
-use Rattle.mixture.proofs.StaleLaws.{and-false, written-same}
+use Rattle.mixture.specs.Blocks.{inBlock, block}
+use Rattle.mixture.proofs.StaleLaws.{or-false, or-true, and-false, written-same}
 
 -- ---- places
 
@@ -39,15 +39,54 @@ cell-is d i j = go (d .model) refl
     go Nrtl e = rw e
     go Unifac e = rw e
 
+at-one : (i k : ℕ) → (leb i k && ltb k (i + 1)) ≡ eqb k i
+at-one i k =
+    by-place k i
+    (λ (b : k < i). rw (lt-leb i k b, ne-eqb k i (λ (e : k ≡ i). omega arith)))
+    (λ (e : i ≡ k). rw (le-leb i k (omega arith), lt-ltb k (i + 1) (omega arith), eq-eqb k i (sym e)))
+    (λ (b : i < k). rw (le-ltb k (i + 1) (omega arith), ne-eqb k i (λ (e : k ≡ i). omega arith)) (and-false (leb i k)))
+
+and-true : (b : Bool) → (b && true) ≡ b
+and-true true = refl
+and-true false = refl
+
+-- within the rows
+one : (a b c l : Bool) → (a ≡ true → l ≡ true) → (a && (b && c)) ≡ ((l && c) && (a && b))
+one true true c l h = rw (h refl) (sym (and-true c))
+one true false c l h = sym (and-false (l && c))
+one false b c l h = sym (and-false (l && c))
+
 module _ (d : Held) (w : ℕ) (diagonal : Bool) (e : w ≡ width d) (f : diagonal ≡ byModel (d .model) false false false true) (some : 1 ≤ w) where
   cell-at : (c : ℕ) → cellAt d c ≡ (ltb (c / w) w && (diagonal || not (eqb (c / w) (c % w))))
   unfolding cellAt
   cell-at c = rw (← e, rows-lt w c some, cell-is d (c / w) (c % w), f)
 
   -- all cells
-  pub all-cells : (c : ℕ) → inBlock w diagonal (record { top = 0; bottom = w; left = 0; right = w }) c ≡ cellAt d c
+  pub all-cells : (c : ℕ) → inBlock w diagonal (block 0 w 0 w) c ≡ cellAt d c
   unfolding inBlock
-  all-cells c = rw (cell-at c, le-leb 0 (c / w) (omega arith), le-leb 0 (c % w) (omega arith), lt-ltb (c % w) w (mod-lt c some))
+  all-cells c = rw (cell-at c, zero-add w, le-leb 0 (c / w) (omega arith), le-leb 0 (c % w) (omega arith), lt-ltb (c % w) w (mod-lt c some))
+
+  -- one cell, and a row
+  module _ (i : ℕ) (rows : i < w) (c : ℕ) where
+    within : eqb (c / w) i ≡ true → ltb (c / w) w ≡ true
+    within t = lt-ltb (c / w) w (omega (arith, eqb-true (c / w) i t))
+
+    pub one-cell : (j : ℕ) → inBlock w diagonal (block i 1 j 1) c ≡ (cellAt d c && (eqb (c / w) i && eqb (c % w) j))
+    unfolding inBlock
+    one-cell j = rw (cell-at c, at-one i (c / w), at-one j (c % w)) (one (eqb (c / w) i) (eqb (c % w) j) (diagonal || not (eqb (c / w) (c % w))) (ltb (c / w) w) within)
+
+    pub one-row : inBlock w diagonal (block i 1 0 w) c ≡ (cellAt d c && (eqb (c / w) i && true))
+    unfolding inBlock
+    one-row =
+        rw (cell-at c, at-one i (c / w), le-leb 0 (c % w) (omega arith), zero-add w, lt-ltb (c % w) w (mod-lt c some))
+        (one (eqb (c / w) i) true (diagonal || not (eqb (c / w) (c % w))) (ltb (c / w) w) within)
+
+  pub no-cells : (c : ℕ) → inBlock w diagonal (block 0 0 0 0) c ≡ (cellAt d c && false)
+  unfolding inBlock
+  no-cells c = rw (le-ltb (c / w) (0 + 0) (omega arith), and-false (leb 0 (c / w))) (sym (and-false (cellAt d c)))
+
+  pub every-cell : (c : ℕ) → inBlock w diagonal (block 0 w 0 w) c ≡ (cellAt d c && true)
+  every-cell c = all-cells c ∙ sym (and-true (cellAt d c))
 
 -- ---- marks made stale
 
@@ -57,6 +96,6 @@ module _ (d : ModelData) {model : Model} {n ng w : ℕ} (so : (d .model ≡ mode
   wide e = rw (so .0, so .1, so .2) e
 
   pub cells-stale : {diagonal : Bool} → w ≡ byModel model n n n ng → diagonal ≡ byModel model false false false true → 1 ≤ w → (l : List ℕ) {r : List ℕ}
-      → r ≡ written (inBlock w diagonal (record { top = 0; bottom = w; left = 0; right = w })) (λ c. 0) l
+      → r ≡ written (inBlock w diagonal (block 0 w 0 w)) (λ c. 0) l
       → r ≡ written (cellAt (held d)) (λ c. 0) l
   cells-stale {diagonal} e f some l s = s ∙ written-same _ _ (λ c. 0) l (all-cells (held d) w diagonal (wide e) (rw (so .0) f) some)

@@ -6,9 +6,10 @@ use mathlib.Core.List.{List, _++_}
 use Prim.Native.Nat.{ℕ, _<_, _≤_}
 use native.Mathlib.Omega.{arith}
 use lib.Dec.{leb, ltb, eqb}
-use lib.ListN.{length, getD, drop}
+use lib.ListN.{length, getD, drop, replicate, length-replicate}
 use lib.Ieee.{Float}
 use borrow.Author.Tests.{ltb-true, leb-true, le-leb, eqb-true, eqb-false, lt-ltb, le-ltb, eq-eqb, ne-eqb}
+use Rattle.arithmetic.specs.Floats.{+0}
 use Rattle.models.specs.Composition.{tolerance, compositionFault}
 use Rattle.models.specs.Plain.{between, allTo}
 use Rattle.models.specs.Values.{start}
@@ -103,8 +104,25 @@ pub record Passed (m : Memory) (h : Head) : Type 0 where
   pub range : Bounds (dataIn m h)
   pub lists : modelOf (h .model) ≡ Unifac → Lists h
 
+pub lists-in : (m : Memory) (h : Head) → inRange (dataIn m h) ≡ true → modelOf (h .model) ≡ Unifac → Lists h
+unfolding inRange
+lists-in m h r u =
+    let f = both (between 1 12 (h .n) && between 1 32 (h .ng) && allTo (h .n) (λ i. leb (getD (h .lens) i 0) 12)) _ (rw u at r) in
+    let g = both (between 1 12 (h .n) && between 1 32 (h .ng)) _ (f .0) in
+    let k = both (between 1 12 (h .n)) (between 1 32 (h .ng)) (g .0) in
+    let n = between-is 1 12 (h .n) (k .0) in
+    let ng = between-is 1 32 (h .ng) (k .1) in
+    let short : (i : ℕ) → i < h .n → getD (h .lens) i 0 ≤ 12 = λ i b. leb-true _ _ (all-at (h .n) (λ i. leb (getD (h .lens) i 0) 12) (g .1) i b) in
+    record {
+      some = ng .0;
+      few = ng .1;
+      short = short;
+      places = omega (arith, start-bound (h .lens) (h .n) short, n .1);
+      below = λ p b. ltb-true _ _ (all-at (start (h .lens) (h .n)) (λ p. ltb (getD (h .groups) p 0) (h .ng)) (f .1) p b);
+    }
+
 module _ (m : Memory) (h : Head) (e : headFault m h ≡ 0) where
-  in-range : ((h .model ≡ 0) → ⊥) × (ltb (h .model) 5 ≡ true) × (inRange (dataIn m h) ≡ true)
+  pub in-range : ((h .model ≡ 0) → ⊥) × (ltb (h .model) 5 ≡ true) × (inRange (dataIn m h) ≡ true)
   unfolding headFault
   in-range =
       let f = first-is (memoryFault m) _ e in
@@ -116,23 +134,6 @@ module _ (m : Memory) (h : Head) (e : headFault m h ≡ 0) where
   unfolding headFault
   long = memory-long m (first-is (memoryFault m) _ e .0)
 
-  lists : modelOf (h .model) ≡ Unifac → Lists h
-  unfolding inRange
-  lists u =
-      let f = both (between 1 12 (h .n) && between 1 32 (h .ng) && allTo (h .n) (λ i. leb (getD (h .lens) i 0) 12)) _ (rw u at (in-range .2)) in
-      let g = both (between 1 12 (h .n) && between 1 32 (h .ng)) _ (f .0) in
-      let k = both (between 1 12 (h .n)) (between 1 32 (h .ng)) (g .0) in
-      let n = between-is 1 12 (h .n) (k .0) in
-      let ng = between-is 1 32 (h .ng) (k .1) in
-      let short : (i : ℕ) → i < h .n → getD (h .lens) i 0 ≤ 12 = λ i b. leb-true _ _ (all-at (h .n) (λ i. leb (getD (h .lens) i 0) 12) (g .1) i b) in
-      record {
-        some = ng .0;
-        few = ng .1;
-        short = short;
-        places = omega (arith, start-bound (h .lens) (h .n) short, n .1);
-        below = λ p b. ltb-true _ _ (all-at (start (h .lens) (h .n)) (λ p. ltb (getD (h .groups) p 0) (h .ng)) (f .1) p b);
-      }
-
   pub head-passed : Passed m h
   head-passed =
       let r = in-range in
@@ -141,11 +142,20 @@ module _ (m : Memory) (h : Head) (e : headFault m h ≡ 0) where
         long = long;
         model = (some, ltb-true _ _ (r .1));
         range = bounds (dataIn m h) (r .2);
-        lists = lists;
+        lists = lists-in m h (r .2);
       }
     where
       above : (k : ℕ) → (k ≡ 0 → ⊥) → 1 ≤ k
       above k n = omega arith
+
+-- n is in range where the head passes with some memory of these lengths
+pub few-by : (h : Head) (lv lc lm : ℕ) {r : ℕ}
+    → ((m : Memory) → (length (m .values) ≡ lv) × (length (m .cells) ≡ lc) × (length (m .marks) ≡ lm) → r ≡ headFault m h) → r ≡ 0 → h .n ≤ 12
+few-by h lv lc lm e z =
+    head-passed some h (sym (e some (length-replicate lv +0, length-replicate lc +0, length-replicate lm 0)) ∙ z) .range .few
+  where
+    some : Memory
+    some = memory (replicate lv +0) (replicate lc +0) (replicate lm 0)
 
 -- ---- fractions that pass
 

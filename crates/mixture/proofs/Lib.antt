@@ -18,3 +18,4 @@ pub mod CallLaws
 pub mod QueryLaws
 pub mod StaleLaws
 pub mod BlockLaws
+pub mod SetLaws

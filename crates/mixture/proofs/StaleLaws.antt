@@ -190,6 +190,6 @@ module _ (w : ℕ) (diagonal : Bool) (top left right : ℕ) where
       (written-both (toRow w diagonal top left right i) (inRow (i * w) left right (cond diagonal w i)) (toRow w diagonal top left right (i + 1)) (λ c. 0) l (block-row i some cols h)))
 
 pub block-is : (w : ℕ) (diagonal : Bool) (b : Block) (l : List ℕ) {r : List ℕ}
-    → r ≡ written (toRow w diagonal (b .top) (b .left) (b .right) (b .bottom)) (λ c. 0) l → r ≡ written (inBlock w diagonal b) (λ c. 0) l
+    → r ≡ written (toRow w diagonal (b .top) (b .left) (b .left + b .columns) (b .top + b .rows)) (λ c. 0) l → r ≡ written (inBlock w diagonal b) (λ c. 0) l
 unfolding inBlock
 block-is w diagonal b l e = e

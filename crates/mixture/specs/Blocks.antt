@@ -1,14 +1,16 @@
 -- What the inner functions of a load and a setting say of places: the head read alone, and cells by a block of rows and
 -- columns. No call's own contract speaks of it.
 use mathlib.Core.Path.{_≡_}
-use mathlib.Core.Bool.{Bool, true, not, _&&_, _||_}
+use mathlib.Core.Bool.{Bool, true, not, _&&_, _||_, cond}
 use mathlib.Core.List.{[]}
-use Prim.Native.Nat.{ℕ, _/_, _%_}
+use Prim.Native.Nat.{ℕ, _+_, _/_, _%_}
 use lib.Dec.{leb, ltb, eqb}
 use Rattle.mixture.specs.declared.head.Head.{Head}
+use Rattle.mixture.specs.declared.head.Model.{Model}
 use Rattle.mixture.specs.declared.setting.Setting.{Setting}
+use Rattle.mixture.specs.declared.setting.Setting.the-variants.{Temperature, Entry, TdEntry, Size, Count}
 use Rattle.mixture.specs.declared.stale.Block.{Block}
-use Rattle.mixture.specs.Names.{ModelData, held}
+use Rattle.mixture.specs.Names.{byModel, ModelData, held}
 use Rattle.mixture.specs.Faults.{caseFault}
 use Rattle.mixture.specs.Memory.{memory}
 use Rattle.mixture.specs.Layout.{dataIn}
@@ -17,7 +19,19 @@ use Rattle.mixture.specs.Calls.{inRange}
 -- the place c, in rows of w, is one of the block's; on the diagonal only where that has cells
 unfoldable pub inBlock : ℕ → Bool → Block → ℕ → Bool
 inBlock w diagonal b c =
-    leb (b .top) (c / w) && ltb (c / w) (b .bottom) && (leb (b .left) (c % w) && ltb (c % w) (b .right) && (diagonal || not (eqb (c / w) (c % w))))
+    leb (b .top) (c / w) && ltb (c / w) (b .top + b .rows)
+    && (leb (b .left) (c % w) && ltb (c % w) (b .left + b .columns) && (diagonal || not (eqb (c / w) (c % w))))
+
+abbrev pub block : ℕ → ℕ → ℕ → ℕ → Block
+block top rows left columns = record { top = top; rows = rows; left = left; columns = columns }
+
+-- the block of the cells that a setting makes stale, those on the diagonal apart where it has none
+unfoldable pub blockOf : Model → ℕ → Setting → Block
+blockOf model w (Temperature T) = block 0 w 0 w
+blockOf model w (Entry i j v) = cond (eqb i j) (block i 1 (byModel model 0 0 j j) (byModel model w w 1 1)) (block i 1 j 1)
+blockOf model w (TdEntry i j p) = block i 1 j 1
+blockOf model w (Size i which v) = block 0 0 0 0
+blockOf model w (Count i j v) = block 0 0 0 0
 
 -- what a head tells without memory
 abbrev pub headOnly : Head → ModelData

@@ -8,6 +8,7 @@ pub mod open;
 pub mod parts;
 pub mod query;
 pub mod refill;
+pub mod set;
 pub mod setting;
 pub mod stale;
 

@@ -54,9 +54,9 @@ fn stale_cells(marks: &mut [u8], model: Model, n: usize, ng: usize)
     let diagonal = has_diagonal(model);
     let all = Block {
         top: 0,
-        bottom: w,
+        rows: w,
         left: 0,
-        right: w,
+        columns: w,
     };
     stale(marks, w, diagonal, all);
 }

@@ -7,12 +7,12 @@ ghost use lib.ListN.{length};
 ghost use Rattle.mixture.specs.Lists.{written};
 ghost use Rattle.mixture.specs.Blocks.{inBlock};
 
-// Rows from top to below bottom, columns from left to below right.
+// So many rows from top on, and so many columns from left on.
 pub struct Block {
     pub top: usize,
-    pub bottom: usize,
+    pub rows: usize,
     pub left: usize,
-    pub right: usize,
+    pub columns: usize,
 }
 
 // Writes 0 from left to below right of the row that begins at start, except at skip.
@@ -39,12 +39,13 @@ fn skipped(w: usize, diagonal: bool, i: usize) -> usize
 
 // Writes 0 to the marks of the block's cells in rows of w, those of the diagonal only where it has cells.
 pub fn stale(marks: &mut [u8], w: usize, diagonal: bool, block: Block)
-    requires { ⌜ (1 ≤ w) × (w ≤ 32) × (block .top ≤ block .bottom) × (block .bottom ≤ w) × (block .left ≤ block .right) × (block .right ≤ w) × (w * w ≤ length (now marks)) ⌝ }
+    requires { ⌜ (1 ≤ w) × (w ≤ 32) × (block .top + block .rows ≤ w) × (block .left + block .columns ≤ w) × (w * w ≤ length (now marks)) ⌝ }
     ensures { λ _. ⌜ now (marks .exit) ≡ written (inBlock w diagonal block) (λ c. 0) (now (marks .entry)) ⌝ }
 {
+    let bottom = block.top + block.rows;
     let left = block.left;
-    let right = block.right;
-    for i in block.top..block.bottom {
+    let right = left + block.columns;
+    for i in block.top..bottom {
         let skip = skipped(w, diagonal, i);
         stale_row(marks, i * w, left, right, skip);
     }

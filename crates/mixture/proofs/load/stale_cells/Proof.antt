@@ -18,7 +18,7 @@ stale-requires c κs = let s = c .before .before .before in
     let w = c .before .before .by-model in
     let some : 1 ≤ w .result = omega (arith, w .ensures, s .before .pre) in
     let few : w .result ≤ 32 = omega (arith, w .ensures, s .before .pre) in
-    (some, few, omega arith, omega arith, omega arith, omega arith, omega (arith, mul-le-mul few few, s .before .pre))
+    (some, few, omega arith, omega arith, omega (arith, mul-le-mul few few, s .before .pre))
 
 same-length : tie.Need-same-length
 same-length c = search needs

@@ -3,7 +3,7 @@ use Rattle.arithmetic.proofs.TableLaws.{row-end}
 use Rattle.mixture.specs.Lists.{written}
 use Rattle.mixture.proofs.StaleLaws.{toRow, stale-none, stale-turn, block-is}
 use mathlib.Core.Path.{_≡_, refl, _∙_}
-use Prim.Native.Nat.{_-_, _≤_}
+use Prim.Native.Nat.{_+_, _-_, _≤_}
 use native.Mathlib.Omega.{arith}
 use borrow.Author.Needs.{needs}
 use lib.ListN.{length}
@@ -11,22 +11,28 @@ use Rattle.mixture.proofs.stale.stale.Statement.{statement}
 use Rattle.mixture.proofs.stale.stale.Tie as tie
 
 abbrev Inv-loop : tie.InvT-loop
-Inv-loop marks₀ w diagonal left right i₀ i-end marks i = (i₀ ≤ i) × (i ≤ i-end) × (length marks ≡ length marks₀) × (marks ≡ written (toRow w diagonal i₀ left right i) (λ c. 0) marks₀)
+Inv-loop marks₀ w diagonal bottom left right i₀ marks i = (i₀ ≤ i) × (i ≤ bottom) × (length marks ≡ length marks₀) × (marks ≡ written (toRow w diagonal i₀ left right i) (λ c. 0) marks₀)
 
 abbrev μ-loop : tie.MeasureT-loop
-μ-loop marks₀ w diagonal left right i₀ i-end marks i = i-end - i
+μ-loop marks₀ w diagonal bottom left right i₀ marks i = bottom - i
+
+add-bottom : tie.Need-add-bottom Inv-loop μ-loop
+add-bottom c = omega arith
+
+add-right : tie.Need-add-right Inv-loop μ-loop
+add-right c = omega arith
 
 loop-holds : tie.Need-loop-holds Inv-loop μ-loop
-loop-holds c = (omega arith, omega arith, refl, stale-none (c .before .args .w) (c .before .args .diagonal) (c .before .args .block .top) (c .before .args .block .left) (c .before .args .block .right) _)
+loop-holds c = (omega arith, omega arith, refl, stale-none (c .before .before .before .args .w) (c .before .before .before .args .diagonal) (c .before .before .before .args .block .top) (c .before .before .before .args .block .left) (c .before .before .before .args .block .left + c .before .before .before .args .block .columns) _)
 
 skipped-requires : tie.Need-skipped-requires Inv-loop μ-loop
 skipped-requires c κs = search needs
 
 mul-stale-row : tie.Need-mul-stale-row Inv-loop μ-loop
-mul-stale-row c = omega (arith, row-end (c .before .before .before .before .before .args .w) (c .before .before .before .before .before .args .w) (c .before .before .before .loop .i) (omega arith), c .before .before .before .before .before .pre)
+mul-stale-row c = omega (arith, row-end (c .before .before .before .before .before .before .before .args .w) (c .before .before .before .before .before .before .before .args .w) (c .before .before .before .loop .i) (omega arith), c .before .before .before .before .before .before .before .pre)
 
 stale-row-requires : tie.Need-stale-row-requires Inv-loop μ-loop
-stale-row-requires c κs = (omega arith, omega (arith, row-end (c .before .before .before .before .before .args .w) (c .before .before .before .before .before .args .w) (c .before .before .before .loop .i) (omega arith)))
+stale-row-requires c κs = (omega arith, omega (arith, row-end (c .before .before .before .before .before .before .before .args .w) (c .before .before .before .before .before .before .before .args .w) (c .before .before .before .loop .i) (omega arith)))
 
 add-i : tie.Need-add-i Inv-loop μ-loop
 add-i c = omega arith
@@ -36,20 +42,22 @@ loop-less c = omega arith
 
 loop-again : tie.Need-loop-again Inv-loop μ-loop
 loop-again c =
-    let s = c .before .before .before .before .before .before .before .before in
+    let s = c .before .before .before .before .before .before .before .before .before .before in
     let l = c .before .before .before .before .before .before .loop in
     let b = s .args .block in (
       omega arith,
       omega arith,
       c .before .before .stale-row .kept .0 ∙ l .inv .2,
-      stale-turn (s .args .w) (s .args .diagonal) (b .top) (b .left) (b .right) (l .i) (s .pre .0) (s .pre .5) (l .inv .0) _ _ _ (c .before .before .before .before .skipped .ensures) (l .inv .3) (c .before .before .stale-row .ensures),
+      stale-turn (s .args .w) (s .args .diagonal) (b .top) (b .left) (b .left + b .columns) (l .i) (s .pre .0) (s .pre .3) (l .inv .0) _ _ _ (c .before .before .before .before .skipped .ensures) (l .inv .3) (c .before .before .stale-row .ensures),
     )
 
 same-length : tie.Need-same-length Inv-loop μ-loop
 same-length c = search needs
 
 returns : tie.Need-returns Inv-loop μ-loop
-returns c = let e : c .before .loop .i ≡ c .before .before .before .args .block .bottom = omega arith in block-is _ _ _ _ (rw (← e) (c .before .loop .inv .3))
+returns c =
+    let b = c .before .before .before .before .before .args .block in
+    let e : c .before .loop .i ≡ b .top + b .rows = omega arith in block-is _ _ b _ (rw (← e) (c .before .loop .inv .3))
 
 pub stale-spec : {M : Type 1} → statement M
 stale-spec =
@@ -57,6 +65,8 @@ stale-spec =
     (tie.spec
     Inv-loop
     μ-loop
+    add-bottom
+    add-right
     loop-holds
     skipped-requires
     mul-stale-row

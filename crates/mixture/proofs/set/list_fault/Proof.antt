@@ -1,0 +1,32 @@
+-- The count's faults, for the one model that has lists.
+use Rattle.mixture.specs.declared.head.Model.{Model}
+use Rattle.mixture.specs.declared.head.Model.the-variants.{Wilson, Uniquac, Nrtl, Unifac}
+use Rattle.mixture.specs.Names.{byModel}
+use mathlib.Core.Path.{_∙_}
+use Prim.Native.Nat.{ℕ, _≤_}
+use native.Mathlib.Omega.{arith}
+use borrow.Author.Needs.{needs}
+use Rattle.mixture.proofs.set.list_fault.Statement.{statement}
+use Rattle.mixture.proofs.set.list_fault.Tie as tie
+
+only-last : (t : Model) (n : ℕ) → byModel t 0 0 0 n ≤ n
+only-last Wilson n = omega arith
+only-last Uniquac n = omega arith
+only-last Nrtl n = omega arith
+only-last Unifac n = omega arith
+
+by-model-requires : tie.Need-by-model-requires
+by-model-requires c κs = search needs
+
+slice-aggregate-count-fault : tie.Need-slice-aggregate-count-fault
+slice-aggregate-count-fault c = search needs
+
+count-fault-requires : tie.Need-count-fault-requires
+count-fault-requires c κs = let k = c .before .by-model in omega (arith, only-last (c .before .before .args .model) (c .before .before .args .n), k .ensures)
+
+returns : tie.Need-returns
+returns c = c .count-fault .ensures ∙ rw (c .before .before .by-model .ensures)
+
+pub list-fault-spec : {M : Type 1} → statement M
+list-fault-spec =
+    tie.close (tie.spec by-model-requires slice-aggregate-count-fault count-fault-requires returns)

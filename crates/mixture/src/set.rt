@@ -1,0 +1,286 @@
+// Settings: document 01, "Mixture".
+ghost use mathlib.Core.Path.{_≡_};
+ghost use mathlib.Core.Bool.{_&&_, cond};
+ghost use Prim.Native.Nat.{_+_, _*_, _<_, _≤_};
+ghost use lib.Dec.{eqb};
+ghost use lib.ListN.{length, getD};
+ghost use lib.Seq.{sets};
+ghost use lib.Ieee.{lt};
+ghost use Rattle.arithmetic.specs.Floats.{+0};
+ghost use Rattle.models.specs.Values.{countsAt, start};
+ghost use Rattle.mixture.specs.Lists.{written};
+ghost use Rattle.mixture.specs.Names.{byModel, held};
+ghost use Rattle.mixture.specs.Faults.{below, caseFault};
+ghost use Rattle.mixture.specs.Memory.{Memory, memory, after};
+ghost use Rattle.mixture.specs.Layout.{dataIn, numbers, place};
+ghost use Rattle.mixture.specs.Calls.{settingFault, stalesAt, setHead, afterSetting};
+ghost use Rattle.mixture.specs.Blocks.{headOnly, Settable, block, blockOf};
+use crate::answers::Answer;
+use crate::answers::Reply;
+use crate::faults::head_fault;
+use crate::faults::model_of;
+use crate::head::Head;
+use crate::head::Model;
+use crate::head::head_with;
+use crate::parts::by_model;
+use crate::parts::has_diagonal;
+use crate::setting::Setting;
+use crate::stale::Block;
+use crate::stale::stale;
+
+// 10: i isn't below m or j isn't below n.
+fn pair_fault(i: usize, m: usize, j: usize, n: usize) -> u8
+    ensures { λ r. ⌜ r ≡ cond (below i m j n) 0 10 ⌝ }
+{
+    if i < m {
+        if j < n {
+            return 0;
+        }
+    }
+    10
+}
+
+// 10: i isn't below k, or j isn't within the list of i. 4: the count is below 0.
+fn count_fault(lens: &[u8], k: usize, i: usize, j: usize, v: f64) -> u8
+    requires { ⌜ k ≤ length (now lens) ⌝ }
+    ensures { λ r. ⌜ r ≡ cond (below i k j (getD (now (lens .entry)) i 0)) (cond (lt v +0) 4 0) 10 ⌝ }
+{
+    if i < k {
+        if j < (lens[i] as usize) {
+            if v < 0.0 {
+                return 4;
+            }
+            return 0;
+        }
+    }
+    10
+}
+
+// 4 and 10 of a count, for a head whose n is in range.
+fn list_fault(n: usize, lens: [u8; 12], model: Model, i: usize, j: usize, v: f64) -> u8
+    requires { ⌜ n ≤ 12 ⌝ }
+    ensures { λ r. ⌜ r ≡ cond (below i (byModel model 0 0 0 n) j (getD lens i 0)) (cond (lt v +0) 4 0) 10 ⌝ }
+{
+    let k = by_model(model, 0, 0, 0, n);
+    count_fault(&lens[..], k, i, j, v)
+}
+
+// 10: no such case or index for this model. 4: a count is below 0. The lent values don't count.
+fn case_fault(head: Head, s: Setting) -> u8
+    requires { ⌜ head .n ≤ 12 ⌝ }
+    ensures { λ r. ⌜ ((m : Memory) → r ≡ caseFault (held (dataIn m head)) s) ⌝ }
+{
+    let model = model_of(head.model);
+    let w = by_model(model, head.n, head.n, head.n, head.ng);
+    match s {
+        Setting::Temperature(_) => 0,
+        Setting::Entry(i, j, _) => {
+            let k = by_model(model, w, w, w, 0);
+            pair_fault(i, k, j, k)
+        }
+        Setting::TdEntry(i, j, _) => {
+            let k = by_model(model, 0, 0, w, w);
+            pair_fault(i, k, j, k)
+        }
+        Setting::Size(i, which, _) => {
+            let k = by_model(model, 1, 2, 0, 2);
+            pair_fault(i, w, which, k)
+        }
+        Setting::Count(i, j, v) => {
+            let lens = head.lens;
+            list_fault(head.n, lens, model, i, j, v)
+        }
+    }
+}
+
+// What a setting is declined for. Memory counts by its lengths alone.
+fn setting_fault(lv: usize, lc: usize, lm: usize, head: Head, s: Setting) -> u8
+    ensures { λ r. ⌜ ((m : Memory) → (length (m .values) ≡ lv) × (length (m .cells) ≡ lc) × (length (m .marks) ≡ lm) → r ≡ settingFault m head s) ⌝ }
+{
+    let fault = head_fault(lv, lc, lm, head);
+    if fault != 0 {
+        return fault;
+    }
+    case_fault(head, s)
+}
+
+// Where entry i, j stands in rows of w.
+fn entry_at(model: Model, w: usize, i: usize, j: usize) -> usize
+    requires { ⌜ (w ≤ 32) × (i < w) × (j < w) ⌝ }
+    ensures { λ r. ⌜ r ≡ byModel model 0 0 (w * w * 5) 0 + (i * w + j) ⌝ }
+{
+    by_model(model, 0, 0, w * w * 5, 0) + (i * w + j)
+}
+
+// Where td entry i, j stands in rows of w.
+fn td_at(model: Model, w: usize, i: usize, j: usize) -> usize
+    requires { ⌜ (w ≤ 32) × (i < w) × (j < w) ⌝ }
+    ensures { λ r. ⌜ r ≡ byModel model 0 0 0 (w + w) + (i * w + j) * 5 ⌝ }
+{
+    by_model(model, 0, 0, 0, w + w) + (i * w + j) * 5
+}
+
+// Where size i, which stands, w of each.
+fn size_at(model: Model, w: usize, i: usize, which: usize) -> usize
+    requires { ⌜ (w ≤ 32) × (i < w) × (which < 2) ⌝ }
+    ensures { λ r. ⌜ r ≡ byModel model (w * w) (w * w) 0 0 + (which * w + i) ⌝ }
+{
+    by_model(model, w * w, w * w, 0, 0) + (which * w + i)
+}
+
+// Where the count of component i at list place j stands.
+fn count_at(lens: [u8; 12], ng: usize, i: usize, j: usize) -> usize
+    requires { ⌜ (ng ≤ 32) × (i ≤ 12) × (j ≤ 12) × (start lens i ≤ 144) ⌝ }
+    ensures { λ r. ⌜ r ≡ countsAt ng + (start lens i + j) ⌝ }
+{
+    let before = models::groups::start_of(&lens[..], i);
+    models::groups::counts_at(ng) + (before + j)
+}
+
+// Where the numbers of a setting stand.
+fn store_at(head: Head, s: Setting) -> usize
+    requires { ⌜ Settable head s ⌝ }
+    ensures { λ r. ⌜ r ≡ place (headOnly head) s ⌝ }
+{
+    let model = model_of(head.model);
+    let w = by_model(model, head.n, head.n, head.n, head.ng);
+    match s {
+        Setting::Temperature(_) => 0,
+        Setting::Entry(i, j, _) => entry_at(model, w, i, j),
+        Setting::TdEntry(i, j, _) => td_at(model, w, i, j),
+        Setting::Size(i, which, _) => size_at(model, w, i, which),
+        Setting::Count(i, j, _) => {
+            let lens = head.lens;
+            count_at(lens, head.ng, i, j)
+        }
+    }
+}
+
+// The numbers of a setting in turn.
+fn put(values: &mut [f64], at: usize, s: Setting)
+    requires { ⌜ at + length (numbers s) ≤ length (now values) ⌝ }
+    ensures { λ _. ⌜ now (values .exit) ≡ sets (now (values .entry)) at (numbers s) ⌝ }
+{
+    match s {
+        Setting::Temperature(_) => {}
+        Setting::Entry(_, _, v) => {
+            values[at] = v;
+        }
+        Setting::TdEntry(_, _, p) => {
+            values[at] = p.a;
+            values[at + 1] = p.b;
+            values[at + 2] = p.c;
+            values[at + 3] = p.d;
+            values[at + 4] = p.e;
+        }
+        Setting::Size(_, _, v) => {
+            values[at] = v;
+        }
+        Setting::Count(_, _, v) => {
+            values[at] = v;
+        }
+    }
+}
+
+// The block of the cells that an entry is an input of: its own, and row i's for an energy a_ii.
+fn entry_block(model: Model, w: usize, i: usize, j: usize) -> Block
+    ensures { λ r. ⌜ r ≡ cond (eqb i j) (block i 1 (byModel model 0 0 j j) (byModel model w w 1 1)) (block i 1 j 1) ⌝ }
+{
+    if i == j {
+        let left = by_model(model, 0, 0, j, j);
+        let columns = by_model(model, w, w, 1, 1);
+        return Block {
+            top: i,
+            rows: 1,
+            left: left,
+            columns: columns,
+        };
+    }
+    Block {
+        top: i,
+        rows: 1,
+        left: j,
+        columns: 1,
+    }
+}
+
+// The block of the cells that a setting makes stale.
+fn block_of(model: Model, w: usize, s: Setting) -> Block
+    ensures { λ r. ⌜ r ≡ blockOf model w s ⌝ }
+{
+    match s {
+        Setting::Temperature(_) => Block {
+            top: 0,
+            rows: w,
+            left: 0,
+            columns: w,
+        },
+        Setting::Entry(i, j, _) => entry_block(model, w, i, j),
+        Setting::TdEntry(i, j, _) => Block {
+            top: i,
+            rows: 1,
+            left: j,
+            columns: 1,
+        },
+        Setting::Size(_, _, _) => Block {
+            top: 0,
+            rows: 0,
+            left: 0,
+            columns: 0,
+        },
+        Setting::Count(_, _, _) => Block {
+            top: 0,
+            rows: 0,
+            left: 0,
+            columns: 0,
+        },
+    }
+}
+
+// Writes 0 to the marks of the cells that a setting makes stale.
+fn stale_by(marks: &mut [u8], head: Head, s: Setting)
+    requires { ⌜ (Settable head s) × (1024 ≤ length (now marks)) ⌝ }
+    ensures { λ _. ⌜ now (marks .exit) ≡ written (stalesAt (held (headOnly head)) s) (λ c. 0) (now (marks .entry)) ⌝ }
+{
+    let model = model_of(head.model);
+    let w = by_model(model, head.n, head.n, head.n, head.ng);
+    let diagonal = has_diagonal(model);
+    let block = block_of(model, w, s);
+    stale(marks, w, diagonal, block);
+}
+
+// The head after a setting: another T, or the same.
+fn set_head(head: Head, s: Setting) -> Head
+    ensures { λ r. ⌜ r ≡ setHead head s ⌝ }
+{
+    match s {
+        Setting::Temperature(t) => {
+            let x = head.x;
+            head_with(head, t, true, x, head.has_x)
+        }
+        Setting::Entry(_, _, _) => head,
+        Setting::TdEntry(_, _, _) => head,
+        Setting::Size(_, _, _) => head,
+        Setting::Count(_, _, _) => head,
+    }
+}
+
+// Replaces what the setting names and makes the cells that it is an input of stale.
+pub fn set(values: &mut [f64], cells: &[f64], marks: &mut [u8], head: Head, s: Setting) -> Reply
+    ensures { λ r. ⌜ after (memory (now (values .exit)) (now (cells .entry)) (now (marks .exit))) (r .head) (r .answer) ≡ afterSetting (memory (now (values .entry)) (now (cells .entry)) (now (marks .entry))) head s ⌝ }
+{
+    let fault = setting_fault(values.len(), cells.len(), marks.len(), head, s);
+    if fault != 0 {
+        return Reply {
+            head: head,
+            answer: Answer::Refused(fault),
+        };
+    }
+    let at = store_at(head, s);
+    put(values, at, s);
+    stale_by(marks, head, s);
+    Reply {
+        head: set_head(head, s),
+        answer: Answer::Done,
+    }
+}
