@@ -3,7 +3,7 @@ ghost use mathlib.Core.Path.{_≡_};
 ghost use lib.ListN.{length};
 ghost use Rattle.mixture.specs.Memory.{Memory, memory, after};
 ghost use Rattle.mixture.specs.Faults.{mixFault};
-ghost use Rattle.mixture.specs.Calls.{fractionsFault, withFractions, afterFractions};
+ghost use Rattle.mixture.specs.Calls.{fractionsFault, afterFractions};
 use crate::answers::Answer;
 use crate::answers::Reply;
 use crate::faults::head_fault;

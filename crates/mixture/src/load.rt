@@ -1,16 +1,16 @@
 // Loading a model: document 01, "Mixture".
 ghost use mathlib.Core.Path.{_≡_};
 ghost use mathlib.Core.List.{List, _++_};
-ghost use Prim.Native.Nat.{_*_, _≤_};
+ghost use Prim.Native.Nat.{_≤_};
 ghost use lib.ListN.{length, drop};
 ghost use lib.Ieee.{Float};
 ghost use Rattle.mixture.specs.declared.head.Model.the-variants.{Unifac};
 ghost use Rattle.mixture.specs.Lists.{written};
 ghost use Rattle.mixture.specs.Names.{byModel, ModelData, held};
 ghost use Rattle.mixture.specs.Faults.{dataFault};
-ghost use Rattle.mixture.specs.Memory.{Memory, memory, after};
+ghost use Rattle.mixture.specs.Memory.{memory, after};
 ghost use Rattle.mixture.specs.Layout.{cellAt};
-ghost use Rattle.mixture.specs.Calls.{loadFault, loadedHead, afterLoad};
+ghost use Rattle.mixture.specs.Calls.{loadedHead, afterLoad};
 use crate::answers::Answer;
 use crate::answers::Reply;
 use crate::faults::memory_fault;
