@@ -7,7 +7,7 @@ use Rattle.models.proofs.composition.check_composition.Statement.{state
 use Rattle.models.proofs.composition.check_composition.Tie as tie
 
 composition-fault-requires : tie.Need-composition-fault-requires
-composition-fault-requires c κs = search needs
+composition-fault-requires c κs = tt
 
 returns : tie.Need-returns
 unfolding tolerance dec round ofBits

@@ -11,10 +11,10 @@ unfolding compositionFault
 returns c = simp (eq-eqb _ _ (c .if1 .taken))
 
 sum-requires : tie.Need-sum-requires
-sum-requires c κs = search needs
+sum-requires c κs = tt
 
 sum-fault-requires : tie.Need-sum-fault-requires
-sum-fault-requires c κs = search needs
+sum-fault-requires c κs = tt
 
 returns-2 : tie.Need-returns-2
 unfolding compositionFault

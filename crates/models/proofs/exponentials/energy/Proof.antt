@@ -17,7 +17,7 @@ shared-slice-read-exp-2 : tie.Need-shared-slice-read-exp-2
 shared-slice-read-exp-2 c = search needs
 
 exp-requires : tie.Need-exp-requires
-exp-requires c κs = search needs
+exp-requires c κs = tt
 
 returns : tie.Need-returns
 unfolding energy

@@ -31,7 +31,7 @@ slice-aggregate-call-with : tie.Need-slice-aggregate-call-with
 slice-aggregate-call-with c = search needs
 
 call-with-requires : tie.Need-call-with-requires
-call-with-requires c κs = search needs
+call-with-requires c κs = tt
 
 returns-3 : tie.Need-returns-3
 returns-3 c =

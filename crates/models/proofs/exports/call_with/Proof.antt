@@ -15,14 +15,14 @@ use Rattle.models.proofs.exports.call_with.Statement.{statement}
 use Rattle.models.proofs.exports.call_with.Tie as tie
 
 load-fault-requires : tie.Need-load-fault-requires
-load-fault-requires c κs = search needs
+load-fault-requires c κs = tt
 
 returns : tie.Need-returns
 unfolding exportedBy
 returns c = answer-refused _ (first-left _ (c .before .load-fault .ensures .0) (c .if1 .taken)) (c .if1 .taken)
 
 fractions-fault-requires : tie.Need-fractions-fault-requires
-fractions-fault-requires c κs = search needs
+fractions-fault-requires c κs = tt
 
 returns-2 : tie.Need-returns-2
 unfolding exportedBy

@@ -18,10 +18,10 @@ returns : tie.Need-returns
 returns c = (eights-empty (c .before .before .args .n) (now (c .before .before .args .x)) (c .before .before .args .q) _ (c .if1 .taken), λ e. absurd (omega arith))
 
 sum-floats-requires : tie.Need-sum-floats-requires
-sum-floats-requires c κs = search needs
+sum-floats-requires c κs = tt
 
 sum-fault-requires : tie.Need-sum-fault-requires
-sum-fault-requires c κs = search needs
+sum-fault-requires c κs = tt
 
 returns-2 : tie.Need-returns-2
 unfolding tolerance dec round ofBits
@@ -32,7 +32,7 @@ unfolding tolerance dec round ofBits
 returns-3 c = (eights-length (c .before .before .before .before .before .before .args .n) (now (c .before .before .before .before .before .before .args .x)) (c .before .before .before .before .before .before .args .q) _ (omega arith) (c .before .before .before .sum-floats .ensures) (c .before .before .sum-fault .ensures) (c .before .if2 .left) (c .if3 .taken), λ e. absurd (omega arith))
 
 index-fault-requires : tie.Need-index-fault-requires
-index-fault-requires c κs = search needs
+index-fault-requires c κs = tt
 
 returns-4 : tie.Need-returns-4
 unfolding tolerance dec round ofBits

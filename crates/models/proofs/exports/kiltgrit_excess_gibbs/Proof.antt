@@ -10,10 +10,10 @@ use Rattle.models.proofs.exports.kiltgrit_excess_gibbs.Statement.{state
 use Rattle.models.proofs.exports.kiltgrit_excess_gibbs.Tie as tie
 
 call-requires : tie.Need-call-requires
-call-requires c κs = search needs
+call-requires c κs = tt
 
 give-requires : tie.Need-give-requires
-give-requires c κs = search needs
+give-requires c κs = tt
 
 returns : tie.Need-returns
 returns c = given-as (now (c .before .before .before .before .before .before .before .args .value)) (c .before .before .call .ensures) (c .give .ensures)

@@ -12,10 +12,10 @@ use Rattle.models.proofs.exports.load_fault.Statement.{statement}
 use Rattle.models.proofs.exports.load_fault.Tie as tie
 
 size-requires : tie.Need-size-requires
-size-requires c κs = search needs
+size-requires c κs = tt
 
 shape-fault-requires : tie.Need-shape-fault-requires
-shape-fault-requires c κs = search needs
+shape-fault-requires c κs = tt
 
 returns : tie.Need-returns
 returns c =
@@ -26,10 +26,10 @@ returns c =
     )
 
 size-requires-2 : tie.Need-size-requires-2
-size-requires-2 c κs = search needs
+size-requires-2 c κs = tt
 
 shape-fault-requires-2 : tie.Need-shape-fault-requires-2
-shape-fault-requires-2 c κs = search needs
+shape-fault-requires-2 c κs = tt
 
 returns-2 : tie.Need-returns-2
 returns-2 c =
@@ -40,10 +40,10 @@ returns-2 c =
     )
 
 size-requires-3 : tie.Need-size-requires-3
-size-requires-3 c κs = search needs
+size-requires-3 c κs = tt
 
 shape-fault-requires-3 : tie.Need-shape-fault-requires-3
-shape-fault-requires-3 c κs = search needs
+shape-fault-requires-3 c κs = tt
 
 returns-3 : tie.Need-returns-3
 returns-3 c =
@@ -54,7 +54,7 @@ returns-3 c =
     )
 
 unifac-fault-requires : tie.Need-unifac-fault-requires
-unifac-fault-requires c κs = search needs
+unifac-fault-requires c κs = tt
 
 returns-4 : tie.Need-returns-4
 returns-4 c = let is = c .before .if4 .taken in (load-unifac (c .before .before .before .before .before .before .before .before .args .model) (c .before .before .before .before .before .before .before .before .args .n) (c .before .before .before .before .before .before .before .before .args .ng) (now (c .before .before .before .before .before .before .before .before .args .lens)) (now (c .before .before .before .before .before .before .before .before .args .groups)) (now (c .before .before .before .before .before .before .before .before .args .values)) is (c .unifac-fault .ensures .0), λ z. ready-unifac (c .before .before .before .before .before .before .before .before .args .model) (c .before .before .before .before .before .before .before .before .args .n) (c .before .before .before .before .before .before .before .before .args .ng) (now (c .before .before .before .before .before .before .before .before .args .lens)) (now (c .before .before .before .before .before .before .before .before .args .groups)) (now (c .before .before .before .before .before .before .before .before .args .values)) is (c .unifac-fault .ensures .1 z))

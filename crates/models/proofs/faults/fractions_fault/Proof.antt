@@ -9,7 +9,7 @@ use Rattle.models.proofs.faults.fractions_fault.Statement.{statement}
 use Rattle.models.proofs.faults.fractions_fault.Tie as tie
 
 check-composition-requires : tie.Need-check-composition-requires
-check-composition-requires c κs = search needs
+check-composition-requires c κs = tt
 
 returns : tie.Need-returns
 unfolding fractionsFault
@@ -20,7 +20,7 @@ unfolding fractionsFault
 returns-2 c = (first-right (c .before .before .check-composition .ensures) (c .before .if1 .left) (rw (ne-eqb _ _ (c .if2 .taken))), λ e. absurd (omega arith))
 
 index-fault-requires : tie.Need-index-fault-requires
-index-fault-requires c κs = search needs
+index-fault-requires c κs = tt
 
 returns-3 : tie.Need-returns-3
 unfolding fractionsFault

@@ -5,13 +5,13 @@ use Rattle.models.proofs.faults.plain_fault.Statement.{statement}
 use Rattle.models.proofs.faults.plain_fault.Tie as tie
 
 shape-fault-requires : tie.Need-shape-fault-requires
-shape-fault-requires c κs = search needs
+shape-fault-requires c κs = tt
 
 returns : tie.Need-returns
 returns c = (first-left _ (c .before .shape-fault .ensures .0) (c .if1 .taken), λ e. absurd (c .if1 .taken e))
 
 fractions-fault-requires : tie.Need-fractions-fault-requires
-fractions-fault-requires c κs = search needs
+fractions-fault-requires c κs = tt
 
 returns-2 : tie.Need-returns-2
 returns-2 c =

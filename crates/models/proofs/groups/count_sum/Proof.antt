@@ -37,7 +37,7 @@ part-sum-end : tie.Need-part-sum-end
 part-sum-end c = omega (arith, ends c)
 
 sum-requires : tie.Need-sum-requires
-sum-requires c κs = search needs
+sum-requires c κs = tt
 
 returns : tie.Need-returns
 returns c = let known = c .before .before in counts-is _ _ (known .before .before .before .before .args .i) (known .before .start-of .ensures) (ends known) (c .sum .ensures)

@@ -15,7 +15,7 @@ size : (c : tie.After-counts-at) → c .counts-at .result + c .before .before .s
 size c = ap (λ (k : ℕ). k + c .before .before .start-of .result) (c .counts-at .ensures .0) ∙ ap (λ (k : ℕ). countsAt (c .before .before .before .before .before .before .before .before .before .before .before .args .ng) + k) (c .before .before .start-of .ensures)
 
 in-range-requires : tie.Need-in-range-requires
-in-range-requires c κs = search needs
+in-range-requires c κs = tt
 
 returns : tie.Need-returns
 returns c = (

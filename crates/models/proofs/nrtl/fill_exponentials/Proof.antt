@@ -37,7 +37,7 @@ shared-slice-read-exponential-2 : tie.Need-shared-slice-read-exponential-2 Inv-l
 shared-slice-read-exponential-2 c = omega arith
 
 exponential-requires : tie.Need-exponential-requires Inv-loop μ-loop
-exponential-requires c κs = search needs
+exponential-requires c κs = tt
 
 mul-out : tie.Need-mul-out Inv-loop μ-loop
 mul-out c = omega arith

@@ -22,7 +22,7 @@ abbrev μ-loop : tie.MeasureT-loop
 μ-loop n values t out₀ ln k₀ k-end out k = n * n - k
 
 log-requires : tie.Need-log-requires Inv-loop μ-loop
-log-requires c κs = search needs
+log-requires c κs = tt
 
 mul-k-end : tie.Need-mul-k-end Inv-loop μ-loop
 mul-k-end c = omega (arith, mul-le-mul (c .before .before .before .pre .0) (c .before .before .before .pre .0))
@@ -38,7 +38,7 @@ five-at-requires : tie.Need-five-at-requires Inv-loop μ-loop
 five-at-requires c κs = search needs
 
 value-by-requires : tie.Need-value-by-requires Inv-loop μ-loop
-value-by-requires c κs = search needs
+value-by-requires c κs = tt
 
 mul-out : tie.Need-mul-out Inv-loop μ-loop
 mul-out c = omega arith

@@ -7,10 +7,10 @@ use Rattle.models.proofs.unifac.combinatorial.Statement.{statement}
 use Rattle.models.proofs.unifac.combinatorial.Tie as tie
 
 log-requires : tie.Need-log-requires
-log-requires c κs = search needs
+log-requires c κs = tt
 
 log-requires-2 : tie.Need-log-requires-2
-log-requires-2 c κs = search needs
+log-requires-2 c κs = tt
 
 returns : tie.Need-returns
 unfolding combinatorialBy one five dec round ofBits

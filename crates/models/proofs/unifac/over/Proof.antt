@@ -28,7 +28,7 @@ ln-gamma-requires-2 c κs =
     (listed-less (start .pre .0) _ (start .args .ng) (index-gamma (c .before .asked2 .given .1) (start .pre .7)) (omega arith), omega (arith, index-gamma (c .before .asked2 .given .1) (start .pre .7), start .pre .1), start .pre .2, start .pre .4, start .pre .5)
 
 exp-requires : tie.Need-exp-requires
-exp-requires c κs = search needs
+exp-requires c κs = tt
 
 enum-told : tie.Need-enum-told
 enum-told c = search needs

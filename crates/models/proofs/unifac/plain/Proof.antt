@@ -7,14 +7,14 @@ use Rattle.models.proofs.unifac.plain.Statement.{statement}
 use Rattle.models.proofs.unifac.plain.Tie as tie
 
 unifac-fault-requires : tie.Need-unifac-fault-requires
-unifac-fault-requires c κs = search needs
+unifac-fault-requires c κs = tt
 
 returns : tie.Need-returns
 unfolding unifacPlain
 returns c = answer-refused _ (first-left _ (c .before .unifac-fault .ensures .0) (c .if1 .taken)) (c .if1 .taken)
 
 fractions-fault-requires : tie.Need-fractions-fault-requires
-fractions-fault-requires c κs = search needs
+fractions-fault-requires c κs = tt
 
 returns-2 : tie.Need-returns-2
 unfolding unifacPlain

@@ -12,10 +12,10 @@ five-at-requires : tie.Need-five-at-requires
 five-at-requires c κs = search needs
 
 value-by-requires : tie.Need-value-by-requires
-value-by-requires c κs = search needs
+value-by-requires c κs = tt
 
 exp-requires : tie.Need-exp-requires
-exp-requires c κs = search needs
+exp-requires c κs = tt
 
 returns : tie.Need-returns
 unfolding psiBy

@@ -13,7 +13,7 @@ use Rattle.models.proofs.unifac.unifac_fault.Statement.{statement}
 use Rattle.models.proofs.unifac.unifac_fault.Tie as tie
 
 lists-fault-requires : tie.Need-lists-fault-requires
-lists-fault-requires c κs = search needs
+lists-fault-requires c κs = tt
 
 returns : tie.Need-returns
 unfolding unifacFault

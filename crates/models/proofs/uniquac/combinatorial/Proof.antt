@@ -7,13 +7,13 @@ use Rattle.models.proofs.uniquac.combinatorial.Statement.{statement}
 use Rattle.models.proofs.uniquac.combinatorial.Tie as tie
 
 log-requires : tie.Need-log-requires
-log-requires c κs = search needs
+log-requires c κs = tt
 
 log-requires-2 : tie.Need-log-requires-2
-log-requires-2 c κs = search needs
+log-requires-2 c κs = tt
 
 l-requires : tie.Need-l-requires
-l-requires c κs = search needs
+l-requires c κs = tt
 
 returns : tie.Need-returns
 unfolding Z half dec round ofBits

@@ -39,7 +39,7 @@ shared-slice-read-l-2 : tie.Need-shared-slice-read-l-2 Inv-loop μ-loop
 shared-slice-read-l-2 c = omega arith
 
 l-requires : tie.Need-l-requires Inv-loop μ-loop
-l-requires c κs = search needs
+l-requires c κs = tt
 
 add-j : tie.Need-add-j Inv-loop μ-loop
 add-j c = omega arith

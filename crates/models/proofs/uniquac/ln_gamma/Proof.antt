@@ -52,7 +52,7 @@ shared-slice-read-combinatorial-4 : tie.Need-shared-slice-read-combinatorial-4
 shared-slice-read-combinatorial-4 c = search needs
 
 combinatorial-requires : tie.Need-combinatorial-requires
-combinatorial-requires c κs = search needs
+combinatorial-requires c κs = tt
 
 mul-at : tie.Need-mul-at
 mul-at c = omega (arith, ends (c .before .before .before .before .before .before .before .before .before .before .before .before .before))

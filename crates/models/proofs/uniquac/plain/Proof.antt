@@ -12,10 +12,10 @@ use Rattle.models.proofs.uniquac.plain.Statement.{statement}
 use Rattle.models.proofs.uniquac.plain.Tie as tie
 
 size-requires : tie.Need-size-requires
-size-requires c κs = search needs
+size-requires c κs = tt
 
 plain-fault-requires : tie.Need-plain-fault-requires
-plain-fault-requires c κs = search needs
+plain-fault-requires c κs = tt
 
 returns : tie.Need-returns
 unfolding uniquacPlain

@@ -64,7 +64,7 @@ ln-gamma-requires-2 c κs =
     (start .pre .1, start .pre .2, start .pre .3, start .pre .4, omega (arith, all .before .before .shares .ok), omega (arith, all .unit-column-sums .ok), index-gamma (c .before .before .before .k2 .given .1) (start .pre .5), shared all)
 
 exp-requires : tie.Need-exp-requires
-exp-requires c κs = search needs
+exp-requires c κs = tt
 
 enum-told : tie.Need-enum-told
 enum-told c = search needs

@@ -35,7 +35,7 @@ shared-slice-read-log : tie.Need-shared-slice-read-log Inv-loop μ-loop
 shared-slice-read-log c = omega arith
 
 log-requires : tie.Need-log-requires Inv-loop μ-loop
-log-requires c κs = search needs
+log-requires c κs = tt
 
 add-i : tie.Need-add-i Inv-loop μ-loop
 add-i c = omega arith

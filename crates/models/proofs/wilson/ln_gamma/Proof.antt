@@ -86,7 +86,7 @@ shared-slice-read-log : tie.Need-shared-slice-read-log Inv-loop μ-loop
 shared-slice-read-log c = omega arith
 
 log-requires : tie.Need-log-requires Inv-loop μ-loop
-log-requires c κs = search needs
+log-requires c κs = tt
 
 returns : tie.Need-returns Inv-loop μ-loop
 unfolding lnGamma one dec round ofBits

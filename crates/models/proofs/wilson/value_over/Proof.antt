@@ -36,7 +36,7 @@ ln-gamma-requires-2 c κs =
     (start .pre .1, start .pre .2, start .pre .3, omega (arith, sums .row-sums .ok), index-gamma (c .before .before .q2 .given .1) (start .pre .4), sums .row-sums .ensures)
 
 exp-requires : tie.Need-exp-requires
-exp-requires c κs = search needs
+exp-requires c κs = tt
 
 enum-told : tie.Need-enum-told
 enum-told c = search needs

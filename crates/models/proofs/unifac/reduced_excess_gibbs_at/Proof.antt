@@ -1,0 +1,13 @@
+-- The plain call at its quantity. Assumes nothing.
+use borrow.Author.Needs.{needs}
+use Rattle.models.proofs.unifac.reduced_excess_gibbs_at.Statement.{statement}
+use Rattle.models.proofs.unifac.reduced_excess_gibbs_at.Tie as tie
+
+plain-requires : tie.Need-plain-requires
+plain-requires c κs = tt
+
+returns : tie.Need-returns
+returns c = c .plain .ensures
+
+pub reduced-excess-gibbs-at-spec : {M : Type 1} → statement M
+reduced-excess-gibbs-at-spec = tie.close (tie.spec plain-requires returns)
