@@ -120,7 +120,8 @@ from-digits-requires : tie.Need-from-digits-requires
 unfolding b
 from-digits-requires c κs =
     let r = p c in
-    rw (q-is c, x-is c) (Q-low (r .m) (r .z) (r .E) (r .o) (r .lo) (r .hi) (r .Z), Q-high (r .m) (r .z) (r .E) (r .o) (r .lo) (r .hi) (r .Z), r .near)
+    let h = leading-le 64 (toBits binary64 (arg (c .before))) in
+    rw (q-is c) (Q-low (r .m) (r .z) (r .E) (r .o) (r .lo) (r .hi) (r .Z), Q-high (r .m) (r .z) (r .E) (r .o) (r .lo) (r .hi) (r .Z), omega arith)
 
 returns-6 : tie.Need-returns-6
 unfolding b
