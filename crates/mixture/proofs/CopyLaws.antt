@@ -29,5 +29,8 @@ module _ {A : Type 0} (z : A) where
   drop-zeros (suc n) zero = let e : suc n - 0 ≡ suc n = omega arith in rw e
   drop-zeros (suc n) (suc k) = drop-zeros n k ∙ (let e : suc n - suc k ≡ n - k = omega arith in rw e)
 
+  pub zeros-after : (n : ℕ) (s : List A) → s ++ drop (length s) (replicate n z) ≡ padded n z s
+  zeros-after n s = rw (drop-zeros n (length s))
+
   pub pad-done : (n : ℕ) (s to : List A) (k : ℕ) → to ≡ take k s ++ drop k (replicate n z) → k ≡ length s → to ≡ padded n z s
-  pad-done n s to k so e = so ∙ rw (e, take-length, drop-zeros n (length s))
+  pad-done n s to k so e = so ∙ rw (e, take-length) (zeros-after n s)

@@ -44,19 +44,6 @@ pub fn model_of(k: u8) -> Model
     Model::Unifac
 }
 
-// Whether none of the first n lists is over 12.
-fn lens_short(lens: &[u8], n: usize) -> bool
-    requires { ⌜ n ≤ length (now lens) ⌝ }
-    ensures { λ r. ⌜ r ≡ allTo n (λ i. leb (getD (now (lens .entry)) i 0) 12) ⌝ }
-{
-    for i in 0..n {
-        if 12 < lens[i] {
-            return false;
-        }
-    }
-    true
-}
-
 // Whether the first groups, as many as there are places, are below ng.
 fn groups_below(groups: &[u8], places: usize, ng: usize) -> bool
     requires { ⌜ places ≤ length (now groups) ⌝ }
@@ -81,7 +68,7 @@ fn lists_in_range(n: usize, ng: usize, lens: [u8; 12], groups: [u8; 144]) -> boo
     if 32 < ng {
         return false;
     }
-    if !lens_short(&lens[..], n) {
+    if !models::groups::short(&lens[..], n) {
         return false;
     }
     let places = models::groups::start_of(&lens[..], n);

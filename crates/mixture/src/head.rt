@@ -1,9 +1,9 @@
 // The head, which goes in and comes back by value.
 ghost use mathlib.Core.Path.{_≡_};
 ghost use mathlib.Core.Bool.{false};
-ghost use mathlib.Core.List.{[]};
+ghost use mathlib.Core.List.{[], _++_};
 ghost use Prim.Native.Nat.{_≤_};
-ghost use lib.ListN.{length, replicate};
+ghost use lib.ListN.{length, drop, replicate};
 ghost use Rattle.arithmetic.specs.Floats.{+0};
 ghost use Rattle.mixture.specs.Lists.{padded};
 ghost use Rattle.mixture.specs.Calls.{freshHead, headWith};
@@ -28,27 +28,14 @@ pub struct Head {
     pub has_x: bool,
 }
 
-// The bytes, with 0 in the places past them.
-fn pad_lens(s: &[u8]) -> [u8; 12]
-    requires { ⌜ length (now s) ≤ 12 ⌝ }
-    ensures { λ r. ⌜ r ≡ padded 12 0 (now (s .entry)) ⌝ }
+// The bytes in the first places.
+fn copy_bytes(r: &mut [u8], s: &[u8])
+    requires { ⌜ length (now s) ≤ length (now r) ⌝ }
+    ensures { λ _. ⌜ now (r .exit) ≡ now (s .entry) ++ drop (length (now (s .entry))) (now (r .entry)) ⌝ }
 {
-    let mut r = [0u8; 12];
     for k in 0..s.len() {
         r[k] = s[k];
     }
-    r
-}
-
-fn pad_groups(s: &[u8]) -> [u8; 144]
-    requires { ⌜ length (now s) ≤ 144 ⌝ }
-    ensures { λ r. ⌜ r ≡ padded 144 0 (now (s .entry)) ⌝ }
-{
-    let mut r = [0u8; 144];
-    for k in 0..s.len() {
-        r[k] = s[k];
-    }
-    r
 }
 
 // The fractions, with 0 in the places past them.
@@ -92,7 +79,11 @@ pub fn listed_head(n: usize, ng: usize, lens: &[u8], groups: &[u8]) -> Head
     requires { ⌜ (length (now lens) ≤ 12) × (length (now groups) ≤ 144) ⌝ }
     ensures { λ r. ⌜ r ≡ freshHead 4 n ng (now (lens .entry)) (now (groups .entry)) ⌝ }
 {
-    unset_head(4, n, ng, pad_lens(lens), pad_groups(groups))
+    let mut all_lens = [0u8; 12];
+    copy_bytes(&mut all_lens, lens);
+    let mut all_groups = [0u8; 144];
+    copy_bytes(&mut all_groups, groups);
+    unset_head(4, n, ng, all_lens, all_groups)
 }
 
 // The head with another T and other fractions.

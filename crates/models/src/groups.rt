@@ -189,7 +189,7 @@ pub fn counts_at(ng: usize) -> usize
 }
 
 // Whether none of the first n lists is over 12.
-fn short(lens: &[u8], n: usize) -> bool
+pub fn short(lens: &[u8], n: usize) -> bool
     requires { ⌜ n ≤ length (now lens) ⌝ }
     ensures { λ r. ⌜ r ≡ allTo n (λ i. leb (getD (now (lens .entry)) i 0) 12) ⌝ }
 {

@@ -15,14 +15,14 @@ returns c = simp (lt-leb _ _ (c .if1 .taken))
 returns-2 : tie.Need-returns-2
 returns-2 c = simp (le-leb _ _ (c .before .if1 .left), lt-leb _ _ (c .if2 .taken))
 
-slice-aggregate-lens-short : tie.Need-slice-aggregate-lens-short
-slice-aggregate-lens-short c = search needs
+slice-aggregate-short : tie.Need-slice-aggregate-short
+slice-aggregate-short c = search needs
 
-lens-short-requires : tie.Need-lens-short-requires
-lens-short-requires c κs = search needs
+short-requires : tie.Need-short-requires
+short-requires c κs = search needs
 
 returns-3 : tie.Need-returns-3
-returns-3 c = simp (le-leb _ _ (c .before .before .before .before .if1 .left), le-leb _ _ (c .before .before .before .if2 .left), sym (c .before .lens-short .ensures) ∙ not-true _ (c .if3 .taken))
+returns-3 c = simp (le-leb _ _ (c .before .before .before .before .if1 .left), le-leb _ _ (c .before .before .before .if2 .left), sym (c .before .short .ensures) ∙ not-true _ (c .if3 .taken))
 
 slice-aggregate-start-of : tie.Need-slice-aggregate-start-of
 slice-aggregate-start-of c = search needs
@@ -35,11 +35,11 @@ slice-aggregate-groups-below c = search needs
 
 groups-below-requires : tie.Need-groups-below-requires
 groups-below-requires c κs =
-    let short = sym (c .before .before .before .before .lens-short .ensures) ∙ not-false _ (c .before .before .before .if3 .left) in
-    omega (arith, c .before .start-of .ensures, start-bound (c .before .before .before .before .before .before .before .before .args .t3) (c .before .before .before .before .before .before .before .before .args .n) (λ i b. leb-true _ _ (all-at _ (λ k. leb (getD (c .before .before .before .before .before .before .before .before .args .t3) k 0) 12) short i b)))
+    let none-long = sym (c .before .before .before .before .short .ensures) ∙ not-false _ (c .before .before .before .if3 .left) in
+    omega (arith, c .before .start-of .ensures, start-bound (c .before .before .before .before .before .before .before .before .args .t3) (c .before .before .before .before .before .before .before .before .args .n) (λ i b. leb-true _ _ (all-at _ (λ k. leb (getD (c .before .before .before .before .before .before .before .before .args .t3) k 0) 12) none-long i b)))
 
 returns-4 : tie.Need-returns-4
-returns-4 c = c .groups-below .ensures ∙ simp (le-leb _ _ (c .before .before .before .before .before .before .before .before .if1 .left), le-leb _ _ (c .before .before .before .before .before .before .before .if2 .left), sym (c .before .before .before .before .before .lens-short .ensures) ∙ not-false _ (c .before .before .before .before .if3 .left), c .before .before .start-of .ensures)
+returns-4 c = c .groups-below .ensures ∙ simp (le-leb _ _ (c .before .before .before .before .before .before .before .before .if1 .left), le-leb _ _ (c .before .before .before .before .before .before .before .if2 .left), sym (c .before .before .before .before .before .short .ensures) ∙ not-false _ (c .before .before .before .before .if3 .left), c .before .before .start-of .ensures)
 
 pub lists-in-range-spec : {M : Type 1} → statement M
 lists-in-range-spec =
@@ -47,8 +47,8 @@ lists-in-range-spec =
     (tie.spec
     returns
     returns-2
-    slice-aggregate-lens-short
-    lens-short-requires
+    slice-aggregate-short
+    short-requires
     returns-3
     slice-aggregate-start-of
     start-of-requires

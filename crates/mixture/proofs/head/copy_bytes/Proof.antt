@@ -1,0 +1,57 @@
+-- Before each turn the places passed are copied, and the rest are as they were.
+use mathlib.Core.List.{_++_}
+use lib.ListN.{take, drop, length-set}
+use denote.Ref.{now}
+use Rattle.mixture.proofs.CopyLaws.{copy-turn, copy-done}
+use mathlib.Core.Path.{_≡_, refl, _∙_}
+use Prim.Native.Nat.{_-_, _≤_}
+use native.Mathlib.Omega.{arith}
+use borrow.Author.Needs.{needs}
+use lib.ListN.{length}
+use Rattle.mixture.proofs.head.copy_bytes.Statement.{statement}
+use Rattle.mixture.proofs.head.copy_bytes.Tie as tie
+
+abbrev Inv-loop : tie.InvT-loop
+Inv-loop r₀ s k₀ k-end r k = (k ≤ length s) × (length r ≡ length r₀) × (r ≡ take k s ++ drop k r₀)
+
+abbrev μ-loop : tie.MeasureT-loop
+μ-loop r₀ s k₀ k-end r k = length s - k
+
+loop-holds : tie.Need-loop-holds Inv-loop μ-loop
+loop-holds c = (omega arith, refl, refl)
+
+shared-slice-read-r : tie.Need-shared-slice-read-r Inv-loop μ-loop
+shared-slice-read-r c = omega arith
+
+slice-write-r : tie.Need-slice-write-r Inv-loop μ-loop
+slice-write-r c = omega arith
+
+add-k : tie.Need-add-k Inv-loop μ-loop
+add-k c = omega arith
+
+loop-less : tie.Need-loop-less Inv-loop μ-loop
+loop-less c = omega arith
+
+loop-again : tie.Need-loop-again Inv-loop μ-loop
+loop-again c = let top = c .before .before in (omega arith, length-set (top .loop .r) (top .loop .k) _ ∙ top .loop .inv .1, copy-turn 0 _ (top .before .args .r .now) _ _ (top .loop .inv .2) (top .before .pre) (c .before .loop-test .taken))
+
+same-length : tie.Need-same-length Inv-loop μ-loop
+same-length c = search needs
+
+returns : tie.Need-returns Inv-loop μ-loop
+returns c = copy-done 0 (now (c .before .before .args .s)) _ _ (c .before .loop .k) (c .before .loop .inv .2) (c .before .before .pre) (omega arith)
+
+pub copy-bytes-spec : {M : Type 1} → statement M
+copy-bytes-spec =
+    tie.close
+    (tie.spec
+    Inv-loop
+    μ-loop
+    loop-holds
+    shared-slice-read-r
+    slice-write-r
+    add-k
+    loop-less
+    loop-again
+    same-length
+    returns)
