@@ -1,0 +1,134 @@
+-- What a record shows of its floats and lists, and the call that it makes. Assumes nothing.
+use Prim.Native.Nat.{ℕ, zero, suc, _+_, _*_, _<_, _≤_}
+use native.Mathlib.Omega.{arith}
+use mathlib.Core.Path.{_≡_, refl, sym, ap, _∙_, subst}
+use mathlib.Core.Bool.{Bool, true, false, cond}
+use mathlib.Core.List.{List, _++_}
+use mathlib.Core.Logic.{_⊎_, inl, inr}
+use lib.Dec.{ltb, eqb}
+use lib.ListN.{length, take}
+use lib.Seq.{take-all}
+use lib.Ieee.{Float}
+use borrow.Author.Tests.{lt-ltb, le-ltb, eq-eqb, ne-eqb, eqb-true}
+use Rattle.arithmetic.specs.Bytes.{floatsAt}
+use Rattle.arithmetic.proofs.Differences.{either}
+use Rattle.arithmetic.specs.declared.parameters.TdParam.{TdParam}
+use Rattle.models.specs.Values.{fiveAt}
+use Rattle.models.specs.declared.answers.Quantity.{Quantity}
+use Rattle.mixture.specs.declared.head.Head.{Head}
+use Rattle.mixture.specs.declared.head.Model.{Model}
+use Rattle.mixture.specs.declared.setting.Setting.{Setting}
+use Rattle.mixture.specs.Names.{ModelData}
+use Rattle.mixture.specs.Memory.{Memory, After}
+use Rattle.mixture.specs.Calls.{afterLoad, afterSetting, afterFractions, afterQuery}
+use Rattle.mixture.specs.History.{afterCall}
+use Rattle.strip.specs.declared.records.Shape.{Shape}
+use Rattle.strip.specs.declared.records.Rec.{Rec}
+use Rattle.strip.specs.Words.{mostBytes}
+use Rattle.strip.specs.Records.{shape, shapeOf}
+use Rattle.strip.specs.Calls.{floatsOf, listsOf, modelOf, dataOf, settingOf, quantityOf, callOf}
+use Rattle.strip.specs.Inner.{Whole, Listed}
+use Rattle.strip.proofs.RecordLaws.{floats-is}
+
+-- ---- floats and lists
+
+-- a choice of two
+each : (P : Shape → Type 0) (t : Bool) (a b : Shape) → P a → P b → P (cond t a b)
+each P true a b x y = x
+each P false a b x y = y
+
+lists-is : (a b : Shape) → a ≡ b → a .lists ≡ b .lists
+lists-is a b e = cc
+
+formed-is : (a b : Shape) → a ≡ b → a .formed ≡ b .formed
+formed-is a b e = cc
+
+-- no kind has more lists than i
+few-lists : (kind i j : ℕ) → shapeOf kind i j .lists ≤ i
+unfolding shapeOf
+few-lists kind i j =
+    let P : Shape → Type 0 = λ k. k .lists ≤ i in
+    each P (eqb kind 1) _ _ (omega arith)
+    (each P (eqb kind 2) _ _ (omega arith)
+    (each P (eqb kind 3) _ _ (omega arith)
+    (each P (eqb kind 4) _ _ (omega arith)
+    (each P (eqb kind 5) _ _ (omega arith)
+    (each P (eqb kind 6) _ _ (omega arith)
+    (each P (eqb kind 7) _ _ (omega arith)
+    (each P (eqb kind 8) _ _ (omega arith)
+    (each P (eqb kind 9) _ _ (omega arith)
+    (each P (eqb kind 10) _ _ (omega arith)
+    (each P (eqb kind 11) _ _ (omega arith) (omega arith)))))))))))
+
+-- a setting has a float
+some : (kind i j f l : ℕ) → 5 ≤ kind → (kind ≡ 6 → ⊥) → (kind ≡ 11 → ⊥) → shapeOf kind i j ≡ shape true f l → 1 ≤ f
+unfolding shapeOf
+some kind i j f l a b c =
+    let P : Shape → Type 0 = λ k. k ≡ shape true f l → 1 ≤ f in
+    rw (ne-eqb kind 1 (λ (e : kind ≡ 1). omega arith), ne-eqb kind 2 (λ (e : kind ≡ 2). omega arith), ne-eqb kind 3 (λ (e : kind ≡ 3). omega arith), ne-eqb kind 4 (λ (e : kind ≡ 4). omega arith), ne-eqb kind 6 b, ne-eqb kind 11 c)
+    (each P (eqb kind 5) _ _ (λ e. omega (arith, floats-is _ _ e))
+    (each P (eqb kind 7) _ _ (λ e. omega (arith, floats-is _ _ e))
+    (each P (eqb kind 8) _ _ (λ e. omega (arith, floats-is _ _ e))
+    (each P (eqb kind 9) _ _ (λ e. omega (arith, floats-is _ _ e))
+    (each P (eqb kind 10) _ _ (λ e. omega (arith, floats-is _ _ e)) (λ e. never (formed-is _ _ e)))))))
+  where
+    never : false ≡ true → 1 ≤ f
+    never e = let z : _≡_ {A = ℕ} 0 1 = cc in absurd (omega arith)
+
+six : (kind i j f l : ℕ) → kind ≡ 6 → shapeOf kind i j ≡ shape true f l → i ≡ f
+unfolding shapeOf
+six kind i j f l e h = floats-is (shapeOf 6 i j) (shape true f l) (rw e at h)
+
+eight : (kind i j f l : ℕ) → kind ≡ 8 → shapeOf kind i j ≡ shape true f l → _≡_ {A = ℕ} 5 f
+unfolding shapeOf
+eight kind i j f l e h = floats-is (shapeOf 8 i j) (shape true f l) (rw e at h)
+
+module _ (s : List ℕ) (r : Rec) (w : Whole s r) where
+  pub whole-few : r .floats ≤ 8192
+  whole-few = omega (arith, w .floats, w .short)
+
+  pub whole-lists : r .lists ≤ 255
+  whole-lists = omega (arith, few-lists (r .kind) (r .i) (r .j), lists-is _ _ (w .shaped), w .i)
+
+  pub whole-one : 5 ≤ r .kind → (r .kind ≡ 6 → ⊥) → (r .kind ≡ 11 → ⊥) → 1 ≤ r .floats
+  whole-one a b c = some (r .kind) (r .i) (r .j) (r .floats) (r .lists) a b c (w .shaped)
+
+  pub whole-mix : r .kind ≡ 6 → r .floats ≤ 255
+  whole-mix e = omega (arith, six (r .kind) (r .i) (r .j) (r .floats) (r .lists) e (w .shaped), w .i)
+
+  pub whole-td : r .kind ≡ 8 → _≡_ {A = ℕ} 5 (r .floats)
+  whole-td e = eight (r .kind) (r .i) (r .j) (r .floats) (r .lists) e (w .shaped)
+
+pub five-is : (s : List ℕ) (p : ℕ) (l : List Float) (r : TdParam) → length l ≤ 5 → r ≡ fiveAt l 0 → take 5 l ≡ floatsAt s p 5 → r ≡ fiveAt (floatsAt s p 5) 0
+five-is s p l r h e f = e ∙ ap (λ (z : List Float). fiveAt z 0) (sym (take-all 5 l h) ∙ f)
+
+pub td-is : (s : List ℕ) (r : Rec) (p : TdParam) → Whole s r → r .kind ≡ 8 → p ≡ fiveAt (floatsAt s (r .body) 5) 0 → p ≡ fiveAt (floatsOf s r) 0
+td-is s r p w e f = f ∙ ap (λ (k : ℕ). fiveAt (floatsAt s (r .body) k) 0) (whole-td s r w e)
+
+-- ---- the call, by its kind
+
+pub fractions-is : (s : List ℕ) (r : Rec) (m : Memory) (h : Head) (x : After) {a : List Float} → x ≡ afterFractions m h a → a ≡ floatsOf s r → x ≡ afterFractions m h (floatsOf s r)
+fractions-is s r m h x e f = e ∙ ap (afterFractions m h) f
+
+pub load-is : (s : List ℕ) (r : Rec) (k : Model) (n c f : ℕ) (ls gs : List ℕ) (a a′ : List Float) (m : Memory) (h : Head) (x : After)
+    → x ≡ afterLoad m h (record { model = k; n = r .i; ng = r .j; lens = take n ls; groups = take c gs; values = take (f + c) a′ })
+    → k ≡ modelOf (r .kind) → take f a ≡ floatsOf s r → Listed (listsOf s r) n c f ls gs a a′ → x ≡ afterLoad m h (dataOf s r)
+load-is s r k n c f ls gs a a′ m h x e q t l = e ∙ rw (q, l .lengths, l .members, l .numbers, t)
+
+module _ (s : List ℕ) (r : Rec) (m : Memory) (h : Head) (x : After) where
+  pub by-load : r .kind < 5 → x ≡ afterLoad m h (dataOf s r) → x ≡ afterCall m h (callOf s r)
+  unfolding callOf afterCall
+  by-load l e = rw (lt-ltb (r .kind) 5 l) e
+
+  module _ (l : 5 ≤ r .kind) where
+    pub by-fractions : r .kind ≡ 6 → x ≡ afterFractions m h (floatsOf s r) → x ≡ afterCall m h (callOf s r)
+    unfolding callOf afterCall
+    by-fractions a e = rw (le-ltb (r .kind) 5 l, eq-eqb (r .kind) 6 a) e
+
+    pub by-query : (r .kind ≡ 6 → ⊥) → r .kind ≡ 11 → (q : Quantity) → q ≡ quantityOf (r .i) (r .j) → x ≡ afterQuery m h q → x ≡ afterCall m h (callOf s r)
+    unfolding callOf afterCall
+    by-query a b q f e = rw (le-ltb (r .kind) 5 l, ne-eqb (r .kind) 6 a, eq-eqb (r .kind) 11 b) (e ∙ rw f)
+
+    pub by-setting : (r .kind ≡ 6 → ⊥) → (r .kind ≡ 11 → ⊥) → (q : Setting) → q ≡ settingOf s r → x ≡ afterSetting m h q → x ≡ afterCall m h (callOf s r)
+    unfolding callOf afterCall
+    by-setting a b q f e = rw (le-ltb (r .kind) 5 l, ne-eqb (r .kind) 6 a, ne-eqb (r .kind) 11 b) (e ∙ rw f)

@@ -1,0 +1,5 @@
+pub mod TextLaws
+pub mod ListLaws
+pub mod RecordLaws
+pub mod CallLaws
+pub mod RunLaws

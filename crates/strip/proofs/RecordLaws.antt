@@ -1,0 +1,169 @@
+-- The shape of each kind, and the record at a place. Assumes nothing.
+use Prim.Native.Nat.{ℕ, zero, suc, _+_, _*_, _<_, _≤_}
+use native.Mathlib.Nat.{mul-le-mul}
+use native.Mathlib.Omega.{arith}
+use mathlib.Core.Path.{_≡_, refl, sym, ap, _∙_, subst}
+use mathlib.Core.Bool.{Bool, true, false, _&&_, cond}
+use mathlib.Core.List.{List}
+use mathlib.Core.Logic.{_⊎_, inl, inr}
+use lib.Dec.{leb, ltb, eqb}
+use lib.ListN.{length}
+use borrow.Author.Tests.{lt-ltb, le-ltb, ltb-false, lt-leb, le-leb, leb-false, eq-eqb, ne-eqb, eqb-true, eqb-false}
+use Rattle.arithmetic.specs.Bytes.{wordAt}
+use Rattle.arithmetic.proofs.Differences.{either, le-or}
+use Rattle.strip.specs.declared.records.Shape.{Shape}
+use Rattle.strip.specs.declared.records.Rec.{Rec}
+use Rattle.strip.specs.declared.records.Read.{Read}
+use Rattle.strip.specs.declared.records.Read.the-variants.{Record, Broken, End}
+use Rattle.strip.specs.Words.{mostBytes, kindOf, iOf, jOf, restOf}
+use Rattle.strip.specs.Lists.{listsAt}
+use Rattle.strip.specs.Records.{shape, shapeOf, recordOf, whole, recordBy, readAt}
+use Rattle.strip.specs.Inner.{Whole}
+use Rattle.strip.proofs.ListLaws.{lists-after}
+
+pub square : (i : ℕ) → i < 256 → i * i ≤ 65025
+square i h = mul-le-mul {n₁ = i} {m₁ = i} {n₂ = 255} {m₂ = 255} (omega arith) (omega arith)
+
+pub shape-by : (k : Shape) {a b : Shape} → k ≡ a → b ≡ a → k ≡ b
+shape-by k e f = e ∙ sym f
+
+pub floats-is : (a b : Shape) → a ≡ b → a .floats ≡ b .floats
+floats-is a b e = cc
+
+-- ---- what `read_at` answers
+
+pub read-end : (s : List ℕ) (p : ℕ) → length s ≤ p → End ≡ readAt s p
+unfolding readAt
+read-end s p h = rw (le-leb (length s) p h)
+
+pub read-cut : (s : List ℕ) (p : ℕ) → p < length s → length s < p + 4 → Broken ≡ readAt s p
+unfolding readAt
+read-cut s p h g = rw (lt-leb (length s) p h, lt-ltb (length s) (p + 4) g)
+
+module _ (s : List ℕ) (p w kind i j : ℕ) (k : Shape) (a : p < length s) (b : p + 4 ≤ length s) (e : w ≡ wordAt s p) (f : kind ≡ kindOf w) (g : i ≡ iOf w) (h : j ≡ jOf w) (l : k ≡ shapeOf kind i j) where
+  at-word : readAt s p ≡ recordBy s p w k
+  unfolding readAt
+  at-word = rw (lt-leb (length s) p a, le-ltb (length s) (p + 4) b, l, f, g, h, e)
+
+  pub read-rest : (r : ℕ) → r ≡ restOf w → (r ≡ 0 → ⊥) → Broken ≡ readAt s p
+  unfolding recordBy
+  read-rest r c d = sym (at-word ∙ rw (← c, ne-eqb r 0 d))
+
+  module _ (r : ℕ) (c : r ≡ restOf w) (d : r ≡ 0) where
+    pub read-malformed : k .formed ≡ false → Broken ≡ readAt s p
+    unfolding recordBy
+    read-malformed t = sym (at-word ∙ rw (← c, eq-eqb r 0 d, t))
+
+    module _ (t : k .formed ≡ true) (n : ℕ) (q : n ≡ listsAt s (k .lists) (p + 4 + 8 * k .floats) .end) where
+      pub read-missing : n ≡ 0 → Broken ≡ readAt s p
+      unfolding recordBy
+      read-missing z = sym (at-word ∙ rw (← c, eq-eqb r 0 d, t, ← q, eq-eqb n 0 z))
+
+      pub read-long : (n ≡ 0 → ⊥) → length s < n → Broken ≡ readAt s p
+      unfolding recordBy
+      read-long z m = sym (at-word ∙ rw (← c, eq-eqb r 0 d, t, ← q, ne-eqb n 0 z, lt-ltb (length s) n m))
+
+      pub read-record : (n ≡ 0 → ⊥) → n ≤ length s
+          → Record (record { kind = kind; i = i; j = j; floats = k .floats; lists = k .lists; body = p + 4; next = n }) ≡ readAt s p
+      unfolding recordBy
+      read-record z m = sym (at-word ∙ rw (← c, eq-eqb r 0 d, t, ← q, ne-eqb n 0 z, le-ltb (length s) n m, f, g, h))
+
+-- ---- what a record that was read shows
+
+pick-right : (t : Bool) (a b : Read) (r : Rec) → (a ≡ Record r → ⊥) → cond t a b ≡ Record r → (t ≡ false) × (b ≡ Record r)
+pick-right true a b r n e = absurd (n e)
+pick-right false a b r n e = (refl, e)
+
+pick-left : (t : Bool) (a b : Read) (r : Rec) → (b ≡ Record r → ⊥) → cond t a b ≡ Record r → (t ≡ true) × (a ≡ Record r)
+pick-left true a b r n e = (refl, e)
+pick-left false a b r n e = absurd (n e)
+
+no-end : (r : Rec) → End ≡ Record r → ⊥
+no-end r e = let z : _≡_ {A = ℕ} 0 1 = cc in omega arith
+
+no-broken : (r : Rec) → Broken ≡ Record r → ⊥
+no-broken r e = let z : _≡_ {A = ℕ} 0 1 = cc in omega arith
+
+same-record : (a r : Rec) → Record a ≡ Record r → a ≡ r
+same-record a r e = cc
+
+right : (a b : Bool) → a && b ≡ true → b ≡ true
+right true b e = e
+right false b e = let z : _≡_ {A = ℕ} 0 1 = cc in absurd (omega arith)
+
+shape-of : (k : Shape) → k .formed ≡ true → k ≡ shape true (k .floats) (k .lists)
+shape-of k e = rw (← e)
+
+pub record Found (s : List ℕ) (p : ℕ) (r : Rec) : Type 0 where
+  pub body : r .body ≡ p + 4
+  pub i : r .i < 256
+  pub shaped : shapeOf (r .kind) (r .i) (r .j) ≡ shape true (r .floats) (r .lists)
+  pub floats : r .body + 8 * r .floats ≤ r .next
+  pub next : r .next ≤ length s
+  pub lists : listsAt s (r .lists) (r .body + 8 * r .floats) .end ≡ 0 → ⊥
+
+pub found : (s : List ℕ) (p : ℕ) (r : Rec) → readAt s p ≡ Record r → Found s p r
+unfolding readAt recordBy
+found s p r e =
+    let w = wordAt s p in
+    let k = shapeOf (kindOf w) (iOf w) (jOf w) in
+    let n = listsAt s (k .lists) (p + 4 + 8 * k .floats) .end in
+    let e1 = pick-right (leb (length s) p) End _ r (no-end r) e in
+    let e2 = pick-right (ltb (length s) (p + 4)) Broken _ r (no-broken r) (e1 .1) in
+    let e3 = pick-left (eqb (restOf w) 0 && k .formed) _ Broken r (no-broken r) (e2 .1) in
+    let e4 = pick-right (eqb n 0) Broken _ r (no-broken r) (e3 .1) in
+    let e5 = pick-right (ltb (length s) n) Broken _ r (no-broken r) (e4 .1) in
+    subst (λ (z : Rec). Found s p z) (same-record _ r (e5 .1))
+    (record {
+      body = refl;
+      i = omega arith;
+      shaped = shape-of k (right (eqb (restOf w) 0) (k .formed) (e3 .0));
+      floats = lists-after s (p + 4 + 8 * k .floats) (k .lists) (p + 4 + 8 * k .floats) (omega arith) (eqb-false n 0 (e4 .0));
+      next = ltb-false (length s) n (e5 .0);
+      lists = eqb-false n 0 (e4 .0);
+    })
+
+pub found-whole : (s : List ℕ) (p : ℕ) (r : Rec) → length s ≤ mostBytes → readAt s p ≡ Record r → Whole s r
+found-whole s p r l e =
+    let f = found s p r e in
+    record { short = l; i = f .i; shaped = f .shaped; body = omega (arith, f .body); floats = omega (arith, f .floats, f .next); lists = f .lists }
+
+pub later : (s : List ℕ) (p : ℕ) (r : Rec) → readAt s p ≡ Record r → p + 4 ≤ r .next
+later s p r e = let f = found s p r e in omega (arith, f .body, f .floats)
+
+-- ---- what no record shows
+
+broken-not-end : (t : Bool) (b : Read) → (b ≡ End → ⊥) → cond t Broken b ≡ End → ⊥
+broken-not-end true b n e = let z : _≡_ {A = ℕ} 0 1 = cc in omega arith
+broken-not-end false b n e = n e
+
+read-not-end : (t : Bool) (b : Read) → (b ≡ End → ⊥) → cond t b Broken ≡ End → ⊥
+read-not-end true b n e = n e
+read-not-end false b n e = let z : _≡_ {A = ℕ} 0 1 = cc in omega arith
+
+record-not-end : (r : Rec) → Record r ≡ End → ⊥
+record-not-end r e = let z : _≡_ {A = ℕ} 0 1 = cc in omega arith
+
+not-end : (s : List ℕ) (p : ℕ) (k : Shape) → cond (ltb (length s) (p + 4)) Broken (recordBy s p (wordAt s p) k) ≡ End → ⊥
+unfolding recordBy
+not-end s p k e =
+    broken-not-end (ltb (length s) (p + 4)) _
+    (read-not-end (eqb (restOf (wordAt s p)) 0 && k .formed) _
+    (broken-not-end (eqb (listsAt s (k .lists) (p + 4 + 8 * k .floats) .end) 0) _
+    (broken-not-end (ltb (length s) (listsAt s (k .lists) (p + 4 + 8 * k .floats) .end)) _ (record-not-end _)))) e
+
+pub read-done : (s : List ℕ) (p : ℕ) → readAt s p ≡ End → length s ≤ p
+unfolding readAt
+read-done s p e =
+    elim (le-or (length s) p) [
+      | inl l ↦ l
+      | inr l ↦ absurd (not-end s p _ (rw (lt-leb (length s) p l) at e))
+    ]
+
+pub read-in : (s : List ℕ) (p : ℕ) → readAt s p ≡ Broken → p < length s
+unfolding readAt
+read-in s p e =
+    elim (le-or (length s) p) [
+      | inl l ↦ let d = rw (le-leb (length s) p l) at e in let z : _≡_ {A = ℕ} 0 1 = cc in absurd (omega arith)
+      | inr l ↦ l
+    ]

@@ -1,0 +1,191 @@
+-- Texts stored one after the other, and the digits of numbers. Assumes nothing.
+use Prim.Native.Nat.{ℕ, zero, suc, _+_, _*_, _-_, _/_, _%_, _^_, _<_, _≤_}
+use native.Mathlib.Nat.{add-zero, zero-add, pow-succ', pow-le-pow-right}
+use native.Mathlib.Omega.{arith}
+use native.Mathlib.Numerals.{add-one}
+use mathlib.Core.Path.{_≡_, refl, sym, ap, _∙_, subst}
+use mathlib.Core.Bool.{Bool, true, false, not, cond}
+use mathlib.Core.List.{List, [], _∷_, _++_}
+use mathlib.Core.Logic.{_⊎_, inl, inr}
+use lib.Dec.{T}
+use lib.ListN.{length, getD, take, drop, set, length-append}
+use lib.Seq.{sets, sets-eq, drop-cons, drop-length, take-append-le}
+use lib.Ieee.{Float, nan, inf, fin, binary64, isNan, ne, toBits, fits}
+use lib.Ieee.Bits.{toBits-lt}
+use lib.Ieee.Compare.{differs-from-itself}
+use borrow.Author.Tests.{lt-ltb, le-ltb}
+use Rattle.arithmetic.proofs.Differences.{le-or}
+use Rattle.io.specs.Digits.{digits, Fewest}
+use Rattle.mixture.specs.declared.answers.Answer.{Answer}
+use Rattle.mixture.specs.declared.answers.Answer.the-variants.{Refused, Done, Value}
+use Rattle.strip.specs.Text.{ascii, placesTo, decimal, valueText, line, Put}
+
+-- ---- one text after another
+
+pub sets-append : (l : List ℕ) (i : ℕ) (a b : List ℕ) → sets l i (a ++ b) ≡ sets (sets l i a) (i + length a) b
+sets-append l i [] b = rw (add-zero i)
+sets-append l i (x ∷ a) b = sets-append (set l i x) (suc i) a b ∙ ap (λ (k : ℕ). sets (sets (set l i x) (suc i) a) k b) (omega arith)
+
+put-turn : (l : List ℕ) (p : ℕ) (t : List ℕ) (k : ℕ) → k < length t
+    → sets l (p + k) (drop k t) ≡ sets (set l (p + k) (getD t k 0)) (p + (k + 1)) (drop (k + 1) t)
+put-turn l p t k h =
+    rw (drop-cons t k 0 h, add-one k) (ap (λ (z : ℕ). sets (set l (p + k) (getD t k 0)) z (drop (suc k) t)) (omega arith))
+
+-- a turn of the loop that stores a text
+pub put-again : (l′ l l₀ : List ℕ) (p : ℕ) (t : List ℕ) (k : ℕ) → k < length t → l′ ≡ set l (p + k) (getD t k 0)
+    → sets l (p + k) (drop k t) ≡ sets l₀ p t → sets l′ (p + (k + 1)) (drop (k + 1) t) ≡ sets l₀ p t
+put-again l′ l l₀ p t k h e i = rw e (sym (put-turn l p t k h) ∙ i)
+
+pub put-done : (l l₀ : List ℕ) (p : ℕ) (t : List ℕ) (k : ℕ) → k ≡ length t → sets l (p + k) (drop k t) ≡ sets l₀ p t → l ≡ sets l₀ p t
+put-done l l₀ p t k e i = rw (e, drop-length) at i
+
+pub put-then : {l l₁ l₂ a b : List ℕ} {p q r : ℕ} → Put l p a q l₁ → Put l₁ q b r l₂ → Put l p (a ++ b) r l₂
+put-then {l} {l₁} {l₂} {a} {b} {p} {q} {r} x y =
+    record {
+      past = rw (length-append a b) (omega (arith, x .past, y .past));
+      text = y .text ∙ (rw (x .text, x .past) (sym (sets-append l p a b)));
+    }
+
+pub put-same : {l l₁ a b : List ℕ} {p q : ℕ} → Put l p a q l₁ → a ≡ b → Put l p b q l₁
+put-same {l} {l₁} {a} {b} {p} {q} x e = subst (λ (z : List ℕ). Put l p z q l₁) e x
+
+-- in a buffer that is long enough the text stands whole
+pub put-whole : {l t l′ : List ℕ} {r : ℕ} → Put l 0 t r l′ → r ≤ length l → take r l′ ≡ t
+put-whole {l} {t} {l′} {r} p h =
+    let e : r ≡ length t = p .past ∙ zero-add (length t) in
+    let s : l′ ≡ t ++ drop (length t) l = p .text ∙ (sets-eq t l 0 (rw (zero-add (length t)) (omega arith)) ∙ rw (zero-add (length t))) in
+    rw (s, e, take-append-le (length t) t (drop (length t) l) (omega arith)) (all t)
+  where
+    all : (t : List ℕ) → take (length t) t ≡ t
+    all [] = refl
+    all (a ∷ t) = ap (λ (z : List ℕ). a ∷ z) (all t)
+
+-- ---- decimal numbers
+
+less : (k n : ℕ) → 10 ^ (suc (suc k) - 1) ≤ n → 10 ^ suc k ≤ n
+less k n h = let e : suc (suc k) - 1 ≡ suc k = omega arith in subst (λ (z : ℕ). 10 ^ z ≤ n) e h
+
+more : (k n : ℕ) → 10 ^ k ≤ n → 10 ^ (suc k - 1) ≤ n
+more k n h = let e : k ≡ suc k - 1 = omega arith in subst (λ (z : ℕ). 10 ^ z ≤ n) e h
+
+one-place : (n k : ℕ) → n < 10 → Fewest 10 1 n (suc (suc k)) → ⊥
+one-place n k h f =
+    let a : 10 ^ suc k ≤ n = less k n (f .2 (omega arith)) in
+    let b : 10 ^ 1 ≤ 10 ^ suc k = pow-le-pow-right {n = 10} (omega arith) {i = 1} {j = suc k} (omega arith) in
+    omega arith
+
+places-is : (f n k : ℕ) → n < 10 ^ suc f → Fewest 10 1 n k → placesTo f n ≡ k
+unfolding placesTo
+places-is f n zero h w = let z = w .0 in absurd (omega arith)
+places-is zero n (suc zero) h w = refl
+places-is zero n (suc (suc k)) h w = absurd (one-place n k h w)
+places-is (suc f) n (suc zero) h w = rw (lt-ltb n 10 (w .1))
+places-is (suc f) n (suc (suc k)) h w =
+    elim (le-or 10 n) [
+      | inl l ↦
+          let a : 10 ^ suc k ≤ n = less k n (w .2 (omega arith)) in
+          rw (le-ltb n 10 l)
+          (ap suc
+          (places-is f (n / 10) (suc k)
+          (omega (arith, pow-succ' 10 (suc f)))
+          (omega arith, omega (arith, pow-succ' 10 (suc k), w .1), λ m. more k (n / 10) (omega (arith, pow-succ' 10 k)))))
+      | inr l ↦ absurd (one-place n k l w)
+    ]
+
+decimal-is : (n k : ℕ) → n < 18446744073709551616 → Fewest 10 1 n k → digits 10 k n ≡ decimal n
+unfolding decimal
+decimal-is n k h w = rw (places-is 19 n k (omega arith) w)
+
+places-le : (f n : ℕ) → placesTo f n ≤ suc f
+unfolding placesTo
+places-le zero n = omega arith
+places-le (suc f) n =
+    elim (le-or 10 n) [
+      | inl l ↦ rw (le-ltb n 10 l) (omega (arith, places-le f (n / 10)))
+      | inr l ↦ rw (lt-ltb n 10 l) (omega arith)
+    ]
+
+length-digits : (b k n : ℕ) → length (digits b k n) ≡ k
+length-digits b zero n = refl
+length-digits b (suc k) n = simp (length-append, length-digits b k (n / b)) (omega arith)
+
+decimal-short : (n : ℕ) → length (decimal n) ≤ 20
+unfolding decimal
+decimal-short n = rw (length-digits 10 (placesTo 19 n) n) (places-le 19 n)
+
+-- ---- values
+
+hex-places : (n k : ℕ) → n < 18446744073709551616 → Fewest 16 16 n k → k ≡ 16
+hex-places n k h w =
+    elim (le-or k 16) [
+      | inl l ↦ omega (arith, w .0)
+      | inr l ↦
+          let a : 16 ^ (k - 1) ≤ n = w .2 l in
+          let b : 16 ^ 16 ≤ 16 ^ (k - 1) = pow-le-pow-right {n = 16} (omega arith) {i = 16} {j = k - 1} (omega arith) in
+          absurd (omega arith)
+    ]
+
+pub no-nan : (v : Float) → ne v v ≡ false → isNan v ≡ false
+unfolding ne isNan
+no-nan nan e = e
+no-nan (inf s) e = refl
+no-nan (fin s m e) h = refl
+
+value-nan : (v : Float) → ne v v ≡ true → ascii "nan" ≡ valueText v
+unfolding valueText isNan
+value-nan v e = rw (differs-from-itself v (subst T (sym e) tt))
+
+value-bits : (v : Float) → ne v v ≡ false → (k : ℕ) → k ≡ 16 → digits 16 k (toBits binary64 v) ≡ valueText v
+unfolding valueText
+value-bits v e k q = rw (no-nan v e, q)
+
+value-short : (v : Float) → length (valueText v) ≤ 16
+unfolding valueText
+value-short v = go (isNan v)
+  where
+    go : (t : Bool) → length (cond t (ascii "nan") (digits 16 16 (toBits binary64 v))) ≤ 16
+    go true = omega arith
+    go false = rw (length-digits 16 16 (toBits binary64 v)) (omega arith)
+
+pub bits-lt : (v : Float) → T (fits binary64 v) → toBits binary64 v < 18446744073709551616
+bits-lt v h = toBits-lt binary64 v h
+
+-- ---- what the digit writers leave, stored
+
+pub digits-fit : (a : List ℕ) (n k : ℕ) → n < 18446744073709551616 → Fewest 10 1 n k → a ≡ digits 10 k n → length a ≤ 1000
+digits-fit a n k h w e = omega (arith, ap length (e ∙ decimal-is n k h w), decimal-short n)
+
+pub put-digits : {l l₁ a : List ℕ} {p q : ℕ} (n k : ℕ) → n < 18446744073709551616 → Fewest 10 1 n k → a ≡ digits 10 k n → Put l p a q l₁
+    → Put l p (decimal n) q l₁ × (q ≤ p + 20)
+put-digits n k h w e x =
+    (put-same x (e ∙ decimal-is n k h w), omega (arith, x .past, ap length (e ∙ decimal-is n k h w), decimal-short n))
+
+pub hex-fit : (a : List ℕ) (n k : ℕ) → n < 18446744073709551616 → Fewest 16 16 n k → a ≡ digits 16 k n → length a ≤ 1000
+hex-fit a n k h w e = omega (arith, ap length e, length-digits 16 k n, hex-places n k h w)
+
+pub put-bits : {l l₁ a : List ℕ} {p q : ℕ} (v : Float) (k : ℕ) → ne v v ≡ false → toBits binary64 v < 18446744073709551616
+    → Fewest 16 16 (toBits binary64 v) k → a ≡ digits 16 k (toBits binary64 v) → Put l p a q l₁ → Put l p (valueText v) q l₁ × (q ≤ p + 16)
+put-bits v k d h w e x =
+    let t = e ∙ value-bits v d k (hex-places (toBits binary64 v) k h w) in
+    (put-same x t, omega (arith, x .past, ap length t, value-short v))
+
+pub put-nan : {l l₁ : List ℕ} {p q : ℕ} (v : Float) → ne v v ≡ true → Put l p (ascii "nan") q l₁ → Put l p (valueText v) q l₁ × (q ≤ p + 16)
+put-nan v d x = (put-same x (value-nan v d), omega (arith, x .past))
+
+-- ---- the three kinds of line
+
+pub line-done : {l l₁ : List ℕ} {p q : ℕ} {a : Answer} → a ≡ Done → Put l p (ascii "ok\n") q l₁ → Put l p (line a) q l₁ × (q ≤ p + 40)
+unfolding line
+line-done e x = rw e (x, omega (arith, x .past))
+
+pub line-refused : {l l₁ l₂ l₃ : List ℕ} {p q r z : ℕ} {a : Answer} (k : ℕ) → a ≡ Refused k
+    → Put l p (ascii "refused ") q l₁ → Put l₁ q (decimal k) r l₂ × (r ≤ q + 20) → Put l₂ r (ascii "\n") z l₃
+    → Put l p (line a) z l₃ × (z ≤ p + 40)
+unfolding line
+line-refused k e x y w = rw e (put-then x (put-then (y .0) w), omega (arith, x .past, w .past))
+
+pub line-value : {l l₁ l₂ l₃ l₄ : List ℕ} {p q r t z : ℕ} {a : Answer} (v : Float) (n : ℕ) → a ≡ Value v n
+    → Put l p (valueText v) q l₁ × (q ≤ p + 16) → Put l₁ q (ascii " ") r l₂ → Put l₂ r (decimal n) t l₃ × (t ≤ r + 20) → Put l₃ t (ascii "\n") z l₄
+    → Put l p (line a) z l₄ × (z ≤ p + 40)
+unfolding line
+line-value v n e x b y w = rw e (put-then (x .0) (put-then b (put-then (y .0) w)), omega (arith, x .1, b .past, w .past))

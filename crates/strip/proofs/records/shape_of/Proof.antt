@@ -1,0 +1,173 @@
+-- Each kind in turn. Assumes nothing.
+use Rattle.strip.specs.Records.{shapeOf}
+use Rattle.models.specs.Values.{wilsonSize, uniquacSize, nrtlSize, countsAt}
+use Rattle.strip.proofs.RecordLaws.{square, shape-by, floats-is}
+use borrow.Author.Tests.{lt-ltb, le-ltb, le-leb, lt-leb, eq-eqb, ne-eqb}
+use mathlib.Core.Path.{_≡_, refl, sym, ap, _∙_}
+use Prim.Native.Nat.{ℕ, zero, suc, _+_, _*_, _-_, _<_, _≤_}
+use native.Mathlib.Omega.{arith}
+use borrow.Author.Needs.{needs}
+use lib.ListN.{length, getD}
+use Rattle.strip.proofs.records.shape_of.Statement.{statement}
+use Rattle.strip.proofs.records.shape_of.Tie as tie
+
+mul-ii : tie.Need-mul-ii
+mul-ii c = omega (arith, square (c .args .i) (c .pre .0))
+
+mul-jj : tie.Need-mul-jj
+mul-jj c = omega (arith, square (c .args .j) (c .pre .1))
+
+add-with-shape : tie.Need-add-with-shape
+add-with-shape c = omega (arith, square (c .before .args .i) (c .before .pre .0))
+
+with-shape-requires : tie.Need-with-shape-requires
+with-shape-requires c κs = search needs
+
+add-with-shape-2 : tie.Need-add-with-shape-2
+add-with-shape-2 c = omega (arith, square (c .before .args .i) (c .before .pre .0))
+
+add-with-shape-3 : tie.Need-add-with-shape-3
+add-with-shape-3 c = omega (arith, square (c .before .args .i) (c .before .pre .0))
+
+with-shape-requires-2 : tie.Need-with-shape-requires-2
+with-shape-requires-2 c κs = search needs
+
+mul-with-shape : tie.Need-mul-with-shape
+mul-with-shape c = omega (arith, square (c .before .args .i) (c .before .pre .0))
+
+add-with-shape-4 : tie.Need-add-with-shape-4
+add-with-shape-4 c = omega (arith, square (c .before .args .i) (c .before .pre .0))
+
+with-shape-requires-3 : tie.Need-with-shape-requires-3
+with-shape-requires-3 c κs = search needs
+
+add-with-shape-5 : tie.Need-add-with-shape-5
+add-with-shape-5 c = search needs
+
+mul-with-shape-2 : tie.Need-mul-with-shape-2
+mul-with-shape-2 c = omega (arith, square (c .before .args .j) (c .before .pre .1))
+
+add-with-shape-6 : tie.Need-add-with-shape-6
+add-with-shape-6 c = omega (arith, square (c .before .args .j) (c .before .pre .1))
+
+with-shape-requires-4 : tie.Need-with-shape-requires-4
+with-shape-requires-4 c κs = search needs
+
+both-zero-requires : tie.Need-both-zero-requires
+both-zero-requires c κs = search needs
+
+with-shape-requires-5 : tie.Need-with-shape-requires-5
+with-shape-requires-5 c κs = search needs
+
+with-shape-requires-6 : tie.Need-with-shape-requires-6
+with-shape-requires-6 c κs = search needs
+
+with-shape-requires-7 : tie.Need-with-shape-requires-7
+with-shape-requires-7 c κs = search needs
+
+with-shape-requires-8 : tie.Need-with-shape-requires-8
+with-shape-requires-8 c κs = search needs
+
+with-shape-requires-9 : tie.Need-with-shape-requires-9
+with-shape-requires-9 c κs = search needs
+
+with-shape-requires-10 : tie.Need-with-shape-requires-10
+with-shape-requires-10 c κs = search needs
+
+is-query-requires : tie.Need-is-query-requires
+is-query-requires c κs = search needs
+
+with-shape-requires-11 : tie.Need-with-shape-requires-11
+with-shape-requires-11 c κs = search needs
+
+with-shape-requires-12 : tie.Need-with-shape-requires-12
+with-shape-requires-12 c κs = search needs
+
+returns : tie.Need-returns
+unfolding shapeOf wilsonSize
+returns c = (shape-by _ (c .with-shape .ensures) (rw (c .before .match .keys1) refl), omega (arith, floats-is _ _ (c .with-shape .ensures), square (c .before .before .args .i) (c .before .before .pre .0)))
+
+returns-2 : tie.Need-returns-2
+unfolding shapeOf uniquacSize
+returns-2 c = (shape-by _ (c .with-shape2 .ensures) (rw (c .before .match .keys2) refl), omega (arith, floats-is _ _ (c .with-shape2 .ensures), square (c .before .before .args .i) (c .before .before .pre .0)))
+
+returns-3 : tie.Need-returns-3
+unfolding shapeOf nrtlSize
+returns-3 c = (shape-by _ (c .with-shape3 .ensures) (rw (c .before .match .keys3) refl), omega (arith, floats-is _ _ (c .with-shape3 .ensures), square (c .before .before .args .i) (c .before .before .pre .0)))
+
+returns-4 : tie.Need-returns-4
+unfolding shapeOf countsAt
+returns-4 c = (shape-by _ (c .with-shape4 .ensures) (rw (c .before .match .keys4) refl), omega (arith, floats-is _ _ (c .with-shape4 .ensures), square (c .before .before .args .j) (c .before .before .pre .1)))
+
+returns-5 : tie.Need-returns-5
+unfolding shapeOf
+returns-5 c = (shape-by _ (c .with-shape5 .ensures) (rw (c .before .before .match .keys5, c .before .both-zero .ensures) refl), omega (arith, floats-is _ _ (c .with-shape5 .ensures), square (c .before .before .before .args .i) (c .before .before .before .pre .0)))
+
+returns-6 : tie.Need-returns-6
+unfolding shapeOf
+returns-6 c = (shape-by _ (c .with-shape6 .ensures) (rw (c .before .match .keys6) refl), omega (arith, floats-is _ _ (c .with-shape6 .ensures), square (c .before .before .args .i) (c .before .before .pre .0)))
+
+returns-7 : tie.Need-returns-7
+unfolding shapeOf
+returns-7 c = (shape-by _ (c .with-shape7 .ensures) (rw (c .before .match .keys7) refl), omega (arith, floats-is _ _ (c .with-shape7 .ensures), square (c .before .before .args .i) (c .before .before .pre .0)))
+
+returns-8 : tie.Need-returns-8
+unfolding shapeOf
+returns-8 c = (shape-by _ (c .with-shape8 .ensures) (rw (c .before .match .keys8) refl), omega (arith, floats-is _ _ (c .with-shape8 .ensures), square (c .before .before .args .i) (c .before .before .pre .0)))
+
+returns-9 : tie.Need-returns-9
+unfolding shapeOf
+returns-9 c = (shape-by _ (c .with-shape9 .ensures) (rw (c .before .match .keys9) refl), omega (arith, floats-is _ _ (c .with-shape9 .ensures), square (c .before .before .args .i) (c .before .before .pre .0)))
+
+returns-10 : tie.Need-returns-10
+unfolding shapeOf
+returns-10 c = (shape-by _ (c .with-shape10 .ensures) (rw (c .before .match .keys10) refl), omega (arith, floats-is _ _ (c .with-shape10 .ensures), square (c .before .before .args .i) (c .before .before .pre .0)))
+
+returns-11 : tie.Need-returns-11
+unfolding shapeOf
+returns-11 c = (shape-by _ (c .with-shape11 .ensures) (rw (c .before .before .match .keys11, c .before .is-query .ensures) refl), omega (arith, floats-is _ _ (c .with-shape11 .ensures), square (c .before .before .before .args .i) (c .before .before .before .pre .0)))
+
+returns-12 : tie.Need-returns-12
+unfolding shapeOf
+returns-12 c = (shape-by _ (c .with-shape12 .ensures) (sym (simp (ne-eqb _ _ (c .before .match .rest .0 .0 .0 .0 .0 .0 .0 .0 .0 .0 .1), ne-eqb _ _ (c .before .match .rest .0 .0 .0 .0 .0 .0 .0 .0 .0 .1), ne-eqb _ _ (c .before .match .rest .0 .0 .0 .0 .0 .0 .0 .0 .1), ne-eqb _ _ (c .before .match .rest .0 .0 .0 .0 .0 .0 .0 .1), ne-eqb _ _ (c .before .match .rest .0 .0 .0 .0 .0 .0 .1), ne-eqb _ _ (c .before .match .rest .0 .0 .0 .0 .0 .1), ne-eqb _ _ (c .before .match .rest .0 .0 .0 .0 .1), ne-eqb _ _ (c .before .match .rest .0 .0 .0 .1), ne-eqb _ _ (c .before .match .rest .0 .0 .1), ne-eqb _ _ (c .before .match .rest .0 .1), ne-eqb _ _ (c .before .match .rest .1)))), omega (arith, floats-is _ _ (c .with-shape12 .ensures), square (c .before .before .args .i) (c .before .before .pre .0)))
+
+pub shape-of-spec : {M : Type 1} → statement M
+shape-of-spec =
+    tie.close
+    (tie.spec
+    mul-ii
+    mul-jj
+    add-with-shape
+    with-shape-requires
+    add-with-shape-2
+    add-with-shape-3
+    with-shape-requires-2
+    mul-with-shape
+    add-with-shape-4
+    with-shape-requires-3
+    add-with-shape-5
+    mul-with-shape-2
+    add-with-shape-6
+    with-shape-requires-4
+    both-zero-requires
+    with-shape-requires-5
+    with-shape-requires-6
+    with-shape-requires-7
+    with-shape-requires-8
+    with-shape-requires-9
+    with-shape-requires-10
+    is-query-requires
+    with-shape-requires-11
+    with-shape-requires-12
+    returns
+    returns-2
+    returns-3
+    returns-4
+    returns-5
+    returns-6
+    returns-7
+    returns-8
+    returns-9
+    returns-10
+    returns-11
+    returns-12)

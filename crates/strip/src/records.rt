@@ -1,0 +1,136 @@
+// The records of a strip.
+ghost use mathlib.Core.Path.{_≡_};
+ghost use mathlib.Core.Bool.{_&&_, _||_};
+ghost use Prim.Native.Nat.{_≤_, _<_};
+ghost use lib.Dec.{eqb, ltb};
+ghost use lib.ListN.{length};
+ghost use Rattle.strip.specs.Words.{mostBytes};
+ghost use Rattle.strip.specs.Records.{shape, shapeOf, readAt};
+use crate::lists::lists_end;
+use crate::words::i_of;
+use crate::words::j_of;
+use crate::words::kind_of;
+use crate::words::rest_of;
+use arithmetic::bytes::word_at;
+
+// Whether the fields i and j are as the kind has them, how many floats follow the head word, and how many lists follow
+// these.
+pub struct Shape {
+    pub formed: bool,
+    pub floats: usize,
+    pub lists: usize,
+}
+
+pub struct Rec {
+    pub kind: usize,
+    pub i: usize,
+    pub j: usize,
+    pub floats: usize,
+    pub lists: usize,
+    // where the floats start, and where the next record does
+    pub body: usize,
+    pub next: usize,
+}
+
+pub enum Read {
+    Record(Rec),
+    // malformed or cut
+    Broken,
+    End,
+}
+
+fn with_shape(formed: bool, floats: usize, lists: usize) -> Shape
+    ensures { λ r. ⌜ r ≡ shape formed floats lists ⌝ }
+{
+    Shape {
+        formed: formed,
+        floats: floats,
+        lists: lists,
+    }
+}
+
+fn both_zero(i: usize, j: usize) -> bool
+    ensures { λ r. ⌜ r ≡ (eqb i 0 && eqb j 0) ⌝ }
+{
+    if i != 0 {
+        return false;
+    }
+    j == 0
+}
+
+// A query's j is at most 2, and with j = 2 it has no i.
+fn is_query(i: usize, j: usize) -> bool
+    ensures { λ r. ⌜ r ≡ (ltb j 2 || (eqb j 2 && eqb i 0)) ⌝ }
+{
+    if j < 2 {
+        return true;
+    }
+    if j != 2 {
+        return false;
+    }
+    i == 0
+}
+
+// Each kind.
+fn shape_of(kind: usize, i: usize, j: usize) -> Shape
+    requires { ⌜ (i < 256) × (j < 256) ⌝ }
+    ensures { λ r. ⌜ (r ≡ shapeOf kind i j) × (r .floats ≤ 400000) ⌝ }
+{
+    let ii = i * i;
+    let jj = j * j;
+    match kind {
+        1 => with_shape(j == 0, ii + i, 0),
+        2 => with_shape(j == 0, ii + i + i, 0),
+        3 => with_shape(j == 0, ii * 5 + ii, 0),
+        4 => with_shape(true, j + j + jj * 5, i),
+        5 => with_shape(both_zero(i, j), 1, 0),
+        6 => with_shape(j == 0, i, 0),
+        7 => with_shape(true, 1, 0),
+        8 => with_shape(true, 5, 0),
+        9 => with_shape(true, 1, 0),
+        10 => with_shape(true, 1, 0),
+        11 => with_shape(is_query(i, j), 0, 0),
+        _ => with_shape(false, 0, 0),
+    }
+}
+
+// What stands at a place.
+pub fn read_at(s: &[u8], at: usize) -> Read
+    requires { ⌜ length (now s) ≤ mostBytes ⌝ }
+    ensures { λ r. ⌜ r ≡ readAt (now (s .entry)) at ⌝ }
+{
+    if s.len() <= at {
+        return Read::End;
+    }
+    if s.len() < at + 4 {
+        return Read::Broken;
+    }
+    let w = word_at(s, at);
+    let kind = kind_of(w);
+    let i = i_of(w);
+    let j = j_of(w);
+    let k = shape_of(kind, i, j);
+    if rest_of(w) != 0 {
+        return Read::Broken;
+    }
+    if !k.formed {
+        return Read::Broken;
+    }
+    let body = at + 4;
+    let next = lists_end(s, body + 8 * k.floats, k.lists);
+    if next == 0 {
+        return Read::Broken;
+    }
+    if s.len() < next {
+        return Read::Broken;
+    }
+    Read::Record(Rec {
+        kind: kind,
+        i: i,
+        j: j,
+        floats: k.floats,
+        lists: k.lists,
+        body: body,
+        next: next,
+    })
+}

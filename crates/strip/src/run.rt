@@ -1,0 +1,64 @@
+// The run of a strip: from record to record on a mixture of its own.
+ghost use Prim.Native.Nat.{_≤_};
+ghost use lib.ListN.{length};
+ghost use Rattle.mixture.specs.Memory.{memory};
+ghost use Rattle.strip.specs.Words.{mostBytes};
+ghost use Rattle.strip.specs.Text.{Put};
+ghost use Rattle.strip.specs.Run.{transcript, mostText};
+ghost use Rattle.strip.specs.Inner.{rest};
+use crate::calls::make;
+use crate::records::Read;
+use crate::records::read_at;
+use crate::text::put;
+use crate::text::put_answer;
+use crate::words::MOST_BYTES;
+use mixture::Head;
+
+// A line for each record, up to the end or the first that is malformed or cut.
+fn walk(
+    s: &[u8],
+    values: &mut [f64],
+    cells: &mut [f64],
+    marks: &mut [u8],
+    head: Head,
+    out: &mut [u8],
+) -> usize
+    requires { ⌜ length (now s) ≤ mostBytes ⌝ }
+    ensures { λ r. ⌜ Put (now (out .entry)) 0 (rest (now (s .entry)) 0 (memory (now (values .entry)) (now (cells .entry)) (now (marks .entry))) head) r (now (out .exit)) × (r ≤ mostText) ⌝ }
+{
+    let mut h = head;
+    let mut at: usize = 0;
+    let mut pos: usize = 0;
+    loop {
+        match read_at(s, at) {
+            Read::End => {
+                return pos;
+            }
+            Read::Broken => {
+                return put(out, pos, b"broken\n");
+            }
+            Read::Record(r) => {
+                let o = make(s, r, values, cells, marks, h);
+                let a = o.answer;
+                pos = put_answer(out, pos, a);
+                h = o.head;
+                at = r.next;
+            }
+        }
+    }
+}
+
+// Stores the text of a strip into `out`, as far as it fits, and answers how long it is.
+pub fn run(strip: &[u8], out: &mut [u8]) -> usize
+    ensures { λ r. ⌜ Put (now (out .entry)) 0 (transcript (now (strip .entry))) r (now (out .exit)) × (r ≤ mostText) ⌝ }
+{
+    if MOST_BYTES < strip.len() {
+        return put(out, 0, b"broken\n");
+    }
+    let mut values = [0.0; 5328];
+    let mut cells = [0.0; 1024];
+    let mut marks = [0u8; 1024];
+    let opened = mixture::open::open(&values, &cells, &marks, mixture::head::bare_head(0, 0));
+    let h = opened.head;
+    walk(strip, &mut values, &mut cells, &mut marks, h, out)
+}
