@@ -1,30 +1,26 @@
 -- What a record shows of its floats and lists, and the call that it makes. Assumes nothing.
-use Prim.Native.Nat.{ℕ, zero, suc, _+_, _*_, _<_, _≤_}
+use Prim.Native.Nat.{ℕ, _+_, _<_, _≤_}
 use native.Mathlib.Omega.{arith}
-use mathlib.Core.Path.{_≡_, refl, sym, ap, _∙_, subst}
+use mathlib.Core.Path.{_≡_, sym, ap, _∙_}
 use mathlib.Core.Bool.{Bool, true, false, cond}
-use mathlib.Core.List.{List, _++_}
-use mathlib.Core.Logic.{_⊎_, inl, inr}
-use lib.Dec.{ltb, eqb}
+use mathlib.Core.List.{List}
+use lib.Dec.{eqb}
 use lib.ListN.{length, take}
 use lib.Seq.{take-all}
 use lib.Ieee.{Float}
-use borrow.Author.Tests.{lt-ltb, le-ltb, eq-eqb, ne-eqb, eqb-true}
+use borrow.Author.Tests.{lt-ltb, le-ltb, eq-eqb, ne-eqb}
 use Rattle.arithmetic.specs.Bytes.{floatsAt}
-use Rattle.arithmetic.proofs.Differences.{either}
 use Rattle.arithmetic.specs.declared.parameters.TdParam.{TdParam}
 use Rattle.models.specs.Values.{fiveAt}
 use Rattle.models.specs.declared.answers.Quantity.{Quantity}
 use Rattle.mixture.specs.declared.head.Head.{Head}
 use Rattle.mixture.specs.declared.head.Model.{Model}
 use Rattle.mixture.specs.declared.setting.Setting.{Setting}
-use Rattle.mixture.specs.Names.{ModelData}
 use Rattle.mixture.specs.Memory.{Memory, After}
 use Rattle.mixture.specs.Calls.{afterLoad, afterSetting, afterFractions, afterQuery}
 use Rattle.mixture.specs.History.{afterCall}
 use Rattle.strip.specs.declared.records.Shape.{Shape}
 use Rattle.strip.specs.declared.records.Rec.{Rec}
-use Rattle.strip.specs.Words.{mostBytes}
 use Rattle.strip.specs.Records.{shape, shapeOf}
 use Rattle.strip.specs.Calls.{floatsOf, listsOf, modelOf, dataOf, settingOf, quantityOf, callOf}
 use Rattle.strip.specs.Inner.{Whole, Listed}

@@ -3,3 +3,4 @@ pub mod ListLaws
 pub mod RecordLaws
 pub mod CallLaws
 pub mod RunLaws
+pub mod WorkedTexts

@@ -1,23 +1,23 @@
 -- The shape of each kind, and the record at a place. Assumes nothing.
-use Prim.Native.Nat.{ℕ, zero, suc, _+_, _*_, _<_, _≤_}
+use Prim.Native.Nat.{ℕ, _+_, _*_, _<_, _≤_}
 use native.Mathlib.Nat.{mul-le-mul}
 use native.Mathlib.Omega.{arith}
-use mathlib.Core.Path.{_≡_, refl, sym, ap, _∙_, subst}
+use mathlib.Core.Path.{_≡_, refl, sym, _∙_, subst}
 use mathlib.Core.Bool.{Bool, true, false, _&&_, cond}
 use mathlib.Core.List.{List}
-use mathlib.Core.Logic.{_⊎_, inl, inr}
+use mathlib.Core.Logic.{inl, inr}
 use lib.Dec.{leb, ltb, eqb}
 use lib.ListN.{length}
-use borrow.Author.Tests.{lt-ltb, le-ltb, ltb-false, lt-leb, le-leb, leb-false, eq-eqb, ne-eqb, eqb-true, eqb-false}
+use borrow.Author.Tests.{lt-ltb, le-ltb, ltb-false, lt-leb, le-leb, eq-eqb, ne-eqb, eqb-false}
 use Rattle.arithmetic.specs.Bytes.{wordAt}
-use Rattle.arithmetic.proofs.Differences.{either, le-or}
+use Rattle.arithmetic.proofs.Differences.{le-or}
 use Rattle.strip.specs.declared.records.Shape.{Shape}
 use Rattle.strip.specs.declared.records.Rec.{Rec}
 use Rattle.strip.specs.declared.records.Read.{Read}
 use Rattle.strip.specs.declared.records.Read.the-variants.{Record, Broken, End}
 use Rattle.strip.specs.Words.{mostBytes, kindOf, iOf, jOf, restOf}
 use Rattle.strip.specs.Lists.{listsAt}
-use Rattle.strip.specs.Records.{shape, shapeOf, recordOf, whole, recordBy, readAt}
+use Rattle.strip.specs.Records.{shape, shapeOf, recordBy, readAt}
 use Rattle.strip.specs.Inner.{Whole}
 use Rattle.strip.proofs.ListLaws.{lists-after}
 

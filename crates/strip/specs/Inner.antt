@@ -13,7 +13,7 @@ use Rattle.strip.specs.Words.{mostBytes}
 use Rattle.strip.specs.Lists.{Lists}
 use Rattle.strip.specs.Records.{shape, shapeOf}
 use Rattle.strip.specs.Calls.{listsOf}
-use Rattle.strip.specs.Run.{Script, scriptFrom, lines}
+use Rattle.strip.specs.Run.{scriptFrom, lines}
 
 -- the record lies whole within a strip that isn't over-long
 pub record Whole (s : List ℕ) (r : Rec) : Type 0 where

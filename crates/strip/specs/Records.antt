@@ -49,11 +49,11 @@ recordOf s p w k =
       next = listsAt s (k .lists) (p + 4 + 8 * k .floats) .end;
     }
 
--- its lists aren't all there, or it is cut
+-- broken where its lists aren't all there, or where it is cut
 abbrev pub whole : List ℕ → Rec → Read
 whole s r = cond (eqb (r .next) 0) Broken (cond (ltb (length s) (r .next)) Broken (Record r))
 
--- a bit or a field that should be 0 isn't, or there is no such kind
+-- broken where a bit or a field that should be 0 isn't, or where no record begins with the kind
 unfoldable pub recordBy : List ℕ → ℕ → ℕ → Shape → Read
 recordBy s p w k = cond (eqb (restOf w) 0 && k .formed) (whole s (recordOf s p w k)) Broken
 

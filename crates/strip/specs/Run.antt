@@ -7,7 +7,6 @@ use lib.Dec.{ltb}
 use lib.ListN.{length}
 use Rattle.mixture.specs.declared.answers.Answer.{Answer}
 use Rattle.mixture.specs.Book.{Call, empty, bookAnswers}
-use Rattle.strip.specs.declared.records.Rec.{Rec}
 use Rattle.strip.specs.declared.records.Read.{Read}
 use Rattle.strip.specs.declared.records.Read.the-variants.{Record, Broken, End}
 use Rattle.strip.specs.Words.{mostBytes}
@@ -33,7 +32,7 @@ unfoldable pub scriptFrom : List ℕ → ℕ → ℕ → Script
 scriptFrom s zero p = script [] []
 scriptFrom s (suc k) p = scriptBy s (readAt s p) (scriptFrom s k)
 
--- a record has at least one byte
+-- each record has a byte at least, so that no more records are there
 unfoldable pub scriptOf : List ℕ → Script
 scriptOf s = scriptFrom s (length s) 0
 
@@ -45,6 +44,6 @@ lines (a ∷ rest) = line a ++ lines rest
 unfoldable pub transcript : List ℕ → List ℕ
 transcript s = cond (ltb mostBytes (length s)) broken (lines (bookAnswers empty [] (scriptOf s .calls)) ++ scriptOf s .ending)
 
--- no text is longer: a line of 40 for each word of a strip, and `broken`
+-- no text is longer: a record of one word or more has a line of at most 40 bytes, and `broken` has 7
 abbrev pub mostText : ℕ
 mostText = 10 * mostBytes + 7

@@ -23,11 +23,11 @@ unfoldable pub placesTo : ℕ → ℕ → ℕ
 placesTo zero n = 1
 placesTo (suc k) n = cond (ltb n 10) 1 (suc (placesTo k (n / 10)))
 
--- a number below 10^20
+-- the digits of a number below 10^20
 unfoldable pub decimal : ℕ → List ℕ
 decimal n = digits 10 (placesTo 19 n) n
 
--- 16 lowercase hexadecimal digits of the value's bits
+-- `nan`, or 16 lowercase hexadecimal digits of the value's bits
 unfoldable pub valueText : Float → List ℕ
 valueText v = cond (isNan v) (ascii "nan") (digits 16 16 (toBits binary64 v))
 

@@ -70,7 +70,7 @@ fn quantity_of(i: usize, j: usize) -> Quantity
     }
 }
 
-// The floats go into an array that is as long as any strip's.
+// A strip has at most 8,191 floats and, of 12 bytes each, 5,461 kinds 13: the buffers hold those of any load.
 fn load(s: &[u8], r: Rec, values: &mut [f64], cells: &[f64], marks: &mut [u8], head: Head) -> Reply
     requires { ⌜ Whole (now s) r ⌝ }
     ensures { λ o. ⌜ after (memory (now (values .exit)) (now (cells .entry)) (now (marks .exit))) (o .head) (o .answer) ≡ afterLoad (memory (now (values .entry)) (now (cells .entry)) (now (marks .entry))) head (dataOf (now (s .entry)) r) ⌝ }
@@ -81,7 +81,7 @@ fn load(s: &[u8], r: Rec, values: &mut [f64], cells: &[f64], marks: &mut [u8], h
     let mut given = [0.0; 8192];
     fill_floats(&mut given, s, body, k);
     let mut lens = [0u8; 256];
-    let mut groups = [0u8; 8192];
+    let mut groups = [0u8; 5461];
     let m = fill_lists(&mut lens, &mut groups, &mut given, k, s, body + 8 * k, n);
     let e = k + m;
     mixture::load::load(

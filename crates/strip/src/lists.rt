@@ -70,8 +70,8 @@ pub fn fill_lists(
     at: usize,
     n: usize,
 ) -> usize
-    requires { ⌜ (length (now s) ≤ mostBytes) × (n ≤ length (now lens)) × (8192 ≤ length (now groups)) × (8192 ≤ length (now a)) × (8 * k ≤ at) × (listsAt (now s) n at .end ≡ 0 → ⊥) × (at ≤ length (now s)) ⌝ }
-    ensures { λ r. ⌜ Listed (listsAt (now (s .entry)) n at) n r k (now (lens .exit)) (now (groups .exit)) (now (a .entry)) (now (a .exit)) × (n ≡ length (take n (now (lens .exit)))) × (r ≡ length (take r (now (groups .exit)))) × (k + r ≡ length (take (k + r) (now (a .exit)))) × (k + r ≤ 8192) ⌝ }
+    requires { ⌜ (length (now s) ≤ mostBytes) × (n ≤ length (now lens)) × (5461 ≤ length (now groups)) × (8192 ≤ length (now a)) × (8 * k ≤ at) × (listsAt (now s) n at .end ≡ 0 → ⊥) × (at ≤ length (now s)) ⌝ }
+    ensures { λ r. ⌜ Listed (listsAt (now (s .entry)) n at) n r k (now (lens .exit)) (now (groups .exit)) (now (a .entry)) (now (a .exit)) × (n ≡ length (take n (now (lens .exit)))) × (r ≡ length (take r (now (groups .exit)))) × (k + r ≡ length (take (k + r) (now (a .exit)))) × (k + r ≤ 8192) × (r ≤ 5461) ⌝ }
 {
     let mut place = at;
     let mut left = n;

@@ -71,7 +71,7 @@ fn is_query(i: usize, j: usize) -> bool
     i == 0
 }
 
-// Each kind.
+// The shape of each kind; a record begins with none but these.
 fn shape_of(kind: usize, i: usize, j: usize) -> Shape
     requires { ⌜ (i < 256) × (j < 256) ⌝ }
     ensures { λ r. ⌜ (r ≡ shapeOf kind i j) × (r .floats ≤ 400000) ⌝ }

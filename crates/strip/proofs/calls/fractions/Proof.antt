@@ -1,6 +1,4 @@
 -- The floats are the fractions. Assumes nothing.
-use Rattle.strip.specs.Calls.{floatsOf}
-use Rattle.mixture.specs.Calls.{afterFractions}
 use Rattle.strip.proofs.CallLaws.{whole-mix, fractions-is}
 use mathlib.Core.Path.{_≡_, refl, sym, ap, _∙_}
 use Prim.Native.Nat.{ℕ, zero, suc, _+_, _*_, _-_, _<_, _≤_}

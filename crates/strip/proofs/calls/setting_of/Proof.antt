@@ -1,11 +1,8 @@
 -- Each kind in turn. Assumes nothing.
-use mathlib.Core.Path.{subst}
-use lib.Ieee.{Float}
-use Rattle.arithmetic.specs.declared.parameters.TdParam.{TdParam}
 use Rattle.mixture.specs.declared.setting.Setting.the-variants.{Temperature, Entry, TdEntry, Size, Count}
 use Rattle.strip.specs.Calls.{settingOf}
 use Rattle.strip.proofs.CallLaws.{whole-td, td-is}
-use borrow.Author.Tests.{lt-ltb, le-ltb, le-leb, lt-leb, eq-eqb, ne-eqb}
+use borrow.Author.Tests.{ne-eqb}
 use mathlib.Core.Path.{_≡_, refl, sym, ap, _∙_}
 use Prim.Native.Nat.{ℕ, zero, suc, _+_, _*_, _-_, _<_, _≤_}
 use native.Mathlib.Omega.{arith}

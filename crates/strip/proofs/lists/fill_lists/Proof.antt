@@ -58,6 +58,7 @@ returns c =
       sym (length-take-le (l .filled) (l .groups) (omega (arith, l .inv .4, l .inv .5, l .inv .1, c .before .before .before .before .before .before .before .pre .0, c .before .before .before .before .before .before .before .pre .2))),
       sym (length-take-le (c .before .before .before .before .before .before .before .args .k + l .filled) (l .a) (omega (arith, l .inv .4, l .inv .5, l .inv .2, c .before .before .before .before .before .before .before .pre .0, c .before .before .before .before .before .before .before .pre .3))),
       omega (arith, l .inv .4, l .inv .5, c .before .before .before .before .before .before .before .pre .0),
+      omega (arith, l .inv .4, l .inv .5, c .before .before .before .before .before .before .before .pre .0),
     )
 
 word-at-requires : tie.Need-word-at-requires Inv-loop μ-loop

@@ -2,7 +2,7 @@
 use Rattle.strip.specs.Records.{shapeOf}
 use Rattle.models.specs.Values.{wilsonSize, uniquacSize, nrtlSize, countsAt}
 use Rattle.strip.proofs.RecordLaws.{square, shape-by, floats-is}
-use borrow.Author.Tests.{lt-ltb, le-ltb, le-leb, lt-leb, eq-eqb, ne-eqb}
+use borrow.Author.Tests.{ne-eqb}
 use mathlib.Core.Path.{_≡_, refl, sym, ap, _∙_}
 use Prim.Native.Nat.{ℕ, zero, suc, _+_, _*_, _-_, _<_, _≤_}
 use native.Mathlib.Omega.{arith}

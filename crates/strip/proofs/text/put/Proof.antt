@@ -1,11 +1,9 @@
 -- The loop stores what fits, byte by byte; at its end that is the text. Assumes nothing.
 use mathlib.Core.Logic.{⊎-elim}
-use lib.ListN.{set, length-set}
-use lib.Seq.{set-out}
+use lib.ListN.{set, drop, length-set}
+use lib.Seq.{sets, set-out}
 use Rattle.strip.proofs.TextLaws.{put-again, put-done}
 use native.Mathlib.Nat.{add-zero}
-use lib.ListN.{drop}
-use lib.Seq.{sets}
 use mathlib.Core.Path.{_≡_, refl, sym, ap, _∙_}
 use Prim.Native.Nat.{ℕ, zero, suc, _+_, _*_, _-_, _<_, _≤_}
 use native.Mathlib.Omega.{arith}

@@ -1,6 +1,5 @@
 -- The digits are the definition's. Assumes nothing.
-use Rattle.strip.proofs.TextLaws.{digits-fit}
-use Rattle.strip.proofs.TextLaws.{put-digits}
+use Rattle.strip.proofs.TextLaws.{digits-fit, put-digits}
 use mathlib.Core.Path.{_≡_, refl, sym, ap, _∙_}
 use Prim.Native.Nat.{ℕ, zero, suc, _+_, _*_, _-_, _<_, _≤_}
 use native.Mathlib.Omega.{arith}

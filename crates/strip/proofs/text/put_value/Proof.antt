@@ -1,10 +1,9 @@
 -- `nan`, or the sixteen digits. Assumes nothing.
 use lib.Ieee.{toBits, binary64}
-use Rattle.strip.proofs.TextLaws.{hex-fit, bits-lt}
 use mathlib.Core.Path.{subst}
 use mathlib.Core.Bool.{Bool, not}
 use lib.Dec.{T}
-use Rattle.strip.proofs.TextLaws.{put-nan, put-bits, no-nan}
+use Rattle.strip.proofs.TextLaws.{hex-fit, bits-lt, no-nan, put-bits, put-nan}
 use mathlib.Core.Path.{_≡_, refl, sym, ap, _∙_}
 use Prim.Native.Nat.{ℕ, zero, suc, _+_, _*_, _-_, _<_, _≤_}
 use native.Mathlib.Omega.{arith}
