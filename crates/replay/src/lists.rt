@@ -1,6 +1,7 @@
 // The lists, and how a line of each is replayed.
 use crate::calls;
 use crate::calls::Model;
+use crate::strips;
 use crate::words;
 use crate::words::Word;
 use arithmetic::bytes::float_of;
@@ -11,6 +12,7 @@ pub enum List {
     Exp,
     Log,
     Plain(Model),
+    Strips,
 }
 
 pub enum Line {
@@ -43,12 +45,13 @@ fn held(got: f64, stored: Word) -> Line {
     }
 }
 
-// The rest of a line of a list, whose first word is the input, or what is asked of a model.
+// The rest of a line of a list, whose first word is the input, what is asked of a model, or a strip's length.
 fn rest_of(fd: i32, list: List, b: u64) -> Line {
     match list {
         List::Exp => held(arithmetic::exp(float_of(b)), words::next(fd, b'\n')),
         List::Log => held(arithmetic::log(float_of(b)), words::next(fd, b'\n')),
         List::Plain(model) => calls::line(fd, model, b),
+        List::Strips => strips::line(fd, b as usize),
     }
 }
 

@@ -1,12 +1,11 @@
 -- 1 of the slices first; then 8, 1 for a model out of range, and 1 for what it uses.
 use Rattle.mixture.proofs.CallLaws.{short-by, judged-short, judged-none, judged-many, judged-by}
 use mathlib.Core.Path.{sym, _∙_}
-use borrow.Author.Needs.{needs}
 use Rattle.mixture.proofs.faults.head_fault.Statement.{statement}
 use Rattle.mixture.proofs.faults.head_fault.Tie as tie
 
 memory-fault-requires : tie.Need-memory-fault-requires
-memory-fault-requires c κs = search needs
+memory-fault-requires c κs = tt
 
 returns : tie.Need-returns
 returns c = λ m e. judged-short m _ (c .before .memory-fault .ensures ∙ short-by m e) (c .if1 .taken)
@@ -18,7 +17,7 @@ returns-3 : tie.Need-returns-3
 returns-3 c = λ m e. judged-many m _ (sym (short-by m e) ∙ (sym (c .before .before .before .before .before .memory-fault .ensures) ∙ c .before .before .before .before .if1 .left)) (c .if3 .taken)
 
 in-range-requires : tie.Need-in-range-requires
-in-range-requires c κs = search needs
+in-range-requires c κs = tt
 
 returns-4 : tie.Need-returns-4
 returns-4 c = λ m e. judged-by m _ (sym (short-by m e) ∙ (sym (c .before .before .before .before .before .before .before .memory-fault .ensures) ∙ c .before .before .before .before .before .before .if1 .left)) (c .before .before .before .before .if2 .left) (c .before .before .if3 .left) (sym (c .if4 .taken) ∙ c .before .in-range .ensures m)

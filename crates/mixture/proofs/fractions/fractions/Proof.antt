@@ -1,7 +1,6 @@
 -- The fault's number where there is one; else the head with the padded fractions.
 use mathlib.Core.Path.{_≡_, refl, sym, _∙_}
 use denote.Ref.{now}
-use borrow.Author.Needs.{needs}
 use Rattle.mixture.specs.Memory.{Memory, memory}
 use Rattle.mixture.specs.Calls.{fractionsFault, afterFractions}
 use Rattle.mixture.proofs.CallLaws.{refused, done, fractions-fit}
@@ -15,7 +14,7 @@ fault-none : (c : tie.Else1) → fractionsFault (memOf (c .before .before .befor
 fault-none c = sym (c .before .fractions-fault .ensures (memOf (c .before .before .before .before .before .before)) (refl, refl, refl)) ∙ c .if1 .left
 
 fractions-fault-requires : tie.Need-fractions-fault-requires
-fractions-fault-requires c κs = search needs
+fractions-fault-requires c κs = tt
 
 returns : tie.Need-returns
 unfolding afterFractions
@@ -25,7 +24,7 @@ pad-fractions-requires : tie.Need-pad-fractions-requires
 pad-fractions-requires c κs = fractions-fit _ _ _ (fault-none c)
 
 head-with-requires : tie.Need-head-with-requires
-head-with-requires c κs = search needs
+head-with-requires c κs = tt
 
 returns-2 : tie.Need-returns-2
 unfolding afterFractions

@@ -1,19 +1,18 @@
 -- 1 and 8 of the head first; then those of the fractions.
 use Rattle.models.proofs.AnswerLaws.{first-left, first-right}
 use Rattle.mixture.specs.Calls.{fractionsFault}
-use borrow.Author.Needs.{needs}
 use Rattle.mixture.proofs.fractions.fractions_fault.Statement.{statement}
 use Rattle.mixture.proofs.fractions.fractions_fault.Tie as tie
 
 head-fault-requires : tie.Need-head-fault-requires
-head-fault-requires c κs = search needs
+head-fault-requires c κs = tt
 
 returns : tie.Need-returns
 unfolding fractionsFault
 returns c = λ m e. first-left _ (c .before .head-fault .ensures m e) (c .if1 .taken)
 
 mix-fault-requires : tie.Need-mix-fault-requires
-mix-fault-requires c κs = search needs
+mix-fault-requires c κs = tt
 
 returns-2 : tie.Need-returns-2
 unfolding fractionsFault

@@ -1,14 +1,13 @@
 -- 5 and 6 of the composition first; then 7 by the length.
 use native.Mathlib.Omega.{arith}
 use borrow.Author.Tests.{eq-eqb, ne-eqb}
-use borrow.Author.Needs.{needs}
 use Rattle.models.proofs.AnswerLaws.{first-left, first-right}
 use Rattle.mixture.specs.Faults.{mixFault}
 use Rattle.mixture.proofs.fractions.mix_fault.Statement.{statement}
 use Rattle.mixture.proofs.fractions.mix_fault.Tie as tie
 
 check-composition-requires : tie.Need-check-composition-requires
-check-composition-requires c κs = search needs
+check-composition-requires c κs = tt
 
 returns : tie.Need-returns
 unfolding mixFault

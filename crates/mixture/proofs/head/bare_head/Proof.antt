@@ -1,10 +1,9 @@
 -- No lists: all of their places are 0, as an empty list padded.
-use borrow.Author.Needs.{needs}
 use Rattle.mixture.proofs.head.bare_head.Statement.{statement}
 use Rattle.mixture.proofs.head.bare_head.Tie as tie
 
 unset-head-requires : tie.Need-unset-head-requires
-unset-head-requires c κs = search needs
+unset-head-requires c κs = tt
 
 returns : tie.Need-returns
 returns c = c .unset-head .ensures

@@ -14,7 +14,7 @@ size-requires : tie.Need-size-requires
 size-requires c κs = search needs
 
 shape-fault-requires : tie.Need-shape-fault-requires
-shape-fault-requires c κs = search needs
+shape-fault-requires c κs = tt
 
 enum-told-2 : tie.Need-enum-told-2
 enum-told-2 c = search needs
@@ -23,7 +23,7 @@ size-requires-2 : tie.Need-size-requires-2
 size-requires-2 c κs = search needs
 
 shape-fault-requires-2 : tie.Need-shape-fault-requires-2
-shape-fault-requires-2 c κs = search needs
+shape-fault-requires-2 c κs = tt
 
 enum-told-3 : tie.Need-enum-told-3
 enum-told-3 c = search needs
@@ -32,13 +32,13 @@ size-requires-3 : tie.Need-size-requires-3
 size-requires-3 c κs = search needs
 
 shape-fault-requires-3 : tie.Need-shape-fault-requires-3
-shape-fault-requires-3 c κs = search needs
+shape-fault-requires-3 c κs = tt
 
 enum-told-4 : tie.Need-enum-told-4
 enum-told-4 c = search needs
 
 unifac-fault-requires : tie.Need-unifac-fault-requires
-unifac-fault-requires c κs = search needs
+unifac-fault-requires c κs = tt
 
 returns : tie.Need-returns
 unfolding dataFault

@@ -35,14 +35,14 @@ pass : (c : tie.Else2) → Fits (memOf (c .before .before .before .before .befor
 pass c = load-fits _ _ (long (c .before .before)) (fault-none c)
 
 memory-fault-requires : tie.Need-memory-fault-requires
-memory-fault-requires c κs = search needs
+memory-fault-requires c κs = tt
 
 returns : tie.Need-returns
 unfolding memoryFault
 returns c = load-short (memOf (c .before .before .before .before .before .before .before .before)) _ (dataOf (c .before .before .before .before .before .before .before .before)) (c .before .memory-fault .ensures) (c .if1 .taken)
 
 data-fault-requires : tie.Need-data-fault-requires
-data-fault-requires c κs = search needs
+data-fault-requires c κs = tt
 
 returns-2 : tie.Need-returns-2
 returns-2 c = load-refused (memOf (c .before .before .before .before .before .before .before .before .before .before)) _ (dataOf (c .before .before .before .before .before .before .before .before .before .before)) (long (c .before .before)) (c .before .data-fault .ensures) (c .if2 .taken)

@@ -9,19 +9,19 @@ enum-told : tie.Need-enum-told
 enum-told c = search needs
 
 bare-head-requires : tie.Need-bare-head-requires
-bare-head-requires c κs = search needs
+bare-head-requires c κs = tt
 
 enum-told-2 : tie.Need-enum-told-2
 enum-told-2 c = search needs
 
 bare-head-requires-2 : tie.Need-bare-head-requires-2
-bare-head-requires-2 c κs = search needs
+bare-head-requires-2 c κs = tt
 
 enum-told-3 : tie.Need-enum-told-3
 enum-told-3 c = search needs
 
 bare-head-requires-3 : tie.Need-bare-head-requires-3
-bare-head-requires-3 c κs = search needs
+bare-head-requires-3 c κs = tt
 
 enum-told-4 : tie.Need-enum-told-4
 enum-told-4 c = search needs

@@ -8,10 +8,10 @@ use Rattle.mixture.proofs.load.stale_cells.Statement.{statement}
 use Rattle.mixture.proofs.load.stale_cells.Tie as tie
 
 by-model-requires : tie.Need-by-model-requires
-by-model-requires c κs = search needs
+by-model-requires c κs = tt
 
 has-diagonal-requires : tie.Need-has-diagonal-requires
-has-diagonal-requires c κs = search needs
+has-diagonal-requires c κs = tt
 
 stale-requires : tie.Need-stale-requires
 stale-requires c κs = let s = c .before .before .before in

@@ -1,20 +1,19 @@
 -- 1 where a slice is short, by the three lengths; else the fresh head without a model.
 use mathlib.Core.Path.{sym, _∙_}
-use borrow.Author.Needs.{needs}
 use Rattle.mixture.specs.Calls.{memoryFault, afterOpen}
 use Rattle.mixture.proofs.CallLaws.{refused, done}
 use Rattle.mixture.proofs.open.open.Statement.{statement}
 use Rattle.mixture.proofs.open.open.Tie as tie
 
 memory-fault-requires : tie.Need-memory-fault-requires
-memory-fault-requires c κs = search needs
+memory-fault-requires c κs = tt
 
 returns : tie.Need-returns
 unfolding afterOpen memoryFault
 returns c = refused _ _ _ (c .before .memory-fault .ensures) (c .if1 .taken)
 
 bare-head-requires : tie.Need-bare-head-requires
-bare-head-requires c κs = search needs
+bare-head-requires c κs = tt
 
 returns-2 : tie.Need-returns-2
 unfolding afterOpen memoryFault

@@ -15,7 +15,7 @@ fault-none : (c : tie.Else1) → let s = c .before .before .before .before .befo
 fault-none c = sym (c .before .query-fault .ensures (memOf (c .before .before .before .before .before)) (refl, refl, refl)) ∙ c .if1 .left
 
 query-fault-requires : tie.Need-query-fault-requires
-query-fault-requires c κs = search needs
+query-fault-requires c κs = tt
 
 returns : tie.Need-returns
 returns c = query-refused (memOf (c .before .before .before .before .before)) _ _ (c .before .query-fault .ensures (memOf (c .before .before .before .before .before)) (refl, refl, refl)) (c .if1 .taken)

@@ -1,12 +1,11 @@
 -- 1 and 8 of the head first, then 9 for T, 9 for the fractions, and 7. Assumes nothing.
-use borrow.Author.Needs.{needs}
 use borrow.Author.Tests.{not-true, not-false}
 use Rattle.mixture.proofs.QueryLaws.{query-head, query-no-t, query-no-x, query-index}
 use Rattle.mixture.proofs.query.query_fault.Statement.{statement}
 use Rattle.mixture.proofs.query.query_fault.Tie as tie
 
 head-fault-requires : tie.Need-head-fault-requires
-head-fault-requires c κs = search needs
+head-fault-requires c κs = tt
 
 returns : tie.Need-returns
 returns c = λ m e. query-head m _ _ (c .before .head-fault .ensures m e) (c .if1 .taken)
@@ -18,7 +17,7 @@ returns-3 : tie.Need-returns-3
 returns-3 c = λ m e. query-no-x m _ _ (c .before .before .before .before .before .head-fault .ensures m e) (c .before .before .before .before .if1 .left) (not-false _ (c .before .before .if2 .left)) (not-true _ (c .if3 .taken))
 
 index-fault-requires : tie.Need-index-fault-requires
-index-fault-requires c κs = search needs
+index-fault-requires c κs = tt
 
 returns-4 : tie.Need-returns-4
 returns-4 c = λ m e. query-index m _ _ (c .before .before .before .before .before .before .head-fault .ensures m e) (c .before .before .before .before .before .if1 .left) (not-false _ (c .before .before .before .if2 .left)) (not-false _ (c .before .if3 .left)) (c .index-fault .ensures)

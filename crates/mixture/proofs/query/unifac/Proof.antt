@@ -19,7 +19,7 @@ small c =
     (mul-le-mul (r .fewGroups) (r .fewGroups), sym (mul-assoc _ _ 5), row-end (c .args .ng) (c .args .ng * 5) (c .args .ng - 1) (omega (arith, r .someGroups)), r .fewGroups)
 
 log-requires : tie.Need-log-requires
-log-requires c κs = search needs
+log-requires c κs = tt
 
 add-place : tie.Need-add-place
 add-place c = search needs

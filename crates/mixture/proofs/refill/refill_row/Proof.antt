@@ -25,7 +25,7 @@ slice-read-is-stale : tie.Need-slice-read-is-stale Inv-loop μ-loop
 slice-read-is-stale c = omega (arith, refilled-length _ _ _ _ _ (c .before .before .loop .inv .1))
 
 is-stale-requires : tie.Need-is-stale-requires Inv-loop μ-loop
-is-stale-requires c κs = search needs
+is-stale-requires c κs = tt
 
 exponential-requires : tie.Need-exponential-requires Inv-loop μ-loop
 exponential-requires c κs = search needs

@@ -12,7 +12,7 @@ enum-known-s : tie.Need-enum-known-s
 enum-known-s c = search needs
 
 entry-block-requires : tie.Need-entry-block-requires
-entry-block-requires c κs = search needs
+entry-block-requires c κs = tt
 
 enum-known-s-2 : tie.Need-enum-known-s-2
 enum-known-s-2 c = search needs

@@ -5,10 +5,10 @@ use Rattle.mixture.proofs.set.case_fault.Statement.{statement}
 use Rattle.mixture.proofs.set.case_fault.Tie as tie
 
 model-of-requires : tie.Need-model-of-requires
-model-of-requires c κs = search needs
+model-of-requires c κs = tt
 
 by-model-requires : tie.Need-by-model-requires
-by-model-requires c κs = search needs
+by-model-requires c κs = tt
 
 enum-told : tie.Need-enum-told
 enum-told c = search needs
@@ -17,28 +17,28 @@ enum-known-s : tie.Need-enum-known-s
 enum-known-s c = search needs
 
 by-model-requires-2 : tie.Need-by-model-requires-2
-by-model-requires-2 c κs = search needs
+by-model-requires-2 c κs = tt
 
 pair-fault-requires : tie.Need-pair-fault-requires
-pair-fault-requires c κs = search needs
+pair-fault-requires c κs = tt
 
 enum-known-s-2 : tie.Need-enum-known-s-2
 enum-known-s-2 c = search needs
 
 by-model-requires-3 : tie.Need-by-model-requires-3
-by-model-requires-3 c κs = search needs
+by-model-requires-3 c κs = tt
 
 pair-fault-requires-2 : tie.Need-pair-fault-requires-2
-pair-fault-requires-2 c κs = search needs
+pair-fault-requires-2 c κs = tt
 
 enum-known-s-3 : tie.Need-enum-known-s-3
 enum-known-s-3 c = search needs
 
 by-model-requires-4 : tie.Need-by-model-requires-4
-by-model-requires-4 c κs = search needs
+by-model-requires-4 c κs = tt
 
 pair-fault-requires-3 : tie.Need-pair-fault-requires-3
-pair-fault-requires-3 c κs = search needs
+pair-fault-requires-3 c κs = tt
 
 enum-known-s-4 : tie.Need-enum-known-s-4
 enum-known-s-4 c = search needs

@@ -15,7 +15,7 @@ mul-by-model-2 : tie.Need-mul-by-model-2
 mul-by-model-2 c = omega (arith, mul-le-mul (c .pre .0) (c .pre .0))
 
 by-model-requires : tie.Need-by-model-requires
-by-model-requires c κs = search needs
+by-model-requires c κs = tt
 
 mul-result : tie.Need-mul-result
 mul-result c = omega (arith, mul-le-mul (c .before .pre .0) (c .before .pre .0), cell-lt (c .before .args .w) (c .before .args .w) (c .before .args .i) (c .before .args .j) (c .before .pre .1) (c .before .pre .2))

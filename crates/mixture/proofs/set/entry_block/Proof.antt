@@ -1,14 +1,13 @@
 -- Row i's columns on the diagonal, by the model; else one cell.
 use Rattle.mixture.proofs.SetLaws.{row-entry, cell-entry}
-use borrow.Author.Needs.{needs}
 use Rattle.mixture.proofs.set.entry_block.Statement.{statement}
 use Rattle.mixture.proofs.set.entry_block.Tie as tie
 
 by-model-requires : tie.Need-by-model-requires
-by-model-requires c κs = search needs
+by-model-requires c κs = tt
 
 by-model-requires-2 : tie.Need-by-model-requires-2
-by-model-requires-2 c κs = search needs
+by-model-requires-2 c κs = tt
 
 returns : tie.Need-returns
 returns c = row-entry (c .before .before .before .args .model) (c .before .before .before .args .w) (c .before .before .before .args .i) (c .before .before .before .args .j) (c .before .before .if1 .taken) (c .before .by-model .ensures) (c .by-model2 .ensures)

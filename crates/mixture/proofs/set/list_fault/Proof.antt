@@ -16,7 +16,7 @@ only-last Nrtl n = omega arith
 only-last Unifac n = omega arith
 
 by-model-requires : tie.Need-by-model-requires
-by-model-requires c κs = search needs
+by-model-requires c κs = tt
 
 slice-aggregate-count-fault : tie.Need-slice-aggregate-count-fault
 slice-aggregate-count-fault c = search needs

@@ -20,7 +20,7 @@ pass : (c : tie.Else1) → SetFits (memOf (c .before .before .before .before .be
 pass c = set-fits _ _ _ (fault-none c)
 
 setting-fault-requires : tie.Need-setting-fault-requires
-setting-fault-requires c κs = search needs
+setting-fault-requires c κs = tt
 
 returns : tie.Need-returns
 unfolding afterSetting
@@ -36,7 +36,7 @@ stale-by-requires : tie.Need-stale-by-requires
 stale-by-requires c κs = let p = pass (c .before .before .before .before .before .before) in (p .ok, p .marks)
 
 set-head-requires : tie.Need-set-head-requires
-set-head-requires c κs = search needs
+set-head-requires c κs = tt
 
 same-length : tie.Need-same-length
 same-length c = search needs

@@ -9,7 +9,7 @@ enum-known-s : tie.Need-enum-known-s
 enum-known-s c = search needs
 
 head-with-requires : tie.Need-head-with-requires
-head-with-requires c κs = search needs
+head-with-requires c κs = tt
 
 enum-told : tie.Need-enum-told
 enum-told c = search needs

@@ -2,12 +2,11 @@
 use Rattle.mixture.proofs.CallLaws.{few-by}
 use Rattle.models.proofs.AnswerLaws.{first-left, first-right}
 use Rattle.mixture.specs.Calls.{settingFault}
-use borrow.Author.Needs.{needs}
 use Rattle.mixture.proofs.set.setting_fault.Statement.{statement}
 use Rattle.mixture.proofs.set.setting_fault.Tie as tie
 
 head-fault-requires : tie.Need-head-fault-requires
-head-fault-requires c κs = search needs
+head-fault-requires c κs = tt
 
 returns : tie.Need-returns
 unfolding settingFault

@@ -14,7 +14,7 @@ mul-by-model-2 : tie.Need-mul-by-model-2
 mul-by-model-2 c = omega (arith, mul-le-mul (c .pre .0) (c .pre .0))
 
 by-model-requires : tie.Need-by-model-requires
-by-model-requires c κs = search needs
+by-model-requires c κs = tt
 
 mul-result : tie.Need-mul-result
 mul-result c = let k : c .before .args .which ≤ 1 = omega arith in omega (arith, mul-le-mul k (c .before .pre .0))

@@ -7,16 +7,16 @@ use Rattle.mixture.proofs.set.stale_by.Statement.{statement}
 use Rattle.mixture.proofs.set.stale_by.Tie as tie
 
 model-of-requires : tie.Need-model-of-requires
-model-of-requires c κs = search needs
+model-of-requires c κs = tt
 
 by-model-requires : tie.Need-by-model-requires
-by-model-requires c κs = search needs
+by-model-requires c κs = tt
 
 has-diagonal-requires : tie.Need-has-diagonal-requires
-has-diagonal-requires c κs = search needs
+has-diagonal-requires c κs = tt
 
 block-of-requires : tie.Need-block-of-requires
-block-of-requires c κs = search needs
+block-of-requires c κs = tt
 
 stale-requires : tie.Need-stale-requires
 stale-requires c κs = let s = c .before .before .before .before .before .before in

@@ -5,10 +5,10 @@ use Rattle.mixture.proofs.set.store_at.Statement.{statement}
 use Rattle.mixture.proofs.set.store_at.Tie as tie
 
 model-of-requires : tie.Need-model-of-requires
-model-of-requires c κs = search needs
+model-of-requires c κs = tt
 
 by-model-requires : tie.Need-by-model-requires
-by-model-requires c κs = search needs
+by-model-requires c κs = tt
 
 enum-told : tie.Need-enum-told
 enum-told c = search needs

@@ -12,7 +12,7 @@ add-by-model : tie.Need-add-by-model
 add-by-model c = search needs
 
 by-model-requires : tie.Need-by-model-requires
-by-model-requires c κs = search needs
+by-model-requires c κs = tt
 
 mul-result : tie.Need-mul-result
 mul-result c = omega (arith, mul-le-mul (c .before .pre .0) (c .before .pre .0), cell-lt (c .before .args .w) (c .before .args .w) (c .before .args .i) (c .before .args .j) (c .before .pre .1) (c .before .pre .2))

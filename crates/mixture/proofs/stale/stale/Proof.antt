@@ -26,7 +26,7 @@ loop-holds : tie.Need-loop-holds Inv-loop μ-loop
 loop-holds c = (omega arith, omega arith, refl, stale-none (c .before .before .before .args .w) (c .before .before .before .args .diagonal) (c .before .before .before .args .block .top) (c .before .before .before .args .block .left) (c .before .before .before .args .block .left + c .before .before .before .args .block .columns) _)
 
 skipped-requires : tie.Need-skipped-requires Inv-loop μ-loop
-skipped-requires c κs = search needs
+skipped-requires c κs = tt
 
 mul-stale-row : tie.Need-mul-stale-row Inv-loop μ-loop
 mul-stale-row c = omega (arith, row-end (c .before .before .before .before .before .before .before .args .w) (c .before .before .before .before .before .before .before .args .w) (c .before .before .before .loop .i) (omega arith), c .before .before .before .before .before .before .before .pre)

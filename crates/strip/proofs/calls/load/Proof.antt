@@ -38,7 +38,7 @@ add-e : tie.Need-add-e
 add-e c = search needs
 
 model-of-requires : tie.Need-model-of-requires
-model-of-requires c κs = search needs
+model-of-requires c κs = tt
 
 array-share-prefix-lens : tie.Need-array-share-prefix-lens
 array-share-prefix-lens c = let h = whole-lists _ _ (c .before .before .before .before .before .before .before .before .before .before .before .before .before .before .before .before .before .pre) in search needs

@@ -39,10 +39,10 @@ returns-2 : tie.Need-returns-2
 returns-2 c = by-fractions (c .before .before .before .before .before .before .before .before .before .before .args .s .now) (c .before .before .before .before .before .before .before .before .before .before .args .r) _ _ _ (c .before .before .before .before .before .if1 .left) (c .before .before .before .before .if2 .taken) (c .fractions .ensures)
 
 quantity-of-requires : tie.Need-quantity-of-requires
-quantity-of-requires c κs = search needs
+quantity-of-requires c κs = tt
 
 query-requires : tie.Need-query-requires
-query-requires c κs = search needs
+query-requires c κs = tt
 
 same-length-7 : tie.Need-same-length-7
 same-length-7 c = search needs
@@ -60,7 +60,7 @@ setting-of-requires : tie.Need-setting-of-requires
 setting-of-requires c κs = (c .before .before .before .before .before .before .before .before .before .before .pre, whole-one _ _ (c .before .before .before .before .before .before .before .before .before .before .pre) (c .before .before .before .before .before .if1 .left) (c .before .before .before .before .if2 .left) (c .before .before .before .if3 .left))
 
 set-requires : tie.Need-set-requires
-set-requires c κs = search needs
+set-requires c κs = tt
 
 same-length-10 : tie.Need-same-length-10
 same-length-10 c = search needs

@@ -7,7 +7,6 @@ use Rattle.strip.proofs.ListLaws.{scan-12, scan-13, word-in, i-is, Fill
 use mathlib.Core.Path.{_≡_, refl, sym, ap, _∙_}
 use Prim.Native.Nat.{ℕ, zero, suc, _+_, _*_, _-_, _<_, _≤_}
 use native.Mathlib.Omega.{arith}
-use borrow.Author.Needs.{needs}
 use lib.ListN.{length, getD}
 use Rattle.strip.proofs.lists.fill_lists.Statement.{statement}
 use Rattle.strip.proofs.lists.fill_lists.Tie as tie
@@ -65,7 +64,7 @@ word-at-requires : tie.Need-word-at-requires Inv-loop μ-loop
 word-at-requires c κs = in-12 c
 
 i-of-requires : tie.Need-i-of-requires Inv-loop μ-loop
-i-of-requires c κs = search needs
+i-of-requires c κs = tt
 
 cast-lens : tie.Need-cast-lens Inv-loop μ-loop
 cast-lens c = omega (arith, c .i-of .ensures .1)
@@ -105,7 +104,7 @@ word-at-requires-2 : tie.Need-word-at-requires-2 Inv-loop μ-loop
 word-at-requires-2 c κs = omega (arith, in-13 c)
 
 i-of-requires-2 : tie.Need-i-of-requires-2 Inv-loop μ-loop
-i-of-requires-2 c κs = search needs
+i-of-requires-2 c κs = tt
 
 cast-groups : tie.Need-cast-groups Inv-loop μ-loop
 cast-groups c = omega (arith, c .i-of2 .ensures .1)

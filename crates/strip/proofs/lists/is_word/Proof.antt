@@ -18,19 +18,19 @@ word-at-requires : tie.Need-word-at-requires
 word-at-requires c κs = search needs
 
 kind-of-requires : tie.Need-kind-of-requires
-kind-of-requires c κs = search needs
+kind-of-requires c κs = tt
 
 returns-2 : tie.Need-returns-2
 returns-2 c = word-kind _ (c .before .before .before .before .before .args .kind) _ _ (c .before .before .word-at .result) (c .before .before .before .if1 .left) (c .before .before .word-at .ensures .0) (c .before .kind-of .result) (c .before .kind-of .ensures) (c .if2 .taken)
 
 j-of-requires : tie.Need-j-of-requires
-j-of-requires c κs = search needs
+j-of-requires c κs = tt
 
 returns-3 : tie.Need-returns-3
 returns-3 c = word-field _ (c .before .before .before .before .before .before .before .args .kind) _ _ (c .before .before .before .before .word-at .result) (c .before .before .before .before .before .if1 .left) (c .before .before .before .before .word-at .ensures .0) (c .before .before .before .kind-of .result) (c .before .before .before .kind-of .ensures) (c .before .before .if2 .left) (c .before .j-of .result) (c .before .j-of .ensures .0) (c .if3 .taken)
 
 rest-of-requires : tie.Need-rest-of-requires
-rest-of-requires c κs = search needs
+rest-of-requires c κs = tt
 
 returns-4 : tie.Need-returns-4
 returns-4 c = word-rest _ (c .before .before .before .before .before .before .before .before .args .kind) _ _ (c .before .before .before .before .before .word-at .result) (c .before .before .before .before .before .before .if1 .left) (c .before .before .before .before .before .word-at .ensures .0) (c .before .before .before .before .kind-of .result) (c .before .before .before .before .kind-of .ensures) (c .before .before .before .if2 .left) (c .before .before .j-of .result) (c .before .before .j-of .ensures .0) (c .before .if3 .left) (c .rest-of .result) (c .rest-of .ensures)

@@ -33,7 +33,7 @@ word-at-requires : tie.Need-word-at-requires Inv-loop μ-loop
 word-at-requires c κs = word-in _ 12 4 (c .before .before .before .before .loop .p) (sym (c .before .is-word .ensures) ∙ not-false _ (c .if3 .left))
 
 i-of-requires : tie.Need-i-of-requires Inv-loop μ-loop
-i-of-requires c κs = search needs
+i-of-requires c κs = tt
 
 sub-left : tie.Need-sub-left Inv-loop μ-loop
 sub-left c = omega arith

@@ -22,19 +22,19 @@ word-at-requires : tie.Need-word-at-requires
 word-at-requires c κs = search needs
 
 kind-of-requires : tie.Need-kind-of-requires
-kind-of-requires c κs = search needs
+kind-of-requires c κs = tt
 
 i-of-requires : tie.Need-i-of-requires
-i-of-requires c κs = search needs
+i-of-requires c κs = tt
 
 j-of-requires : tie.Need-j-of-requires
-j-of-requires c κs = search needs
+j-of-requires c κs = tt
 
 shape-of-requires : tie.Need-shape-of-requires
 shape-of-requires c κs = search needs
 
 rest-of-requires : tie.Need-rest-of-requires
-rest-of-requires c κs = search needs
+rest-of-requires c κs = tt
 
 returns-3 : tie.Need-returns-3
 returns-3 c = read-rest _ _ (c .before .before .before .before .before .before .word-at .result) (c .before .before .before .before .before .kind-of .result) (c .before .before .before .before .i-of .result) (c .before .before .before .j-of .result) (c .before .before .shape-of .result) (c .before .before .before .before .before .before .before .before .if1 .left) (c .before .before .before .before .before .before .before .if2 .left) (c .before .before .before .before .before .before .word-at .ensures .0) (c .before .before .before .before .before .kind-of .ensures) (c .before .before .before .before .i-of .ensures .0) (c .before .before .before .j-of .ensures .0) (c .before .before .shape-of .ensures .0) (c .before .rest-of .result) (c .before .rest-of .ensures) (c .if3 .taken)

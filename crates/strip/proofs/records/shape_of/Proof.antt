@@ -21,7 +21,7 @@ add-with-shape : tie.Need-add-with-shape
 add-with-shape c = omega (arith, square (c .before .args .i) (c .before .pre .0))
 
 with-shape-requires : tie.Need-with-shape-requires
-with-shape-requires c κs = search needs
+with-shape-requires c κs = tt
 
 add-with-shape-2 : tie.Need-add-with-shape-2
 add-with-shape-2 c = omega (arith, square (c .before .args .i) (c .before .pre .0))
@@ -30,7 +30,7 @@ add-with-shape-3 : tie.Need-add-with-shape-3
 add-with-shape-3 c = omega (arith, square (c .before .args .i) (c .before .pre .0))
 
 with-shape-requires-2 : tie.Need-with-shape-requires-2
-with-shape-requires-2 c κs = search needs
+with-shape-requires-2 c κs = tt
 
 mul-with-shape : tie.Need-mul-with-shape
 mul-with-shape c = omega (arith, square (c .before .args .i) (c .before .pre .0))
@@ -39,7 +39,7 @@ add-with-shape-4 : tie.Need-add-with-shape-4
 add-with-shape-4 c = omega (arith, square (c .before .args .i) (c .before .pre .0))
 
 with-shape-requires-3 : tie.Need-with-shape-requires-3
-with-shape-requires-3 c κs = search needs
+with-shape-requires-3 c κs = tt
 
 add-with-shape-5 : tie.Need-add-with-shape-5
 add-with-shape-5 c = search needs
@@ -51,37 +51,37 @@ add-with-shape-6 : tie.Need-add-with-shape-6
 add-with-shape-6 c = omega (arith, square (c .before .args .j) (c .before .pre .1))
 
 with-shape-requires-4 : tie.Need-with-shape-requires-4
-with-shape-requires-4 c κs = search needs
+with-shape-requires-4 c κs = tt
 
 both-zero-requires : tie.Need-both-zero-requires
-both-zero-requires c κs = search needs
+both-zero-requires c κs = tt
 
 with-shape-requires-5 : tie.Need-with-shape-requires-5
-with-shape-requires-5 c κs = search needs
+with-shape-requires-5 c κs = tt
 
 with-shape-requires-6 : tie.Need-with-shape-requires-6
-with-shape-requires-6 c κs = search needs
+with-shape-requires-6 c κs = tt
 
 with-shape-requires-7 : tie.Need-with-shape-requires-7
-with-shape-requires-7 c κs = search needs
+with-shape-requires-7 c κs = tt
 
 with-shape-requires-8 : tie.Need-with-shape-requires-8
-with-shape-requires-8 c κs = search needs
+with-shape-requires-8 c κs = tt
 
 with-shape-requires-9 : tie.Need-with-shape-requires-9
-with-shape-requires-9 c κs = search needs
+with-shape-requires-9 c κs = tt
 
 with-shape-requires-10 : tie.Need-with-shape-requires-10
-with-shape-requires-10 c κs = search needs
+with-shape-requires-10 c κs = tt
 
 is-query-requires : tie.Need-is-query-requires
-is-query-requires c κs = search needs
+is-query-requires c κs = tt
 
 with-shape-requires-11 : tie.Need-with-shape-requires-11
-with-shape-requires-11 c κs = search needs
+with-shape-requires-11 c κs = tt
 
 with-shape-requires-12 : tie.Need-with-shape-requires-12
-with-shape-requires-12 c κs = search needs
+with-shape-requires-12 c κs = tt
 
 returns : tie.Need-returns
 unfolding shapeOf wilsonSize

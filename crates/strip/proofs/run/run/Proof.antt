@@ -31,10 +31,10 @@ slice-aggregate-open-3 : tie.Need-slice-aggregate-open-3
 slice-aggregate-open-3 c = search needs
 
 bare-head-requires : tie.Need-bare-head-requires
-bare-head-requires c κs = search needs
+bare-head-requires c κs = tt
 
 open-requires : tie.Need-open-requires
-open-requires c κs = search needs
+open-requires c κs = tt
 
 slice-aggregate-walk : tie.Need-slice-aggregate-walk
 slice-aggregate-walk c = search needs
