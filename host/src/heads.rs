@@ -8,16 +8,16 @@ use crate::steps::Steps;
 impl Steps {
     /// The head with another number in one field.
     fn altered(&mut self, mut head: Head) -> Head {
-        let (i, k) = (self.below(12), self.below(144));
-        match self.below(9) {
+        let (i, k) = (self.below(head.n.clamp(1, 12)), self.below(144));
+        match self.below(10) {
             0 => head.model = self.any(&[0, 1, 2, 3, 4, 5, 255]),
             1 => head.n = self.any(&[0, 1, 2, 11, 12, 13, 256, usize::MAX]),
             2 => head.ng = self.any(&[0, 1, 2, 31, 32, 33, 256, usize::MAX]),
-            3 => head.lens[i] = self.any(&[0, 1, 12, 13, 255]),
-            4 => head.groups[k] = self.below(256) as u8,
-            5 => head.t = self.number(220.0, 650.0),
-            6 => head.x[i] = self.float(),
-            7 => head.has_t = !head.has_t,
+            3 | 4 => head.lens[i] = self.any(&[0, 12, 13, 13, 255]),
+            5 => head.groups[k] = self.below(256) as u8,
+            6 => head.t = self.number(220.0, 650.0),
+            7 => head.x[i] = self.float(),
+            8 => head.has_t = !head.has_t,
             _ => {
                 let x = self.fractions(head.n);
                 let n = x.len().min(12);
@@ -49,7 +49,8 @@ impl Steps {
             head.ng = ng;
             head.lens[..n].fill_with(|| self.below(13) as u8);
             let places = head.lens[..n].iter().map(|len| usize::from(*len)).sum();
-            head.groups[..places].fill_with(|| self.below(ng) as u8);
+            let used = if self.one_in(2) { places } else { 144 };
+            head.groups[..used].fill_with(|| self.below(ng) as u8);
         }
         let x = self.fractions(head.n);
         let n = x.len().min(12);

@@ -105,7 +105,12 @@ impl Tally {
             unknown,
             ..
         } = self;
-        println!("  {put_in_place} memories and heads put in place; {on_other_heads} values on them, of which {unknown} by no call of the original and held by count and memory alone");
+        println!(
+            "  {put_in_place} memories and heads put in place, {on_other_heads} values on them"
+        );
+        println!(
+            "  of these, {unknown} that no call of the original gives: held by count and memory"
+        );
     }
 }
 
@@ -116,7 +121,7 @@ fn run(program: &Path, script: &[u8]) -> io::Result<String> {
         .stdout(Stdio::piped())
         .spawn()?;
     let mut input = child.stdin.take().unwrap();
-    // A program that ends before it has read all of it leaves lines out, so that the write's own error says no more.
+    // A program that ends before it has read all of it leaves lines out: the write's own error says no more.
     let output = std::thread::scope(|scope| {
         scope.spawn(move || input.write_all(script).ok());
         child.wait_with_output()

@@ -51,8 +51,8 @@ impl Expected {
     }
 }
 
-/// What the calls have to answer: the memory by places, and the book where an accepted opening or load has begun one
-/// and no memory or head was put in place since.
+/// What the calls have to answer: the memory by places, and the book, from an accepted opening or load on and until
+/// a memory or a head is put in place.
 pub struct Reference {
     memory: Memory,
     book: Option<Book>,
