@@ -4,23 +4,66 @@
 //! usage: compare [--cases N] [--seed S]    N random inputs of exp and log each, beside the edges (default
 //!                                          1000000), N/4 calls of a model, N/10 of UNIFAC
 //!        compare --store DIR               write the lists that the program `replay` reads
+//!        compare --histories PROGRAM [--calls N] [--seed S]
+//!                                          random histories of the mixture's calls, N in all (default 200000), run
+//!                                          by the program `histories`
+//!        compare --store-history DIR       write a short history, and what `histories` has to write for it
 
+mod book;
+mod calls;
 mod case;
 mod cases;
 mod compare;
 mod differences;
 mod exports;
+mod heads;
+mod histories;
+mod history;
 mod inputs;
+mod memory;
 mod models;
 mod random;
 mod rust;
+mod steps;
 mod stored;
 
 use random::Random;
 use std::path::Path;
 use std::process::ExitCode;
 
-const USAGE: &str = "usage: compare [--cases N] [--seed S] | compare --store DIR";
+const USAGE: &str = "usage: compare [--cases N] [--seed S] | compare --store DIR
+       compare --histories PROGRAM [--calls N] [--seed S] | compare --store-history DIR";
+
+/// What the words of the command line say.
+struct Asked {
+    cases: usize,
+    calls: usize,
+    seed: u64,
+    /// A word other than these three, and the path after it.
+    other: Option<(String, String)>,
+}
+
+fn asked() -> Option<Asked> {
+    let (cases, calls, seed) = (1_000_000, 200_000, 1);
+    let mut asked = Asked {
+        cases,
+        calls,
+        seed,
+        other: None,
+    };
+    let mut words = std::env::args().skip(1);
+    while let Some(word) = words.next() {
+        let value = words.next()?;
+        match word.as_str() {
+            "--cases" => asked.cases = value.parse().ok()?,
+            "--calls" => asked.calls = value.parse().ok()?,
+            "--seed" => asked.seed = value.parse().ok()?,
+            "--store" | "--histories" | "--store-history" => asked.other = Some((word, value)),
+            _ => return None,
+        }
+    }
+    Some(asked)
+}
 
 fn compare_all(cases: usize, seed: u64) -> bool {
     let random = &mut Random::new(seed);
@@ -32,38 +75,31 @@ fn compare_all(cases: usize, seed: u64) -> bool {
     same
 }
 
-fn main() -> ExitCode {
-    let (mut cases, mut seed, mut store) = (1_000_000, 1, None);
-    let mut words = std::env::args().skip(1);
-    while let Some(word) = words.next() {
-        let value = words.next();
-        let known = match (word.as_str(), value) {
-            ("--cases", Some(v)) => v.parse().map(|n| cases = n).is_ok(),
-            ("--seed", Some(v)) => v.parse().map(|s| seed = s).is_ok(),
-            ("--store", Some(v)) => {
-                store = Some(v);
-                true
-            }
-            _ => false,
-        };
-        if !known {
-            eprintln!("{USAGE}");
-            return ExitCode::from(2);
-        }
-    }
-    let fine = match store {
-        Some(folder) => match stored::write_all(Path::new(&folder)) {
-            Ok(()) => true,
-            Err(error) => {
-                eprintln!("compare: {folder}: {error}");
-                false
-            }
-        },
-        None => compare_all(cases, seed),
+/// Does what is asked, and answers whether all agree.
+fn run(asked: &Asked) -> std::io::Result<bool> {
+    let Some((word, path)) = &asked.other else {
+        return Ok(compare_all(asked.cases, asked.seed));
     };
-    if fine {
-        ExitCode::SUCCESS
-    } else {
-        ExitCode::FAILURE
+    let path = Path::new(path);
+    match word.as_str() {
+        "--store" => stored::write_all(path).map(|()| true),
+        "--store-history" => histories::write_stored(path).map(|()| true),
+        _ => histories::compare_all(path, asked.calls, asked.seed),
+    }
+}
+
+fn main() -> ExitCode {
+    let Some(asked) = asked() else {
+        eprintln!("{USAGE}");
+        return ExitCode::from(2);
+    };
+    match run(&asked) {
+        Ok(true) => ExitCode::SUCCESS,
+        Ok(false) => ExitCode::FAILURE,
+        Err(error) => {
+            let path = asked.other.map_or(String::new(), |(_, path)| path);
+            eprintln!("compare: {path}: {error}");
+            ExitCode::FAILURE
+        }
     }
 }

@@ -1,0 +1,49 @@
+-- `histories::digest::bytes` is safe and ends. The measure is what is left of the slice.
+use mathlib.Core.Path.{_≡_, refl}
+use Prim.Native.Nat.{_≤_, _-_}
+use native.Mathlib.Omega.{arith}
+use borrow.Author.Needs.{needs}
+use lib.ListN.{length}
+use Rattle.histories.proofs.digest.bytes.Statement.{statement}
+use Rattle.histories.proofs.digest.bytes.Tie as tie
+
+abbrev Inv-loop : tie.InvT-loop
+Inv-loop h s r₀ k₀ k-end r k = (k ≤ k-end) × (k-end ≡ length s)
+
+abbrev μ-loop : tie.MeasureT-loop
+μ-loop h s r₀ k₀ k-end r k = k-end - k
+
+loop-holds : tie.Need-loop-holds Inv-loop μ-loop
+loop-holds c = (omega arith, refl)
+
+shared-slice-read-byte : tie.Need-shared-slice-read-byte Inv-loop μ-loop
+shared-slice-read-byte c = omega arith
+
+byte-requires : tie.Need-byte-requires Inv-loop μ-loop
+byte-requires c κs = search needs
+
+add-k : tie.Need-add-k Inv-loop μ-loop
+add-k c = omega arith
+
+loop-less : tie.Need-loop-less Inv-loop μ-loop
+loop-less c = omega arith
+
+loop-again : tie.Need-loop-again Inv-loop μ-loop
+loop-again c = search needs
+
+returns : tie.Need-returns Inv-loop μ-loop
+returns c = tt
+
+pub bytes-spec : {M : Type 1} → statement M
+bytes-spec =
+    tie.close
+    (tie.spec
+    Inv-loop
+    μ-loop
+    loop-holds
+    shared-slice-read-byte
+    byte-requires
+    add-k
+    loop-less
+    loop-again
+    returns)

@@ -1,0 +1,213 @@
+// A record's call, on the parts of the memory that it lends.
+ghost use Prim.Native.Nat.{_+_, _*_, _≤_};
+ghost use lib.ListN.{length};
+use crate::records;
+use crate::records::Record;
+use arithmetic::TdParam;
+use arithmetic::bytes::fill_floats;
+use mixture::Answer;
+use mixture::Head;
+use mixture::Model;
+use mixture::Reply;
+use mixture::Setting;
+use models::Quantity;
+
+// The float at a place of a row, and 0 past its end.
+fn float(s: &[f64], k: usize) -> f64 {
+    if k < s.len() {
+        return s[k];
+    }
+    0.0
+}
+
+// The same for bytes.
+fn byte(s: &[u8], k: usize) -> u8 {
+    if k < s.len() {
+        return s[k];
+    }
+    0
+}
+
+fn model_of(k: usize) -> Model {
+    match k {
+        1 => Model::Wilson,
+        2 => Model::Uniquac,
+        3 => Model::Nrtl,
+        _ => Model::Unifac,
+    }
+}
+
+// The record's a is the case, b is i, and c is j or which of the sizes.
+fn setting_of(r: Record, s: &[f64]) -> Setting {
+    let v = float(s, 0);
+    let case = r.a;
+    match case {
+        0 => Setting::Temperature(v),
+        1 => Setting::Entry(r.b, r.c, v),
+        2 => Setting::TdEntry(
+            r.b,
+            r.c,
+            TdParam {
+                a: v,
+                b: float(s, 1),
+                c: float(s, 2),
+                d: float(s, 3),
+                e: float(s, 4),
+            },
+        ),
+        3 => Setting::Size(r.b, r.c, v),
+        _ => Setting::Count(r.b, r.c, v),
+    }
+}
+
+fn quantity_of(r: Record) -> Quantity {
+    let asked = r.a;
+    match asked {
+        0 => Quantity::LnGamma(r.b),
+        1 => Quantity::Gamma(r.b),
+        _ => Quantity::ExcessGibbs,
+    }
+}
+
+// The bytes of a row, and 0 in the places past it.
+pub fn put_bytes(a: &mut [u8], s: &[u8]) {
+    for k in 0..a.len() {
+        a[k] = byte(s, k);
+    }
+}
+
+// The same for floats.
+fn put_floats(a: &mut [f64], s: &[f64]) {
+    for k in 0..a.len() {
+        a[k] = float(s, k);
+    }
+}
+
+// Any head: 12 lengths, then whether T and the fractions are set; the groups; the fractions and T.
+fn head_of(r: Record, first: &[u8], second: &[u8], floats: &[f64]) -> Head {
+    let mut lens = [0u8; 12];
+    put_bytes(&mut lens[..], first);
+    let mut groups = [0u8; 144];
+    put_bytes(&mut groups[..], second);
+    let mut x = [0.0; 12];
+    put_floats(&mut x[..], floats);
+    Head {
+        model: (r.a % 256) as u8,
+        n: r.b,
+        ng: r.c,
+        lens: lens,
+        groups: groups,
+        t: float(floats, 12),
+        x: x,
+        has_t: byte(first, 12) == 1,
+        has_x: byte(first, 13) == 1,
+    }
+}
+
+// The head before any record.
+pub fn no_head() -> Head {
+    Head {
+        model: 0,
+        n: 0,
+        ng: 0,
+        lens: [0u8; 12],
+        groups: [0u8; 144],
+        t: 0.0,
+        x: [0.0; 12],
+        has_t: false,
+        has_x: false,
+    }
+}
+
+// The call on what is lent.
+fn on_lent(
+    r: Record,
+    first: &[u8],
+    second: &[u8],
+    floats: &[f64],
+    values: &mut [f64],
+    cells: &mut [f64],
+    marks: &mut [u8],
+    head: Head,
+) -> Reply {
+    let kind = r.kind;
+    match kind {
+        records::OPEN => mixture::open::open(values, cells, marks, head),
+        records::LOAD => mixture::load::load(
+            values,
+            cells,
+            marks,
+            head,
+            model_of(r.a),
+            r.b,
+            r.c,
+            first,
+            second,
+            floats,
+        ),
+        records::SETTING => { mixture::set::set(values, cells, marks, head, setting_of(r, floats)) }
+        records::FRACTIONS => mixture::fractions::fractions(values, cells, marks, head, floats),
+        records::QUERY => mixture::query::query(values, cells, marks, head, quantity_of(r)),
+        _ => Reply {
+            head: head_of(r, first, second, floats),
+            answer: Answer::Done,
+        },
+    }
+}
+
+// The call on the places that the record lends.
+fn on_parts(
+    r: Record,
+    first: &[u8],
+    second: &[u8],
+    floats: &[f64],
+    values: &mut [f64],
+    cells: &mut [f64],
+    marks: &mut [u8],
+    head: Head,
+) -> Reply
+    requires { ⌜ (r .values ≤ length (now values)) × (r .cells ≤ length (now cells)) × (r .marks ≤ length (now marks)) ⌝ }
+{
+    let v = r.values;
+    let c = r.cells;
+    let m = r.marks;
+    on_lent(
+        r,
+        first,
+        second,
+        floats,
+        &mut values[..v],
+        &mut cells[..c],
+        &mut marks[..m],
+        head,
+    )
+}
+
+// The call that a record and its rows make.
+pub fn call(
+    r: Record,
+    rows: &[u8],
+    values: &mut [f64],
+    cells: &mut [f64],
+    marks: &mut [u8],
+    head: Head,
+) -> Reply
+    requires { ⌜ (r .first + r .second + 8 * r .floats ≤ length (now rows)) × (r .floats ≤ 7000) ⌝ }
+    requires { ⌜ (r .values ≤ length (now values)) × (r .cells ≤ length (now cells)) × (r .marks ≤ length (now marks)) ⌝ }
+{
+    let first = r.first;
+    let floats_at = first + r.second;
+    let count = r.floats;
+    let mut floats = [0.0; 7000];
+    fill_floats(&mut floats[..], rows, floats_at, count);
+    on_parts(
+        r,
+        &rows[..first],
+        &rows[first..floats_at],
+        &floats[..count],
+        values,
+        cells,
+        marks,
+        head,
+    )
+}

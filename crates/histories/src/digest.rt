@@ -1,0 +1,68 @@
+// A digest of 64 bits: each place changes it, by its bits and by where it stands.
+use mixture::Head;
+
+// The bits of a float, any NaN as one.
+pub fn bits(v: f64) -> u64 {
+    if v != v {
+        return 0x7ff8_0000_0000_0000;
+    }
+    f64::to_bits(v)
+}
+
+// One word more. Another word gives another digest, and so does another digest before.
+fn word(h: u64, w: u64) -> u64 {
+    let a = h ^ w;
+    let b = std::num::wrapping_add_u64(a, a << 21);
+    b ^ (b >> 29)
+}
+
+fn byte(h: u64, b: u8) -> u64 {
+    word(h, b as u64)
+}
+
+fn flag(h: u64, b: bool) -> u64 {
+    if b {
+        return word(h, 1);
+    }
+    word(h, 0)
+}
+
+pub fn floats(h: u64, s: &[f64]) -> u64 {
+    let mut r = h;
+    for k in 0..s.len() {
+        r = word(r, bits(s[k]));
+    }
+    r
+}
+
+pub fn bytes(h: u64, s: &[u8]) -> u64 {
+    let mut r = h;
+    for k in 0..s.len() {
+        r = byte(r, s[k]);
+    }
+    r
+}
+
+fn lists(h: u64, lens: [u8; 12], groups: [u8; 144]) -> u64 {
+    bytes(bytes(h, &lens[..]), &groups[..])
+}
+
+fn numbers(h: u64, t: f64, x: [f64; 12]) -> u64 {
+    floats(word(h, bits(t)), &x[..])
+}
+
+// The head's fields in their order.
+pub fn head(h: u64, head: Head) -> u64 {
+    let lens = head.lens;
+    let groups = head.groups;
+    let x = head.x;
+    let a = byte(h, head.model);
+    let b = word(word(a, head.n as u64), head.ng as u64);
+    let c = numbers(lists(b, lens, groups), head.t, x);
+    flag(flag(c, head.has_t), head.has_x)
+}
+
+// The whole memory and the head.
+pub fn all(values: &[f64], cells: &[f64], marks: &[u8], h: Head) -> u64 {
+    head(bytes(floats(floats(0, values), cells), marks), h)
+}

@@ -1,0 +1,84 @@
+// A record of the script: ten words of eight bytes, the lowest first, and three rows: bytes, bytes, and floats of
+// eight bytes each.
+ghost use mathlib.Core.Path.{_≡_};
+ghost use mathlib.Core.Bool.{true};
+ghost use Prim.Native.Nat.{_+_, _≤_};
+ghost use lib.ListN.{length};
+ghost use Rattle.histories.specs.Rows.{Fitting};
+use arithmetic::bytes::word_at;
+
+// The kinds. Memory puts its rows in place of the memory. Kind 1, or any other, is a head in place of the one that the
+// last call returned. The rest are the mixture's calls.
+pub const MEMORY: usize = 0;
+
+pub const OPEN: usize = 2;
+
+pub const LOAD: usize = 3;
+
+pub const SETTING: usize = 4;
+
+pub const FRACTIONS: usize = 5;
+
+pub const QUERY: usize = 6;
+
+// How many places of values, cells and marks are lent; up to three numbers of the call; the lengths of the rows.
+pub struct Record {
+    pub kind: usize,
+    pub values: usize,
+    pub cells: usize,
+    pub marks: usize,
+    pub a: usize,
+    pub b: usize,
+    pub c: usize,
+    pub first: usize,
+    pub second: usize,
+    pub floats: usize,
+}
+
+// The word at a place.
+fn word(s: &[u8], at: usize) -> usize
+    requires { ⌜ at + 8 ≤ length (now s) ⌝ }
+{
+    word_at(s, at) + 4294967296 * word_at(s, at + 4)
+}
+
+// The record that 80 bytes begin.
+pub fn begun_by(s: &[u8; 80]) -> Record {
+    Record {
+        kind: word(s, 0),
+        values: word(s, 8),
+        cells: word(s, 16),
+        marks: word(s, 24),
+        a: word(s, 32),
+        b: word(s, 40),
+        c: word(s, 48),
+        first: word(s, 56),
+        second: word(s, 64),
+        floats: word(s, 72),
+    }
+}
+
+// Whether the memory has the places lent, and the program room for the rows.
+pub fn has_room(r: Record) -> bool
+    ensures { λ b. ⌜ (b ≡ true → Fitting r) ⌝ }
+{
+    if 5400 < r.values {
+        return false;
+    }
+    if 1100 < r.cells {
+        return false;
+    }
+    if 1100 < r.marks {
+        return false;
+    }
+    if 2000 < r.first {
+        return false;
+    }
+    if 2000 < r.second {
+        return false;
+    }
+    if 7000 < r.floats {
+        return false;
+    }
+    true
+}
