@@ -9,6 +9,8 @@ extern "C" {
     fn kiltgrit_exp(v: f64) -> f64;
     fn kiltgrit_log(v: f64) -> f64;
 
+    fn kiltgrit_run(strip: *const u8, strip_len: usize, out: *mut u8, out_len: usize) -> usize;
+
     fn kiltgrit_ln_gamma(
         model: u32,
         n: usize,
@@ -68,6 +70,13 @@ pub fn exp(v: f64) -> f64 {
 pub fn log(v: f64) -> f64 {
     // SAFETY: as for `exp`.
     unsafe { kiltgrit_log(v) }
+}
+
+/// Stores a strip's text into `out`, as far as it fits, and answers how long it is.
+pub fn run(strip: &[u8], out: &mut [u8]) -> usize {
+    // SAFETY: each pointer comes from a slice that outlives the call, with the length of that slice, and `out` is
+    // lent to nothing else. The call has no `requires`.
+    unsafe { kiltgrit_run(strip.as_ptr(), strip.len(), out.as_mut_ptr(), out.len()) }
 }
 
 /// The number that the plain call answers, 0 for none; `value` is what it leaves there.

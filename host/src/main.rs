@@ -2,7 +2,7 @@
 //! stand in for libm. Prints a line for each comparison; the exit status is 0 only if nothing differs.
 //!
 //! usage: compare [--cases N] [--seed S]    N random inputs of exp and log each, beside the edges (default
-//!                                          1000000), N/4 calls of a model, N/10 of UNIFAC
+//!                                          1000000), N/4 calls of a model, N/10 of UNIFAC, N/150 strips
 //!        compare --store DIR               write the lists that the program `replay` reads
 //!        compare --histories PROGRAM [--calls N] [--seed S]
 //!                                          random histories of the mixture's calls, N in all (default 200000), run
@@ -26,6 +26,8 @@ mod random;
 mod rust;
 mod steps;
 mod stored;
+mod strip;
+mod strips;
 
 use random::Random;
 use std::path::Path;
@@ -72,6 +74,7 @@ fn compare_all(cases: usize, seed: u64) -> bool {
     same &= compare::compare("log", &inputs::log(random, cases), libm::log, exports::log);
     same &= models::compare_all(cases, random);
     same &= differences::compare_all();
+    same &= strips::compare_all(cases / 150, seed);
     same
 }
 

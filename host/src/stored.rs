@@ -9,6 +9,8 @@ use crate::compare::bits;
 use crate::inputs;
 use crate::random::Random;
 use crate::rust;
+use crate::strip;
+use crate::strips::Strips;
 use std::io;
 use std::path::Path;
 
@@ -98,6 +100,18 @@ fn of_model(model: u32, random: &mut Random) -> Vec<Vec<u64>> {
     lines
 }
 
+/// Strips with their texts: for each a line with the two lengths, then the bytes of both.
+fn of_strips(strips: &[Vec<u8>]) -> Vec<u8> {
+    let mut list = Vec::new();
+    for bytes in strips {
+        let text = strip::text(bytes);
+        list.extend(format!("{:016x} {:016x}\n", bytes.len(), text.len()).into_bytes());
+        list.extend(bytes);
+        list.extend(text.into_bytes());
+    }
+    list
+}
+
 /// Writes the lists to a folder.
 pub fn write_all(folder: &Path) -> io::Result<()> {
     std::fs::create_dir_all(folder)?;
@@ -112,5 +126,11 @@ pub fn write_all(folder: &Path) -> io::Result<()> {
             &of_model(model, random),
         )?;
     }
-    Ok(())
+    let strips = Strips::new(1).stored(240);
+    println!(
+        "{}: {} strips",
+        folder.join("strips.bin").display(),
+        strips.len()
+    );
+    std::fs::write(folder.join("strips.bin"), of_strips(&strips))
 }
