@@ -9,7 +9,7 @@ use native.Mathlib.Omega.{arith}
 use lib.Dec.{T}
 use lib.ListN.{length, getD, take, set, length-append, List·getD-append}
 use lib.Seq.{take-suc-set, getD-append-add}
-use lib.Ieee.{Float, nan, inf, fin, binary64, ofBits, isNan, nanBits}
+use lib.Ieee.{Float, nan, inf, fin, binary64, ofBits, isNan, nanBits, ne}
 use lib.Ieee.Bits.{nanBits-is, nanBits-above}
 use borrow.Author.Tests.{lt-ltb, le-ltb}
 use Rattle.arithmetic.specs.Bytes.{wordAt, floatAt, floatsAt}
@@ -21,6 +21,16 @@ unfolding isNan
 is-nan nan e = refl
 is-nan (inf s) e = let f : _≡_ {A = ℕ} 0 1 = cc in absurd (omega arith)
 is-nan (fin s m x) e = let f : _≡_ {A = ℕ} 0 1 = cc in absurd (omega arith)
+
+-- a float that equals itself
+pub no-nan : (v : Float) → ne v v ≡ false → isNan v ≡ false
+unfolding ne isNan
+no-nan nan e = e
+no-nan (inf s) e = refl
+no-nan (fin s m x) e = refl
+
+pub has-bits : (v : Float) → ne v v ≡ false → T (not (isNan v))
+has-bits v e = subst (λ (b : Bool). T (not b)) (sym (no-nan v e)) tt
 
 -- 9218868437227405312 is the pattern of infinity, and 9223372036854775808 that of the sign
 pub pattern-nan : (b : ℕ) → 9218868437227405312 < b % 9223372036854775808 → ofBits binary64 b ≡ nan

@@ -3,7 +3,7 @@ ghost use mathlib.Core.Path.{_≡_};
 ghost use Prim.Native.Nat.{_+_, _*_, _≤_, _<_};
 ghost use lib.ListN.{length, take};
 ghost use lib.Ieee.{binary64, ofBits};
-ghost use Rattle.arithmetic.specs.Bytes.{wordAt, floatAt, floatsAt};
+ghost use Rattle.arithmetic.specs.Bytes.{wordAt, floatAt, floatsAt, bitsOf};
 
 fn wide(x: u8) -> usize
     ensures { λ r. ⌜ (r ≡ x) × (r < 256) ⌝ }
@@ -27,6 +27,16 @@ pub fn float_of(b: u64) -> f64
         return 0.0 / 0.0;
     }
     f64::from_bits(b)
+}
+
+// The bits of a float, any NaN as one pattern.
+pub fn bits_of(v: f64) -> u64
+    ensures { λ r. ⌜ r ≡ bitsOf v ⌝ }
+{
+    if v != v {
+        return 0x7ff8_0000_0000_0000;
+    }
+    f64::to_bits(v)
 }
 
 // The float at a place.

@@ -1,13 +1,6 @@
 // A digest of 64 bits: each place changes it, by its bits and by where it stands.
+use arithmetic::bytes::bits_of;
 use mixture::Head;
-
-// The bits of a float, any NaN as one.
-pub fn bits(v: f64) -> u64 {
-    if v != v {
-        return 0x7ff8_0000_0000_0000;
-    }
-    f64::to_bits(v)
-}
 
 // One word more. Another word gives another digest, and so does another digest before.
 fn word(h: u64, w: u64) -> u64 {
@@ -30,7 +23,7 @@ fn flag(h: u64, b: bool) -> u64 {
 pub fn floats(h: u64, s: &[f64]) -> u64 {
     let mut r = h;
     for k in 0..s.len() {
-        r = word(r, bits(s[k]));
+        r = word(r, bits_of(s[k]));
     }
     r
 }
@@ -48,7 +41,7 @@ fn lists(h: u64, lens: [u8; 12], groups: [u8; 144]) -> u64 {
 }
 
 fn numbers(h: u64, t: f64, x: [f64; 12]) -> u64 {
-    floats(word(h, bits(t)), &x[..])
+    floats(word(h, bits_of(t)), &x[..])
 }
 
 // The head's fields in their order.

@@ -1,5 +1,5 @@
 // The lines that the program writes.
-use crate::digest;
+use arithmetic::bytes::bits_of;
 use libc::STDOUT_FILENO;
 use mixture::Answer;
 
@@ -12,7 +12,7 @@ fn write_value(v: f64) {
         write(b"nan");
         return;
     }
-    io::print_hex(STDOUT_FILENO, digest::bits(v), 16);
+    io::print_hex(STDOUT_FILENO, bits_of(v), 16);
 }
 
 fn write_answer(answer: Answer) {

@@ -4,6 +4,7 @@
 use crate::lists::Line;
 use crate::words;
 use crate::words::Word;
+use arithmetic::bytes::bits_of;
 use arithmetic::bytes::float_of;
 use models::Answer;
 use models::Quantity;
@@ -40,7 +41,7 @@ fn is_stored(a: Answer, number: u64, value: u64) -> bool {
             if number != 0 {
                 return false;
             }
-            words::has_bits(v, value)
+            bits_of(v) == value
         }
         Answer::Refused(k) => {
             if number != k as u64 {

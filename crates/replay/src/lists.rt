@@ -4,6 +4,7 @@ use crate::calls::Model;
 use crate::strips;
 use crate::words;
 use crate::words::Word;
+use arithmetic::bytes::bits_of;
 use arithmetic::bytes::float_of;
 
 const MOST_LINES: u64 = 1000000;
@@ -34,7 +35,7 @@ pub struct Tally {
 fn held(got: f64, stored: Word) -> Line {
     match stored {
         Word::Bits(b) => {
-            if words::has_bits(got, b) {
+            if bits_of(got) == b {
                 Line::Same
             } else {
                 Line::Differs

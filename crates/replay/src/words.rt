@@ -96,11 +96,3 @@ pub fn fill_bytes(fd: i32, a: &mut [u8], n: usize) -> bool
     }
     true
 }
-
-// Whether v has these bits, where any NaN is stored as 7ff8000000000000.
-pub fn has_bits(v: f64, b: u64) -> bool {
-    if v != v {
-        return b == 0x7ff8_0000_0000_0000;
-    }
-    f64::to_bits(v) == b
-}

@@ -18,6 +18,7 @@ use Rattle.arithmetic.proofs.Differences.{le-or}
 use Rattle.io.specs.Digits.{digits, Fewest}
 use Rattle.mixture.specs.declared.answers.Answer.{Answer}
 use Rattle.mixture.specs.declared.answers.Answer.the-variants.{Refused, Done, Value}
+use Rattle.arithmetic.proofs.ByteLaws.{no-nan}
 use Rattle.strip.specs.Text.{ascii, placesTo, decimal, valueText, line, Put}
 
 -- ---- one text after another
@@ -124,12 +125,6 @@ hex-places n k h w =
           let b : 16 ^ 16 ≤ 16 ^ (k - 1) = pow-le-pow-right {n = 16} (omega arith) {i = 16} {j = k - 1} (omega arith) in
           absurd (omega arith)
     ]
-
-pub no-nan : (v : Float) → ne v v ≡ false → isNan v ≡ false
-unfolding ne isNan
-no-nan nan e = e
-no-nan (inf s) e = refl
-no-nan (fin s m e) h = refl
 
 value-nan : (v : Float) → ne v v ≡ true → ascii "nan" ≡ valueText v
 unfolding valueText isNan

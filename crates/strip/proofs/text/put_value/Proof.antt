@@ -1,9 +1,7 @@
 -- `nan`, or the sixteen digits. Assumes nothing.
 use lib.Ieee.{toBits, binary64}
-use mathlib.Core.Path.{subst}
-use mathlib.Core.Bool.{Bool, not}
-use lib.Dec.{T}
-use Rattle.strip.proofs.TextLaws.{hex-fit, bits-lt, no-nan, put-bits, put-nan}
+use Rattle.strip.proofs.TextLaws.{hex-fit, bits-lt, put-bits, put-nan}
+use Rattle.arithmetic.proofs.ByteLaws.{has-bits}
 use mathlib.Core.Path.{_≡_, refl, sym, ap, _∙_}
 use Prim.Native.Nat.{ℕ, zero, suc, _+_, _*_, _-_, _<_, _≤_}
 use native.Mathlib.Omega.{arith}
@@ -25,7 +23,7 @@ returns : tie.Need-returns
 returns c = put-nan (c .before .before .before .before .before .before .before .args .v) (c .before .before .before .before .before .if1 .taken) (c .before .before .put .ensures)
 
 float-to-bits-hex : tie.Need-float-to-bits-hex
-float-to-bits-hex c = subst (λ (b : Bool). T (not b)) (sym (no-nan (c .before .before .args .v) (c .if1 .left))) tt
+float-to-bits-hex c = has-bits (c .before .before .args .v) (c .if1 .left)
 
 hex-requires : tie.Need-hex-requires
 hex-requires c κs = search needs
