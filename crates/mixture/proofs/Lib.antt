@@ -19,3 +19,4 @@ pub mod QueryLaws
 pub mod StaleLaws
 pub mod BlockLaws
 pub mod SetLaws
+pub mod ExportLaws

@@ -4,17 +4,18 @@ use mathlib.Core.List.{List}
 use mathlib.Core.Bool.{Bool, true, false}
 use mathlib.Core.Logic.{_⊎_, inl, inr}
 use Prim.Native.Nat.{ℕ, _+_, _*_, _<_, _≤_}
-use native.Mathlib.Nat.{le-antisymm}
+use native.Mathlib.Nat.{le-antisymm, ne-of-lt, ne-of-gt}
 use native.Mathlib.Omega.{arith}
 use lib.Dec.{eqb}
-use borrow.Author.Tests.{eqb-false}
-use lib.ListN.{length, getD, replicate, getD-replicate}
+use borrow.Author.Tests.{eq-eqb, ne-eqb, eqb-false}
+use lib.ListN.{length, getD, set, replicate, getD-replicate}
+use lib.Seq.{getD-set-same, getD-set-other}
 use lib.Ieee.{Float, nan, binary64, ofBits}
-use Rattle.arithmetic.specs.Floats.{_⊕_, _⊗_}
+use Rattle.arithmetic.specs.Floats.{_⊕_, _⊗_, one}
 use Rattle.arithmetic.specs.Sums.{sum}
 use Rattle.arithmetic.specs.Tables.{at, grid, from, Filled, upTo}
 use Rattle.arithmetic.proofs.SumLaws.{sum-none, sum-more, sum-same}
-use Rattle.arithmetic.proofs.TableLaws.{upto-below, from-at}
+use Rattle.arithmetic.proofs.TableLaws.{upto-below, from-at, by-place}
 use Rattle.arithmetic.proofs.Differences.{either}
 use Rattle.models.specs.Columns.{unitAt, unitDiagonal, columnSum}
 
@@ -32,6 +33,43 @@ module _ (F : ℕ → ℕ → Float) where
 
   pub columns-done : (i n : ℕ) {s : List Float} → i ≤ n → n ≤ i → Filled (λ j. sum i (λ k. F k j)) n s → Filled (λ j. sum n (λ k. F k j)) n s
   columns-done i n a b all = rw (le-antisymm a b) at all
+
+-- ---- terms kept side by side, that of the diagonal put right, then folded
+
+-- the sum of an array's first n places
+pub filled-sum : (n : ℕ) (F : ℕ → Float) (g : List Float) → Filled F n g → sum n (at g) ≡ sum n F
+filled-sum n F g all = sum-same n _ _ (all .each)
+
+-- a store at i, where F and G may differ
+pub filled-put : {F G : ℕ → Float} {g : List Float} (n i : ℕ) {v : Float} → i < length g → ((k : ℕ) → k < n → (i ≡ k → ⊥) → F k ≡ G k) → v ≡ G i → Filled F n g → Filled G n (set g i v)
+filled-put {F} {G} {g} n i {v} h e w all = record {
+  each = λ k b.
+      by-place k i
+      (λ c. getD-set-other g i k v nan (ne-of-lt c) ∙ all .each k b ∙ e k b (λ q. absurd (omega arith)))
+      (λ q. rw (← q) (getD-set-same g i v nan h ∙ w))
+      (λ d. getD-set-other g i k v nan (ne-of-gt d) ∙ all .each k b ∙ e k b (λ q. absurd (omega arith)));
+}
+
+pub unit-on : (i : ℕ) (row : ℕ → Float) → unitAt i row i ≡ one
+unfolding unitAt
+unit-on i row = rw (eq-eqb i i refl)
+
+pub unit-off : (i k : ℕ) (row : ℕ → Float) → (i ≡ k → ⊥) → unitAt i row k ≡ row k
+unfolding unitAt
+unit-off i k row h = rw (ne-eqb i k h)
+
+-- two ways to rewrite a place that agree there
+upto-either : (n k : ℕ) (old new other : ℕ → Float) → new k ≡ other k → upTo n new old k ≡ upTo n other old k
+unfolding upTo
+upto-either n k old new other e = rw e
+
+-- a whole row added, then place i put right, where the row counts as 1
+pub unit-added : (n i : ℕ) (w : Float) (row : ℕ → Float) (s s′ : List Float) {v : Float} → i < n → n ≤ length s → v ≡ at s i ⊕ w ⊗ one →
+    Filled (upTo n (λ j. at s j ⊕ w ⊗ row j) (at s)) (length s) s′ → length s′ ≡ length s → Filled (upTo n (λ j. at s j ⊕ w ⊗ unitAt i row j) (at s)) (length s) (set s′ i v)
+unit-added n i w row s s′ {v} b h own all same =
+    filled-put (length s) i (omega arith)
+    (λ k c d. upto-either n k (at s) (λ j. at s j ⊕ w ⊗ row j) (λ j. at s j ⊕ w ⊗ unitAt i row j) (ap (λ (z : Float). at s k ⊕ w ⊗ z) (sym (unit-off i k row d))))
+    (own ∙ ap (λ (z : Float). at s i ⊕ w ⊗ z) (sym (unit-on i row)) ∙ sym (upto-below n (λ j. at s j ⊕ w ⊗ unitAt i row j) (at s) i b)) all
 
 -- the row lent as a part gives the table's entry
 pub unit-row : (n : ℕ) (l : List Float) (i j : ℕ) → i * n + n ≤ length l → j < n → unitAt i (at (from (i * n) l)) j ≡ unitDiagonal (grid n l) i j

@@ -6,6 +6,7 @@ ghost use Prim.Native.Nat.{_+_, _*_, _≤_, _<_};
 ghost use lib.Dec.{eqb};
 ghost use lib.ListN.{length};
 ghost use Rattle.arithmetic.specs.Floats.{_⊕_, _⊗_, one};
+ghost use Rattle.arithmetic.specs.Sums.{sum};
 ghost use Rattle.arithmetic.specs.Tables.{at, grid, Filled, upTo};
 ghost use Rattle.models.specs.Columns.{unitDiagonal, columnSum, unitAt};
 
@@ -20,14 +21,36 @@ pub fn unit_at(row: &[f64], i: usize, k: usize) -> f64
     row[k]
 }
 
-// Adds w·row[j] to sums[j] for each j below n; the row's entry i counts as 1.
-fn add_unit_row(sums: &mut [f64], w: f64, row: &[f64], n: usize, i: usize)
-    requires { ⌜ (n ≤ length (now sums)) × (n ≤ length (now row)) ⌝ }
-    ensures { λ _. ⌜ Filled (upTo n (λ j. at (now (sums .entry)) j ⊕ w ⊗ unitAt i (at (now (row .entry))) j) (at (now (sums .entry)))) (length (now (sums .entry))) (now (sums .exit)) ⌝ }
+// The sum of the first n terms.
+pub fn sum_to(terms: &[f64], n: usize) -> f64
+    requires { ⌜ n ≤ length (now terms) ⌝ }
+    ensures { λ r. ⌜ r ≡ sum n (at (now (terms .entry))) ⌝ }
+{
+    let mut s = 0.0;
+    for k in 0..n {
+        s = s + terms[k];
+    }
+    s
+}
+
+// Adds w·row[j] to sums[j] for each j below n.
+pub fn add_row(row: &[f64], w: f64, n: usize, sums: &mut [f64])
+    requires { ⌜ (n ≤ length (now row)) × (n ≤ length (now sums)) ⌝ }
+    ensures { λ _. ⌜ Filled (upTo n (λ j. at (now (sums .entry)) j ⊕ w ⊗ at (now (row .entry)) j) (at (now (sums .entry)))) (length (now (sums .entry))) (now (sums .exit)) ⌝ }
 {
     for j in 0..n {
-        sums[j] = sums[j] + w * unit_at(row, i, j);
+        sums[j] = sums[j] + w * row[j];
     }
+}
+
+// The same where the row's entry i counts as 1. The row runs without a test for it, then place i is put right.
+fn add_unit_row(sums: &mut [f64], w: f64, row: &[f64], n: usize, i: usize)
+    requires { ⌜ (n ≤ length (now sums)) × (n ≤ length (now row)) × (i < n) ⌝ }
+    ensures { λ _. ⌜ Filled (upTo n (λ j. at (now (sums .entry)) j ⊕ w ⊗ unitAt i (at (now (row .entry))) j) (at (now (sums .entry)))) (length (now (sums .entry))) (now (sums .exit)) ⌝ }
+{
+    let own = sums[i] + w * 1.0;
+    add_row(row, w, n, sums);
+    sums[i] = own;
 }
 
 // The column sums of w over a table by rows of n with 1 on its diagonal, whose places aren't read.

@@ -16,6 +16,7 @@ ghost use Rattle.models.specs.UnifacSteps.{psiBy, lnFrom, Shares};
 ghost use Rattle.models.specs.Values.{lists, countsAt, groupRs, groupQs, groupAs};
 use crate::answers::Answer;
 use crate::answers::Quantity;
+use crate::columns;
 
 // Ψ of column k: row is the part of the td entries, five each, that starts at its row; ln is log(T).
 pub fn psi(row: &[f64], t: f64, ln: f64, k: usize) -> f64
@@ -63,16 +64,6 @@ fn theta(q: &[f64], xg: &[f64], ng: usize) -> [f64; 32]
     theta
 }
 
-// Adds w·row to the sums, place by place.
-fn add_row(row: &[f64], w: f64, ng: usize, sums: &mut [f64])
-    requires { ⌜ (ng ≤ length (now row)) × (ng ≤ length (now sums)) ⌝ }
-    ensures { λ _. ⌜ Filled (upTo ng (λ j. at (now (sums .entry)) j ⊕ w ⊗ at (now (row .entry)) j) (at (now (sums .entry)))) (length (now (sums .entry))) (now (sums .exit)) ⌝ }
-{
-    for j in 0..ng {
-        sums[j] = sums[j] + w * row[j];
-    }
-}
-
 // The sum of Θ_m Ψ_mk for each k, row after row.
 fn column_sums(theta: &[f64], psi: &[f64], ng: usize) -> [f64; 32]
     requires { ⌜ (ng ≤ 32) × (ng ≤ length (now theta)) × (ng * ng ≤ length (now psi)) ⌝ }
@@ -81,21 +72,21 @@ fn column_sums(theta: &[f64], psi: &[f64], ng: usize) -> [f64; 32]
     let mut sums = [0.0; 32];
     for m in 0..ng {
         let place = m * ng;
-        add_row(&psi[place..], theta[m], ng, &mut sums[..]);
+        columns::add_row(&psi[place..], theta[m], ng, &mut sums[..]);
     }
     sums
 }
 
-// The sum of Θ_m row_m / denom_m.
+// The sum of Θ_m row_m / denom_m: the quotients first, which don't wait for each other, then their fold.
 fn row_sum(theta: &[f64], row: &[f64], denom: &[f64], ng: usize) -> f64
-    requires { ⌜ (ng ≤ length (now theta)) × (ng ≤ length (now row)) × (ng ≤ length (now denom)) ⌝ }
+    requires { ⌜ (ng ≤ length (now theta)) × (ng ≤ length (now row)) × (ng ≤ length (now denom)) × (ng ≤ 32) ⌝ }
     ensures { λ r. ⌜ r ≡ sum ng (λ m. at (now (theta .entry)) m ⊗ at (now (row .entry)) m ⊘ at (now (denom .entry)) m) ⌝ }
 {
-    let mut s = 0.0;
+    let mut terms = [0.0; 32];
     for m in 0..ng {
-        s = s + theta[m] * row[m] / denom[m];
+        terms[m] = theta[m] * row[m] / denom[m];
     }
-    s
+    columns::sum_to(&terms[..], ng)
 }
 
 // ln Γ of each group; the column sums that every one divides by are worked out once.

@@ -68,15 +68,18 @@ fn combinatorial(r: f64, q: f64, segment: f64, area: f64, lx: f64) -> f64
     arithmetic::log(segment) + 0.5 * Z * q * arithmetic::log(area) + l(r, q) - segment * lx
 }
 
-// The residual part of ln γ_i, from q_i, the part of the table that starts at row i, θ and the column sums.
+// The residual part of ln γ_i, from q_i, the part of the table that starts at row i, θ and the column sums. The quotients run
+// without a test for the diagonal, then its own is put right.
 fn residual(n: usize, q: f64, row: &[f64], theta: &[f64], sums: &[f64], i: usize) -> f64
-    requires { ⌜ (n ≤ length (now row)) × (n ≤ length (now theta)) × (n ≤ length (now sums)) × (i < n) ⌝ }
+    requires { ⌜ (n ≤ length (now row)) × (n ≤ length (now theta)) × (n ≤ length (now sums)) × (i < n) × (n ≤ 12) ⌝ }
     ensures { λ v. ⌜ v ≡ q ⊗ (one ⊖ logOf (at (now (sums .entry)) i) ⊖ sum n (λ j. at (now (theta .entry)) j ⊗ unitAt i (at (now (row .entry))) j ⊘ at (now (sums .entry)) j)) ⌝ }
 {
-    let mut s = 0.0;
+    let mut terms = [0.0; 12];
     for j in 0..n {
-        s = s + theta[j] * crate::columns::unit_at(row, i, j) / sums[j];
+        terms[j] = theta[j] * row[j] / sums[j];
     }
+    terms[i] = theta[i] * 1.0 / sums[i];
+    let s = crate::columns::sum_to(&terms[..], n);
     q * (1.0 - arithmetic::log(sums[i]) - s)
 }
 
@@ -93,7 +96,7 @@ fn ln_gamma(
     sums: &[f64],
     i: usize,
 ) -> f64
-    requires { ⌜ (n ≤ length (now r)) × (n ≤ length (now q)) × (n * n ≤ length (now e)) × (n ≤ length (now x)) × (n ≤ length (now theta)) × (n ≤ length (now sums)) × (i < n) × UniquacShared n (at (now r)) (at (now q)) (grid n (now e)) (at (now x)) rx lx (now theta) (now sums) ⌝ }
+    requires { ⌜ (n ≤ length (now r)) × (n ≤ length (now q)) × (n * n ≤ length (now e)) × (n ≤ length (now x)) × (n ≤ length (now theta)) × (n ≤ length (now sums)) × (i < n) × UniquacShared n (at (now r)) (at (now q)) (grid n (now e)) (at (now x)) rx lx (now theta) (now sums) × (n ≤ 12) ⌝ }
     ensures { λ v. ⌜ v ≡ lnGamma n (at (now (r .entry))) (at (now (q .entry))) (grid n (now (e .entry))) (at (now (x .entry))) i ⌝ }
 {
     let phi = x[i] * r[i] / rx;
@@ -114,7 +117,7 @@ fn excess_gibbs(
     theta: &[f64],
     sums: &[f64],
 ) -> f64
-    requires { ⌜ (n ≤ length (now r)) × (n ≤ length (now q)) × (n * n ≤ length (now e)) × (n ≤ length (now x)) × (n ≤ length (now theta)) × (n ≤ length (now sums)) × UniquacShared n (at (now r)) (at (now q)) (grid n (now e)) (at (now x)) rx lx (now theta) (now sums) ⌝ }
+    requires { ⌜ (n ≤ length (now r)) × (n ≤ length (now q)) × (n * n ≤ length (now e)) × (n ≤ length (now x)) × (n ≤ length (now theta)) × (n ≤ length (now sums)) × UniquacShared n (at (now r)) (at (now q)) (grid n (now e)) (at (now x)) rx lx (now theta) (now sums) × (n ≤ 12) ⌝ }
     ensures { λ v. ⌜ v ≡ excess n (at (now (r .entry))) (at (now (q .entry))) (grid n (now (e .entry))) (at (now (x .entry))) ⌝ }
 {
     let mut s = 0.0;

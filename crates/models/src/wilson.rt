@@ -35,16 +35,19 @@ fn lambda(v: &[f64], row: &[f64], i: usize, j: usize) -> f64
     v[j] / v[i] * row[j]
 }
 
-// Σ_j x_j Λ_ij, from the part of the table that starts at row i.
+// Σ_j x_j Λ_ij, from the part of the table that starts at row i. The terms run without a test for the diagonal, then its own
+// is put right.
 fn row_sum(n: usize, v: &[f64], row: &[f64], x: &[f64], i: usize) -> f64
-    requires { ⌜ (n ≤ length (now v)) × (n ≤ length (now row)) × (n ≤ length (now x)) × (i < n) ⌝ }
+    requires { ⌜ (n ≤ length (now v)) × (n ≤ length (now row)) × (n ≤ length (now x)) × (i < n) × (n ≤ 12) ⌝ }
     ensures { λ r. ⌜ r ≡ rowSum n (at (now (v .entry))) (λ _. at (now (row .entry))) (at (now (x .entry))) i ⌝ }
 {
-    let mut s = 0.0;
+    let mut terms = [0.0; 12];
+    let own = v[i];
     for j in 0..n {
-        s = s + x[j] * lambda(v, row, i, j);
+        terms[j] = x[j] * (v[j] / own * row[j]);
     }
-    s
+    terms[i] = x[i] * 1.0;
+    crate::columns::sum_to(&terms[..], n)
 }
 
 // What all components share: the sum of each row.

@@ -66,7 +66,7 @@ add-unit-row-requires : tie.Need-add-unit-row-requires Inv-loop μ-loop
 add-unit-row-requires c κs =
     let turn = c .before .before .before in
     let start = turn .before .before .before .before in
-    (omega arith, omega (arith, from-length (turn .before .loop .i * start .args .n) (now (start .args .table)), ends turn))
+    (omega arith, omega (arith, from-length (turn .before .loop .i * start .args .n) (now (start .args .table)), ends turn), turn .loop-test .taken)
 
 add-i : tie.Need-add-i Inv-loop μ-loop
 add-i c = omega arith

@@ -58,7 +58,7 @@ row-sum-requires : tie.Need-row-sum-requires Inv-loop μ-loop
 row-sum-requires c κs =
     let turn = c .before .before in
     let start = entry turn in
-    (omega (arith, start .pre .2), omega (arith, from-length (turn .before .loop .k * start .args .ng) (now (start .args .psi)), ends turn), omega (arith, start .pre .0, turn .before .before .column-sums .ok))
+    (omega (arith, start .pre .2), omega (arith, from-length (turn .before .loop .k * start .args .ng) (now (start .args .psi)), ends turn), omega (arith, start .pre .0, turn .before .before .column-sums .ok), start .pre .0)
 
 mul-gamma : tie.Need-mul-gamma Inv-loop μ-loop
 mul-gamma c = omega arith

@@ -29,7 +29,7 @@ shared-slice-read-s c = omega arith
 ln-gamma-requires : tie.Need-ln-gamma-requires Inv-loop μ-loop
 ln-gamma-requires c κs =
     let start = c .before .before .before .before .before .before .before .before .before in
-    (start .pre .0, start .pre .1, start .pre .2, start .pre .3, start .pre .4, start .pre .5, c .before .loop-test .taken, start .pre .6)
+    (start .pre .0, start .pre .1, start .pre .2, start .pre .3, start .pre .4, start .pre .5, c .before .loop-test .taken, start .pre .6, start .pre .7)
 
 add-i : tie.Need-add-i Inv-loop μ-loop
 add-i c = omega arith

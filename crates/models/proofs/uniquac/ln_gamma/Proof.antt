@@ -79,7 +79,7 @@ residual-requires : tie.Need-residual-requires
 residual-requires c κs =
     let start = c .before .before .before .before .before .before .before .before .before .before .before .before .before .before .before in
     let row = from-length (start .args .i * start .args .n) (now (start .args .e)) in
-    (omega (arith, row, ends start), start .pre .4, start .pre .5, start .pre .6)
+    (omega (arith, row, ends start), start .pre .4, start .pre .5, start .pre .6, start .pre .8)
 
 returns : tie.Need-returns
 returns c =

@@ -1,40 +1,54 @@
--- The loop keeps the sum of the terms passed; at its end these are all. Assumes nothing.
-use mathlib.Core.Path.{_≡_}
-use Prim.Native.Nat.{_-_, _≤_}
+use mathlib.Core.Path.{_≡_, refl, sym, ap, _∙_}
+use Prim.Native.Nat.{ℕ, zero, suc, _+_, _*_, _-_, _<_, _≤_}
 use native.Mathlib.Omega.{arith}
-use lib.Ieee.{round, ofBits}
 use borrow.Author.Needs.{needs}
+use lib.ListN.{length, getD}
+use lib.ListN.{length-set}
+use Rattle.arithmetic.specs.Tables.{at, Filled}
+use Rattle.arithmetic.proofs.TableLaws.{filled-none, filled-more, filled-less}
+use denote.Ref.{now}
+use lib.Ieee.{Float, round, ofBits}
 use Rattle.arithmetic.specs.Floats.{_⊗_, _⊘_, dec, one}
-use Rattle.arithmetic.specs.Sums.{sum}
-use Rattle.arithmetic.specs.Tables.{at}
-use Rattle.arithmetic.proofs.SumLaws.{sum-none, sum-more, sum-done}
-use Rattle.models.specs.Columns.{unitAt}
+use Rattle.models.proofs.ColumnLaws.{filled-sum, filled-put, unit-on, unit-off}
 use Rattle.models.proofs.uniquac.residual.Statement.{statement}
 use Rattle.models.proofs.uniquac.residual.Tie as tie
+use Rattle.models.proofs.uniquac.residual.Reads as reads
+use Rattle.models.proofs.uniquac.residual.Lts as lts
+use Rattle.arithmetic.proofs.log.Reads as log-reads
+use Rattle.models.proofs.columns.sum_to.Reads as sum-to-reads
 
 abbrev Inv-loop : tie.InvT-loop
-Inv-loop n q row theta sums i s₀ j₀ s j = (j ≤ n) × (s ≡ sum j (λ k. at theta k ⊗ unitAt i (at row) k ⊘ at sums k))
+Inv-loop n q row theta sums i terms₀ j₀ terms j = (j ≤ n) × (length terms ≡ 12) × Filled (λ j. at theta j ⊗ at row j ⊘ at sums j) j terms
 
 abbrev μ-loop : tie.MeasureT-loop
-μ-loop n q row theta sums i s₀ j₀ s j = n - j
+μ-loop n q row theta sums i terms₀ j₀ terms j = n - j
 
 loop-holds : tie.Need-loop-holds Inv-loop μ-loop
-loop-holds c = (omega arith, sum-none _)
+loop-holds c = (omega arith, refl, filled-none (omega arith))
 
-mul-s : tie.Need-mul-s Inv-loop μ-loop
-mul-s c = omega arith
+mul-terms : tie.Need-mul-terms Inv-loop μ-loop
+mul-terms c = omega arith
 
-shared-slice-read-s : tie.Need-shared-slice-read-s Inv-loop μ-loop
-shared-slice-read-s c = omega arith
+shared-slice-read-terms : tie.Need-shared-slice-read-terms Inv-loop μ-loop
+shared-slice-read-terms c = omega arith
 
-unit-at-requires : tie.Need-unit-at-requires Inv-loop μ-loop
-unit-at-requires c κs = search needs
+mul-terms-2 : tie.Need-mul-terms-2 Inv-loop μ-loop
+mul-terms-2 c = omega arith
 
-mul-s-2 : tie.Need-mul-s-2 Inv-loop μ-loop
-mul-s-2 c = omega arith
+shared-slice-read-terms-2 : tie.Need-shared-slice-read-terms-2 Inv-loop μ-loop
+shared-slice-read-terms-2 c = omega arith
 
-shared-slice-read-s-2 : tie.Need-shared-slice-read-s-2 Inv-loop μ-loop
-shared-slice-read-s-2 c = omega arith
+mul-terms-3 : tie.Need-mul-terms-3 Inv-loop μ-loop
+mul-terms-3 c = omega arith
+
+shared-slice-read-terms-3 : tie.Need-shared-slice-read-terms-3 Inv-loop μ-loop
+shared-slice-read-terms-3 c = omega arith
+
+mul-terms-4 : tie.Need-mul-terms-4 Inv-loop μ-loop
+mul-terms-4 c = omega arith
+
+array-write-terms : tie.Need-array-write-terms Inv-loop μ-loop
+array-write-terms c = omega arith
 
 add-j : tie.Need-add-j Inv-loop μ-loop
 add-j c = omega arith
@@ -43,7 +57,33 @@ loop-less : tie.Need-loop-less Inv-loop μ-loop
 loop-less c = omega arith
 
 loop-again : tie.Need-loop-again Inv-loop μ-loop
-loop-again c = (omega arith, sum-more _ _ (c .before .before .before .before .loop .inv .1) (rw (c .before .unit-at .ensures)))
+loop-again c =
+    let top = c .before .before .before .before in
+    (omega arith, simp length-set (top .loop .inv .1), filled-more (omega arith) (omega arith) (top .loop .inv .2) refl)
+
+mul-terms-5 : tie.Need-mul-terms-5 Inv-loop μ-loop
+mul-terms-5 c = omega arith
+
+shared-slice-read-terms-4 : tie.Need-shared-slice-read-terms-4 Inv-loop μ-loop
+shared-slice-read-terms-4 c = omega arith
+
+mul-terms-6 : tie.Need-mul-terms-6 Inv-loop μ-loop
+mul-terms-6 c = omega arith
+
+shared-slice-read-terms-5 : tie.Need-shared-slice-read-terms-5 Inv-loop μ-loop
+shared-slice-read-terms-5 c = omega arith
+
+mul-terms-7 : tie.Need-mul-terms-7 Inv-loop μ-loop
+mul-terms-7 c = omega arith
+
+array-write-terms-2 : tie.Need-array-write-terms-2 Inv-loop μ-loop
+array-write-terms-2 c = omega (arith, c .before .before .before .loop .inv .1, c .before .before .before .before .before .before .before .pre .4, c .before .before .before .before .before .before .before .pre .3)
+
+slice-aggregate-sum-to : tie.Need-slice-aggregate-sum-to Inv-loop μ-loop
+slice-aggregate-sum-to c = search needs
+
+sum-to-requires : tie.Need-sum-to-requires Inv-loop μ-loop
+sum-to-requires c κs = simp length-set (omega (arith, c .before .before .before .before .loop .inv .1, c .before .before .before .before .before .before .before .before .pre .4))
 
 mul-log : tie.Need-mul-log Inv-loop μ-loop
 mul-log c = omega arith
@@ -52,13 +92,16 @@ shared-slice-read-log : tie.Need-shared-slice-read-log Inv-loop μ-loop
 shared-slice-read-log c = omega arith
 
 log-requires : tie.Need-log-requires Inv-loop μ-loop
-log-requires c κs = tt
+log-requires c κs = search needs
 
 returns : tie.Need-returns Inv-loop μ-loop
 unfolding one dec round ofBits
 returns c =
-    let after = c .before .before in
-    rw (c .log .ensures, sum-done _ _ _ (after .before .loop .inv .1) (after .before .loop .inv .0) (after .loop-test .left))
+    let top = c .before .before .before .before .before .before .before in
+    let a = c .before .before .before .before .before .before .before .before .before .before .before .args in
+    let all = filled-less (c .before .before .before .before .before .before .loop-test .left) (top .loop .inv .2) in
+    let put = filled-put (a .n) (a .i) (omega (arith, top .loop .inv .1, c .before .before .before .before .before .before .before .before .before .before .before .pre .3, c .before .before .before .before .before .before .before .before .before .before .before .pre .4)) (λ k b ne. ap (λ (z : Float). at (now (a .theta)) k ⊗ z ⊘ at (now (a .sums)) k) (sym (unit-off (a .i) k (at (now (a .row))) ne))) (ap (λ (z : Float). at (now (a .theta)) (a .i) ⊗ z ⊘ at (now (a .sums)) (a .i)) (sym (unit-on (a .i) (at (now (a .row)))))) all in
+    rw (c .log .ensures, c .before .before .sum-to .ensures ∙ filled-sum _ _ _ put)
 
 pub residual-spec : {M : Type 1} → statement M
 residual-spec =
@@ -67,14 +110,25 @@ residual-spec =
     Inv-loop
     μ-loop
     loop-holds
-    mul-s
-    shared-slice-read-s
-    unit-at-requires
-    mul-s-2
-    shared-slice-read-s-2
+    mul-terms
+    shared-slice-read-terms
+    mul-terms-2
+    shared-slice-read-terms-2
+    mul-terms-3
+    shared-slice-read-terms-3
+    mul-terms-4
+    array-write-terms
     add-j
     loop-less
     loop-again
+    mul-terms-5
+    shared-slice-read-terms-4
+    mul-terms-6
+    shared-slice-read-terms-5
+    mul-terms-7
+    array-write-terms-2
+    slice-aggregate-sum-to
+    sum-to-requires
     mul-log
     shared-slice-read-log
     log-requires

@@ -46,7 +46,7 @@ ln-gamma-requires : tie.Need-ln-gamma-requires
 ln-gamma-requires c κs =
     let all = c .before .before .before .before .before in
     let start = all .before .before .before .before .before .before .before .before .before in
-    (start .pre .1, start .pre .2, start .pre .3, start .pre .4, omega (arith, all .before .before .shares .ok), omega (arith, all .unit-column-sums .ok), index-ln (c .before .before .before .k .given .1) (start .pre .5), shared all)
+    (start .pre .1, start .pre .2, start .pre .3, start .pre .4, omega (arith, all .before .before .shares .ok), omega (arith, all .unit-column-sums .ok), index-ln (c .before .before .before .k .given .1) (start .pre .5), shared all, start .pre .0)
 
 enum-known-k-2 : tie.Need-enum-known-k-2
 enum-known-k-2 c = search needs
@@ -61,7 +61,7 @@ ln-gamma-requires-2 : tie.Need-ln-gamma-requires-2
 ln-gamma-requires-2 c κs =
     let all = c .before .before .before .before .before in
     let start = all .before .before .before .before .before .before .before .before .before in
-    (start .pre .1, start .pre .2, start .pre .3, start .pre .4, omega (arith, all .before .before .shares .ok), omega (arith, all .unit-column-sums .ok), index-gamma (c .before .before .before .k2 .given .1) (start .pre .5), shared all)
+    (start .pre .1, start .pre .2, start .pre .3, start .pre .4, omega (arith, all .before .before .shares .ok), omega (arith, all .unit-column-sums .ok), index-gamma (c .before .before .before .k2 .given .1) (start .pre .5), shared all, start .pre .0)
 
 exp-requires : tie.Need-exp-requires
 exp-requires c κs = tt
@@ -79,7 +79,7 @@ excess-gibbs-requires : tie.Need-excess-gibbs-requires
 excess-gibbs-requires c κs =
     let all = c .before .before .before .before in
     let start = all .before .before .before .before .before .before .before .before .before in
-    (start .pre .1, start .pre .2, start .pre .3, start .pre .4, omega (arith, all .before .before .shares .ok), omega (arith, all .unit-column-sums .ok), shared all)
+    (start .pre .1, start .pre .2, start .pre .3, start .pre .4, omega (arith, all .before .before .shares .ok), omega (arith, all .unit-column-sums .ok), shared all, start .pre .0)
 
 returns : tie.Need-returns
 unfolding uniquac

@@ -1,33 +1,61 @@
--- The loop keeps the sum of the terms passed; at its end these are all. Assumes nothing.
-use mathlib.Core.Path.{_≡_}
-use Prim.Native.Nat.{_-_, _≤_}
+use mathlib.Core.Path.{_≡_, refl, sym, ap, _∙_}
+use Prim.Native.Nat.{ℕ, zero, suc, _+_, _*_, _-_, _<_, _≤_}
 use native.Mathlib.Omega.{arith}
 use borrow.Author.Needs.{needs}
-use Rattle.arithmetic.specs.Floats.{_⊗_}
-use Rattle.arithmetic.specs.Sums.{sum}
-use Rattle.arithmetic.specs.Tables.{at}
-use Rattle.arithmetic.proofs.SumLaws.{sum-none, sum-more, sum-done}
-use Rattle.models.specs.Wilson.{lambda, rowSum}
+use lib.ListN.{length, getD}
+use lib.ListN.{length-set}
+use Rattle.arithmetic.specs.Tables.{at, Filled}
+use Rattle.arithmetic.proofs.TableLaws.{filled-none, filled-more, filled-less}
+use denote.Ref.{now}
+use lib.Ieee.{Float, round, ofBits}
+use Rattle.arithmetic.specs.Floats.{_⊗_, _⊘_, dec, one}
+use Rattle.models.specs.Wilson.{rowSum}
+use Rattle.models.proofs.ColumnLaws.{filled-sum, filled-put}
+use Rattle.models.proofs.WilsonLaws.{lambda-on, lambda-off}
 use Rattle.models.proofs.wilson.row_sum.Statement.{statement}
 use Rattle.models.proofs.wilson.row_sum.Tie as tie
+use Rattle.models.proofs.wilson.row_sum.Reads as reads
+use Rattle.models.proofs.wilson.row_sum.Lts as lts
+use Rattle.models.proofs.columns.sum_to.Reads as sum-to-reads
 
 abbrev Inv-loop : tie.InvT-loop
-Inv-loop n v row x i s₀ j₀ s j = (j ≤ n) × (s ≡ sum j (λ k. at x k ⊗ lambda (at v) (λ _. at row) i k))
+Inv-loop n v row x i terms₀ own j₀ terms j = (j ≤ n) × (length terms ≡ 12) × Filled (λ j. at x j ⊗ (at v j ⊘ own ⊗ at row j)) j terms
 
 abbrev μ-loop : tie.MeasureT-loop
-μ-loop n v row x i s₀ j₀ s j = n - j
+μ-loop n v row x i terms₀ own j₀ terms j = n - j
+
+mul-own : tie.Need-mul-own Inv-loop μ-loop
+mul-own c = omega arith
+
+shared-slice-read-own : tie.Need-shared-slice-read-own Inv-loop μ-loop
+shared-slice-read-own c = omega arith
 
 loop-holds : tie.Need-loop-holds Inv-loop μ-loop
-loop-holds c = (omega arith, sum-none _)
+loop-holds c = (omega arith, refl, filled-none (omega arith))
 
-mul-s : tie.Need-mul-s Inv-loop μ-loop
-mul-s c = omega arith
+mul-terms : tie.Need-mul-terms Inv-loop μ-loop
+mul-terms c = omega arith
 
-shared-slice-read-s : tie.Need-shared-slice-read-s Inv-loop μ-loop
-shared-slice-read-s c = omega arith
+shared-slice-read-terms : tie.Need-shared-slice-read-terms Inv-loop μ-loop
+shared-slice-read-terms c = omega arith
 
-lambda-requires : tie.Need-lambda-requires Inv-loop μ-loop
-lambda-requires c κs = search needs
+mul-terms-2 : tie.Need-mul-terms-2 Inv-loop μ-loop
+mul-terms-2 c = omega arith
+
+shared-slice-read-terms-2 : tie.Need-shared-slice-read-terms-2 Inv-loop μ-loop
+shared-slice-read-terms-2 c = omega arith
+
+mul-terms-3 : tie.Need-mul-terms-3 Inv-loop μ-loop
+mul-terms-3 c = omega arith
+
+shared-slice-read-terms-3 : tie.Need-shared-slice-read-terms-3 Inv-loop μ-loop
+shared-slice-read-terms-3 c = omega arith
+
+mul-terms-4 : tie.Need-mul-terms-4 Inv-loop μ-loop
+mul-terms-4 c = omega arith
+
+array-write-terms : tie.Need-array-write-terms Inv-loop μ-loop
+array-write-terms c = omega arith
 
 add-j : tie.Need-add-j Inv-loop μ-loop
 add-j c = omega arith
@@ -36,11 +64,36 @@ loop-less : tie.Need-loop-less Inv-loop μ-loop
 loop-less c = omega arith
 
 loop-again : tie.Need-loop-again Inv-loop μ-loop
-loop-again c = (omega arith, sum-more _ _ (c .before .before .before .loop .inv .1) (rw (c .lambda .ensures)))
+loop-again c =
+    let top = c .before .before .before .before in
+    (omega arith, simp length-set (top .loop .inv .1), filled-more (omega arith) (omega arith) (top .loop .inv .2) refl)
+
+mul-terms-5 : tie.Need-mul-terms-5 Inv-loop μ-loop
+mul-terms-5 c = omega arith
+
+shared-slice-read-terms-4 : tie.Need-shared-slice-read-terms-4 Inv-loop μ-loop
+shared-slice-read-terms-4 c = omega arith
+
+mul-terms-6 : tie.Need-mul-terms-6 Inv-loop μ-loop
+mul-terms-6 c = omega arith
+
+array-write-terms-2 : tie.Need-array-write-terms-2 Inv-loop μ-loop
+array-write-terms-2 c = omega (arith, c .before .before .loop .inv .1, c .before .before .before .before .before .before .before .pre .4, c .before .before .before .before .before .before .before .pre .3)
+
+slice-aggregate-sum-to : tie.Need-slice-aggregate-sum-to Inv-loop μ-loop
+slice-aggregate-sum-to c = search needs
+
+sum-to-requires : tie.Need-sum-to-requires Inv-loop μ-loop
+sum-to-requires c κs = simp length-set (omega (arith, c .before .before .before .loop .inv .1, c .before .before .before .before .before .before .before .before .pre .4))
 
 returns : tie.Need-returns Inv-loop μ-loop
-unfolding rowSum
-returns c = search (sum-done, needs)
+unfolding rowSum one dec round ofBits
+returns c =
+    let top = c .before .before .before .before in
+    let s = c .before .before .before .before .before .before .before .before .before in
+    let a = s .args in
+    let all = filled-less (c .before .before .before .loop-test .left) (top .loop .inv .2) in
+    c .sum-to .ensures ∙ filled-sum _ _ _ (filled-put (a .n) (a .i) (omega (arith, top .loop .inv .1, s .pre .3, s .pre .4)) (λ k b ne. ap (λ (z : Float). at (now (a .x)) k ⊗ z) (sym (lambda-off (at (now (a .v))) (λ _. at (now (a .row))) (a .i) k ne))) (ap (λ (z : Float). at (now (a .x)) (a .i) ⊗ z) (sym (lambda-on (at (now (a .v))) (λ _. at (now (a .row))) (a .i)))) all)
 
 pub row-sum-spec : {M : Type 1} → statement M
 row-sum-spec =
@@ -48,11 +101,24 @@ row-sum-spec =
     (tie.spec
     Inv-loop
     μ-loop
+    mul-own
+    shared-slice-read-own
     loop-holds
-    mul-s
-    shared-slice-read-s
-    lambda-requires
+    mul-terms
+    shared-slice-read-terms
+    mul-terms-2
+    shared-slice-read-terms-2
+    mul-terms-3
+    shared-slice-read-terms-3
+    mul-terms-4
+    array-write-terms
     add-j
     loop-less
     loop-again
+    mul-terms-5
+    shared-slice-read-terms-4
+    mul-terms-6
+    array-write-terms-2
+    slice-aggregate-sum-to
+    sum-to-requires
     returns)

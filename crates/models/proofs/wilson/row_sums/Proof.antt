@@ -46,7 +46,7 @@ row-sum-requires c κs =
     let turn = c .before in
     let start = turn .before .before .before .before .before in
     let row = from-length (turn .before .loop .i * start .args .n) (now (start .args .e)) in
-    (start .pre .1, omega (arith, row, ends turn), start .pre .3, turn .loop-test .taken)
+    (start .pre .1, omega (arith, row, ends turn), start .pre .3, turn .loop-test .taken, start .pre .0)
 
 mul-sums : tie.Need-mul-sums Inv-loop μ-loop
 mul-sums c = omega arith

@@ -1,4 +1,4 @@
--- Adds w·row to the sums, place by place; the places from ng on stay.
+-- Adds w·row to the sums, place by place; the places from n on stay.
 use mathlib.Core.Path.{_≡_, refl}
 use Prim.Native.Nat.{_-_, _≤_}
 use native.Mathlib.Nat.{le-antisymm}
@@ -7,14 +7,14 @@ use lib.ListN.{length-set, length}
 use Rattle.arithmetic.specs.Tables.{at, Filled, upTo}
 use Rattle.arithmetic.specs.Floats.{_⊕_, _⊗_}
 use Rattle.arithmetic.proofs.TableLaws.{upto-none, upto-more, upto-next}
-use Rattle.models.proofs.unifac.add_row.Statement.{statement}
-use Rattle.models.proofs.unifac.add_row.Tie as tie
+use Rattle.models.proofs.columns.add_row.Statement.{statement}
+use Rattle.models.proofs.columns.add_row.Tie as tie
 
 abbrev Inv-loop : tie.InvT-loop
-Inv-loop row w ng sums₀ j₀ sums j = (j ≤ ng) × (length sums ≡ length sums₀) × Filled (upTo j (λ j. at sums₀ j ⊕ w ⊗ at row j) (at sums₀)) (length sums₀) sums
+Inv-loop row w n sums₀ j₀ sums j = (j ≤ n) × (length sums ≡ length sums₀) × Filled (upTo j (λ j. at sums₀ j ⊕ w ⊗ at row j) (at sums₀)) (length sums₀) sums
 
 abbrev μ-loop : tie.MeasureT-loop
-μ-loop row w ng sums₀ j₀ sums j = ng - j
+μ-loop row w n sums₀ j₀ sums j = n - j
 
 loop-holds : tie.Need-loop-holds Inv-loop μ-loop
 loop-holds c = (omega arith, refl, upto-none _ _ _)

@@ -1,0 +1,52 @@
+-- The loop keeps the sum of the places passed; at its end these are all. Assumes nothing.
+use Rattle.arithmetic.specs.Sums.{sum}
+use Rattle.arithmetic.specs.Tables.{at}
+use Rattle.arithmetic.proofs.SumLaws.{sum-none, sum-more, sum-done}
+use mathlib.Core.Path.{_≡_, refl, sym, ap, _∙_}
+use Prim.Native.Nat.{ℕ, zero, suc, _+_, _*_, _-_, _<_, _≤_}
+use native.Mathlib.Omega.{arith}
+use borrow.Author.Needs.{needs}
+use lib.ListN.{length, getD}
+use Rattle.models.proofs.columns.sum_to.Statement.{statement}
+use Rattle.models.proofs.columns.sum_to.Tie as tie
+
+abbrev Inv-loop : tie.InvT-loop
+Inv-loop terms n s₀ k₀ s k = (k ≤ n) × (s ≡ sum k (at terms))
+
+abbrev μ-loop : tie.MeasureT-loop
+μ-loop terms n s₀ k₀ s k = n - k
+
+loop-holds : tie.Need-loop-holds Inv-loop μ-loop
+loop-holds c = (omega arith, sum-none _)
+
+mul-s : tie.Need-mul-s Inv-loop μ-loop
+mul-s c = omega arith
+
+shared-slice-read-s : tie.Need-shared-slice-read-s Inv-loop μ-loop
+shared-slice-read-s c = omega arith
+
+add-k : tie.Need-add-k Inv-loop μ-loop
+add-k c = omega arith
+
+loop-less : tie.Need-loop-less Inv-loop μ-loop
+loop-less c = omega arith
+
+loop-again : tie.Need-loop-again Inv-loop μ-loop
+loop-again c = (omega arith, sum-more _ _ (c .before .before .loop .inv .1) refl)
+
+returns : tie.Need-returns Inv-loop μ-loop
+returns c = search (sum-done, needs)
+
+pub sum-to-spec : {M : Type 1} → statement M
+sum-to-spec =
+    tie.close
+    (tie.spec
+    Inv-loop
+    μ-loop
+    loop-holds
+    mul-s
+    shared-slice-read-s
+    add-k
+    loop-less
+    loop-again
+    returns)
