@@ -19,4 +19,3 @@ pub mod QueryLaws
 pub mod StaleLaws
 pub mod BlockLaws
 pub mod SetLaws
-pub mod ExportLaws

@@ -11,4 +11,3 @@ pub mod History
 pub mod Writes
 pub mod Plain
 pub mod Refills
-pub mod Exports

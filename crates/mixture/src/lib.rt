@@ -1,6 +1,5 @@
 // A mixture that keeps its exponentials in lent memory. Document 01, "Mixture".
 pub mod answers;
-pub mod exports;
 pub mod faults;
 pub mod fractions;
 pub mod head;

@@ -1,8 +1,9 @@
 -- `nan`, or the sixteen digits. Assumes nothing.
+use lib.Dec.{T}
 use lib.Ieee.{toBits, binary64}
 use Rattle.strip.proofs.TextLaws.{hex-fit, bits-lt, put-bits, put-nan}
 use Rattle.arithmetic.proofs.ByteLaws.{has-bits}
-use mathlib.Core.Path.{_≡_, refl, sym, ap, _∙_}
+use mathlib.Core.Path.{_≡_, refl, sym, ap, _∙_, subst}
 use Prim.Native.Nat.{ℕ, zero, suc, _+_, _*_, _-_, _<_, _≤_}
 use native.Mathlib.Omega.{arith}
 use borrow.Author.Needs.{needs}

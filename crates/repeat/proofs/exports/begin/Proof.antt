@@ -1,0 +1,30 @@
+use mathlib.Core.Path.{_≡_, refl, sym, ap, _∙_}
+use Prim.Native.Nat.{ℕ, zero, suc, _+_, _*_, _-_, _<_, _≤_}
+use native.Mathlib.Omega.{arith}
+use borrow.Author.Needs.{needs}
+use lib.ListN.{length, getD}
+use Rattle.repeat.proofs.ExportLaws.{begun-is}
+use Rattle.repeat.proofs.exports.begin.Statement.{statement}
+use Rattle.repeat.proofs.exports.begin.Tie as tie
+use Rattle.repeat.proofs.exports.begin.Reads as reads
+use Rattle.repeat.proofs.exports.begin.Lts as lts
+use Rattle.mixture.proofs.fractions.fractions.Reads as fractions-reads
+use Rattle.mixture.proofs.set.set.Reads as set-reads
+
+set-requires : tie.Need-set-requires
+set-requires c κs = search needs
+
+fractions-requires : tie.Need-fractions-requires
+fractions-requires c κs = search needs
+
+same-length : tie.Need-same-length
+same-length c = search needs
+
+same-length-2 : tie.Need-same-length-2
+same-length-2 c = search needs
+
+returns : tie.Need-returns
+returns c = λ m h d p q. begun-is m h d _ _ p q (c .before .before .before .before .before .before .before .set .ensures) (c .fractions .ensures)
+
+pub begin-spec : {M : Type 1} → statement M
+begin-spec = tie.close (tie.spec set-requires fractions-requires same-length same-length-2 returns)

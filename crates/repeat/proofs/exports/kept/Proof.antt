@@ -1,0 +1,82 @@
+use mathlib.Core.Path.{_≡_, refl, sym, ap, _∙_}
+use Prim.Native.Nat.{ℕ, zero, suc, _+_, _*_, _-_, _<_, _≤_}
+use native.Mathlib.Omega.{arith}
+use borrow.Author.Needs.{needs}
+use lib.ListN.{length, getD}
+use denote.Ref.{now}
+use Rattle.arithmetic.specs.Bytes.{floatAt}
+use Rattle.repeat.proofs.ExportLaws.{kept-is}
+use Rattle.repeat.proofs.exports.kept.Statement.{statement}
+use Rattle.repeat.proofs.exports.kept.Tie as tie
+use Rattle.repeat.proofs.exports.kept.Reads as reads
+use Rattle.repeat.proofs.exports.kept.Lts as lts
+use Rattle.arithmetic.proofs.bytes.float_at.Reads as float-at-reads
+use Rattle.repeat.proofs.exports.begin.Reads as begin-reads
+use Rattle.repeat.proofs.exports.keep.Reads as keep-reads
+use Rattle.repeat.proofs.exports.load_anew.Reads as load-anew-reads
+use Rattle.mixture.proofs.head.bare_head.Reads as bare-head-reads
+
+bare-head-requires : tie.Need-bare-head-requires
+bare-head-requires c κs = search needs
+
+slice-aggregate-load-anew : tie.Need-slice-aggregate-load-anew
+slice-aggregate-load-anew c = search needs
+
+slice-aggregate-load-anew-2 : tie.Need-slice-aggregate-load-anew-2
+slice-aggregate-load-anew-2 c = search needs
+
+slice-aggregate-load-anew-3 : tie.Need-slice-aggregate-load-anew-3
+slice-aggregate-load-anew-3 c = search needs
+
+load-anew-requires : tie.Need-load-anew-requires
+load-anew-requires c κs = search needs
+
+float-at-requires : tie.Need-float-at-requires
+float-at-requires c κs = search needs
+
+slice-aggregate-begin : tie.Need-slice-aggregate-begin
+slice-aggregate-begin c = search needs
+
+slice-aggregate-begin-2 : tie.Need-slice-aggregate-begin-2
+slice-aggregate-begin-2 c = search needs
+
+slice-aggregate-begin-3 : tie.Need-slice-aggregate-begin-3
+slice-aggregate-begin-3 c = search needs
+
+begin-requires : tie.Need-begin-requires
+begin-requires c κs = search needs
+
+slice-aggregate-keep : tie.Need-slice-aggregate-keep
+slice-aggregate-keep c = search needs
+
+slice-aggregate-keep-2 : tie.Need-slice-aggregate-keep-2
+slice-aggregate-keep-2 c = search needs
+
+slice-aggregate-keep-3 : tie.Need-slice-aggregate-keep-3
+slice-aggregate-keep-3 c = search needs
+
+keep-requires : tie.Need-keep-requires
+keep-requires c κs = search needs
+
+returns : tie.Need-returns
+returns c = kept-is _ _ _ _ _ (λ k. floatAt (now (c .before .before .before .before .before .before .before .before .before .before .before .before .before .before .before .before .before .before .before .before .before .before .before .before .before .before .args .temperatures)) (8 * k)) _ _ (c .before .before .before .before .before .before .before .before .before .before .before .before .before .before .before .before .before .before .before .before .bare-head .ensures) (c .before .before .before .before .before .before .before .before .before .before .before .before .before .before .before .before .load-anew .ensures) (c .before .before .before .before .before .before .before .before .before .begin .ensures) (c .before .before .before .before .before .before .before .before .before .before .before .before .before .float-at .ensures) (c .before .before .before .keep .ensures)
+
+pub kept-spec : {M : Type 1} → statement M
+kept-spec =
+    tie.close
+    (tie.spec
+    bare-head-requires
+    slice-aggregate-load-anew
+    slice-aggregate-load-anew-2
+    slice-aggregate-load-anew-3
+    load-anew-requires
+    float-at-requires
+    slice-aggregate-begin
+    slice-aggregate-begin-2
+    slice-aggregate-begin-3
+    begin-requires
+    slice-aggregate-keep
+    slice-aggregate-keep-2
+    slice-aggregate-keep-3
+    keep-requires
+    returns)

@@ -1,0 +1,30 @@
+use mathlib.Core.Path.{_≡_, refl, sym, ap, _∙_}
+use Prim.Native.Nat.{ℕ, zero, suc, _+_, _*_, _-_, _<_, _≤_}
+use native.Mathlib.Omega.{arith}
+use borrow.Author.Needs.{needs}
+use lib.ListN.{length, getD}
+use Rattle.repeat.proofs.ExportLaws.{loaded-anew}
+use Rattle.repeat.proofs.exports.load_anew.Statement.{statement}
+use Rattle.repeat.proofs.exports.load_anew.Tie as tie
+use Rattle.repeat.proofs.exports.load_anew.Reads as reads
+use Rattle.repeat.proofs.exports.load_anew.Lts as lts
+use Rattle.mixture.proofs.load.load.Reads as load-reads
+use Rattle.mixture.proofs.open.open.Reads as open-reads
+
+open-requires : tie.Need-open-requires
+open-requires c κs = search needs
+
+load-requires : tie.Need-load-requires
+load-requires c κs = search needs
+
+same-length : tie.Need-same-length
+same-length c = search needs
+
+same-length-2 : tie.Need-same-length-2
+same-length-2 c = search needs
+
+returns : tie.Need-returns
+returns c = loaded-anew _ _ _ (c .before .before .before .before .before .before .before .open .ensures) (c .before .before .before .before .load .ensures)
+
+pub load-anew-spec : {M : Type 1} → statement M
+load-anew-spec = tie.close (tie.spec open-requires load-requires same-length same-length-2 returns)

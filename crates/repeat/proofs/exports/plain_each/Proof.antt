@@ -1,0 +1,70 @@
+use mathlib.Core.Path.{_≡_, refl, sym, ap, _∙_}
+use Prim.Native.Nat.{ℕ, zero, suc, _+_, _*_, _-_, _<_, _≤_}
+use native.Mathlib.Omega.{arith}
+use borrow.Author.Needs.{needs}
+use lib.ListN.{length, getD}
+use Prim.Native.Nat.{_/_}
+use lib.Ieee.{Float}
+use denote.Ref.{now}
+use Rattle.mixture.specs.Names.{ModelData}
+use Rattle.arithmetic.specs.Bytes.{floatAt}
+use Rattle.mixture.specs.Plain.{plainCall}
+use Rattle.repeat.specs.Exports.{plainValue, plainTurns}
+use Rattle.repeat.proofs.ExportLaws.{plain-none, plain-more, plain-done}
+use Rattle.repeat.proofs.exports.plain_each.Statement.{statement}
+use Rattle.repeat.proofs.exports.plain_each.Tie as tie
+use Rattle.repeat.proofs.exports.plain_each.Reads as reads
+use Rattle.repeat.proofs.exports.plain_each.Lts as lts
+use Rattle.arithmetic.proofs.bytes.float_at.Reads as float-at-reads
+use Rattle.repeat.proofs.exports.plain_at.Reads as plain-at-reads
+
+abbrev Inv-loop : tie.InvT-loop
+Inv-loop model n ng lens groups given temperatures x q last₀ k₀ k-end last k = (k ≤ length temperatures / 8) × (last ≡ plainTurns k (record { model = model; n = n; ng = ng; lens = lens; groups = groups; values = given }) x q (λ j. floatAt temperatures (8 * j)))
+
+abbrev μ-loop : tie.MeasureT-loop
+μ-loop model n ng lens groups given temperatures x q last₀ k₀ k-end last k = length temperatures / 8 - k
+
+abbrev given-data : tie.Start Inv-loop μ-loop → ModelData
+given-data s =
+    record { model = s .args .model; n = s .args .n; ng = s .args .ng; lens = now (s .args .lens); groups = now (s .args .groups); values = now (s .args .given) }
+
+loop-holds : tie.Need-loop-holds Inv-loop μ-loop
+loop-holds c = (omega arith, plain-none _ _ _ _)
+
+mul-float-at : tie.Need-mul-float-at Inv-loop μ-loop
+mul-float-at c = omega arith
+
+float-at-requires : tie.Need-float-at-requires Inv-loop μ-loop
+float-at-requires c κs = search needs
+
+plain-at-requires : tie.Need-plain-at-requires Inv-loop μ-loop
+plain-at-requires c κs = search needs
+
+add-k : tie.Need-add-k Inv-loop μ-loop
+add-k c = omega arith
+
+loop-less : tie.Need-loop-less Inv-loop μ-loop
+loop-less c = omega arith
+
+loop-again : tie.Need-loop-again Inv-loop μ-loop
+loop-again c =
+    let s = c .before .before .before .before .before .before .before .before .before in
+    (omega arith, plain-more (given-data s) _ _ _ _ (c .plain-at .ensures ∙ ap (λ (t : Float). plainValue (plainCall (given-data s) t (now (s .args .x)) (s .args .q))) (c .before .float-at .ensures)))
+
+returns : tie.Need-returns Inv-loop μ-loop
+returns c = plain-done _ _ _ _ _ _ (c .before .loop .inv .1) (c .before .loop .inv .0) (c .loop-test .left)
+
+pub plain-each-spec : {M : Type 1} → statement M
+plain-each-spec =
+    tie.close
+    (tie.spec
+    Inv-loop
+    μ-loop
+    loop-holds
+    mul-float-at
+    float-at-requires
+    plain-at-requires
+    add-k
+    loop-less
+    loop-again
+    returns)

@@ -1,0 +1,26 @@
+use mathlib.Core.Path.{_≡_, refl, sym, ap, _∙_}
+use Prim.Native.Nat.{ℕ, zero, suc, _+_, _*_, _-_, _<_, _≤_}
+use native.Mathlib.Omega.{arith}
+use borrow.Author.Needs.{needs}
+use lib.ListN.{length, getD}
+use borrow.Author.Tests.{eq-eqb, ne-eqb}
+use Rattle.repeat.specs.Exports.{quantityOf}
+use Rattle.repeat.proofs.exports.quantity_of.Statement.{statement}
+use Rattle.repeat.proofs.exports.quantity_of.Tie as tie
+use Rattle.repeat.proofs.exports.quantity_of.Reads as reads
+use Rattle.repeat.proofs.exports.quantity_of.Lts as lts
+
+returns : tie.Need-returns
+unfolding quantityOf
+returns c = simp (eq-eqb _ _ (c .if1 .taken))
+
+returns-2 : tie.Need-returns-2
+unfolding quantityOf
+returns-2 c = simp (ne-eqb _ _ (c .before .if1 .left), eq-eqb _ _ (c .if2 .taken))
+
+returns-3 : tie.Need-returns-3
+unfolding quantityOf
+returns-3 c = simp (ne-eqb _ _ (c .before .if1 .left), ne-eqb _ _ (c .if2 .left))
+
+pub quantity-of-spec : {M : Type 1} → statement M
+quantity-of-spec = tie.close (tie.spec returns returns-2 returns-3)

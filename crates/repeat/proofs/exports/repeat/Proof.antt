@@ -1,0 +1,27 @@
+use mathlib.Core.Path.{_≡_, refl, sym, ap, _∙_}
+use Prim.Native.Nat.{ℕ, zero, suc, _+_, _*_, _-_, _<_, _≤_}
+use native.Mathlib.Omega.{arith}
+use borrow.Author.Needs.{needs}
+use lib.ListN.{length, getD}
+use Rattle.repeat.proofs.ExportLaws.{repeated-plain, repeated-kept}
+use Rattle.repeat.proofs.exports.repeat.Statement.{statement}
+use Rattle.repeat.proofs.exports.repeat.Tie as tie
+use Rattle.repeat.proofs.exports.repeat.Reads as reads
+use Rattle.repeat.proofs.exports.repeat.Lts as lts
+use Rattle.repeat.proofs.exports.kept.Reads as kept-reads
+use Rattle.repeat.proofs.exports.plain_each.Reads as plain-each-reads
+
+plain-each-requires : tie.Need-plain-each-requires
+plain-each-requires c κs = search needs
+
+returns : tie.Need-returns
+returns c = repeated-plain _ _ _ _ _ _ _ (c .before .if1 .taken) (c .plain-each .ensures)
+
+kept-requires : tie.Need-kept-requires
+kept-requires c κs = search needs
+
+returns-2 : tie.Need-returns-2
+returns-2 c = repeated-kept _ _ _ _ _ _ _ (c .before .if1 .left) (c .kept .ensures)
+
+pub repeat-spec : {M : Type 1} → statement M
+repeat-spec = tie.close (tie.spec plain-each-requires returns kept-requires returns-2)

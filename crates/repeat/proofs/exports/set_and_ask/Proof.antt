@@ -1,0 +1,35 @@
+use mathlib.Core.Path.{_≡_, refl, sym, ap, _∙_}
+use Prim.Native.Nat.{ℕ, zero, suc, _+_, _*_, _-_, _<_, _≤_}
+use native.Mathlib.Omega.{arith}
+use borrow.Author.Needs.{needs}
+use lib.ListN.{length, getD}
+use Rattle.repeat.proofs.ExportLaws.{set-asked}
+use Rattle.repeat.proofs.exports.set_and_ask.Statement.{statement}
+use Rattle.repeat.proofs.exports.set_and_ask.Tie as tie
+use Rattle.repeat.proofs.exports.set_and_ask.Reads as reads
+use Rattle.repeat.proofs.exports.set_and_ask.Lts as lts
+use Rattle.mixture.proofs.query.query.Reads as query-reads
+use Rattle.mixture.proofs.set.set.Reads as set-reads
+
+set-requires : tie.Need-set-requires
+set-requires c κs = search needs
+
+query-requires : tie.Need-query-requires
+query-requires c κs = search needs
+
+same-length : tie.Need-same-length
+same-length c = search needs
+
+same-length-2 : tie.Need-same-length-2
+same-length-2 c = search needs
+
+same-length-3 : tie.Need-same-length-3
+same-length-3 c = search needs
+
+returns : tie.Need-returns
+returns c = set-asked _ _ _ _ (c .before .before .before .before .before .before .before .before .before .before .before .before .set .ensures) (c .before .before .before .before .query .ensures)
+
+pub set-and-ask-spec : {M : Type 1} → statement M
+set-and-ask-spec =
+    tie.close
+    (tie.spec set-requires query-requires same-length same-length-2 same-length-3 returns)

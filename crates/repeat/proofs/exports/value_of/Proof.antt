@@ -1,0 +1,35 @@
+use mathlib.Core.Path.{_≡_, refl, sym, ap, _∙_}
+use Prim.Native.Nat.{ℕ, zero, suc, _+_, _*_, _-_, _<_, _≤_}
+use native.Mathlib.Omega.{arith}
+use borrow.Author.Needs.{needs}
+use lib.ListN.{length, getD}
+use lib.Ieee.{ofBits}
+use Rattle.repeat.specs.Exports.{valueOf}
+use Rattle.repeat.proofs.exports.value_of.Statement.{statement}
+use Rattle.repeat.proofs.exports.value_of.Tie as tie
+use Rattle.repeat.proofs.exports.value_of.Reads as reads
+use Rattle.repeat.proofs.exports.value_of.Lts as lts
+
+enum-told : tie.Need-enum-told
+enum-told c = search needs
+
+enum-told-2 : tie.Need-enum-told-2
+enum-told-2 c = search needs
+
+enum-known-a : tie.Need-enum-known-a
+enum-known-a c = search needs
+
+returns : tie.Need-returns
+unfolding valueOf ofBits
+returns c = rw (c .enum-told .given .1)
+
+returns-2 : tie.Need-returns-2
+unfolding valueOf ofBits
+returns-2 c = rw (c .enum-told2 .given .1)
+
+returns-3 : tie.Need-returns-3
+unfolding valueOf
+returns-3 c = rw (c .before .a .given .1)
+
+pub value-of-spec : {M : Type 1} → statement M
+value-of-spec = tie.close (tie.spec enum-told enum-told-2 enum-known-a returns returns-2 returns-3)

@@ -1,0 +1,99 @@
+-- The exported call: a mixture opened on zeros, loaded and given fractions, then asked at one temperature after the other; or the
+-- plain call at each. Its result is the last value. Each step is the call's own definition, so `history` of proofs/History holds of it.
+use mathlib.Core.Bool.{Bool, false, cond}
+use mathlib.Core.List.{List, []}
+use Prim.Native.Nat.{ℕ, zero, suc, _*_, _/_}
+use lib.Dec.{eqb, ltb}
+use lib.ListN.{length, replicate}
+use lib.Ieee.{Float}
+use Rattle.arithmetic.specs.declared.parameters.TdParam.{TdParam}
+use Rattle.arithmetic.specs.Bytes.{floats, floatAt}
+use Rattle.arithmetic.specs.Floats.{+0}
+use Rattle.models.specs.declared.answers.Quantity.{Quantity}
+use Rattle.models.specs.declared.answers.Quantity.the-variants.{LnGamma, Gamma, ExcessGibbs}
+use Rattle.models.specs.declared.answers.Answer as Plain
+use Rattle.models.specs.declared.answers.Answer.the-variants as PlainAnswer
+use Rattle.mixture.specs.declared.head.Head.{Head}
+use Rattle.mixture.specs.declared.head.Model.{Model}
+use Rattle.mixture.specs.declared.setting.Setting.{Setting}
+use Rattle.mixture.specs.declared.setting.Setting.the-variants.{Temperature, Entry, TdEntry}
+use Rattle.mixture.specs.declared.answers.Answer.{Answer}
+use Rattle.mixture.specs.declared.answers.Answer.the-variants.{Refused, Done, Value}
+use Rattle.mixture.specs.Names.{byModel, ModelData}
+use Rattle.mixture.specs.Memory.{Memory, memory, After}
+use Rattle.mixture.specs.Layout.{modelOf}
+use Rattle.mixture.specs.Calls.{freshHead, afterOpen, afterLoad, afterSetting, afterFractions, afterQuery}
+use Rattle.mixture.specs.Plain.{plainCall}
+
+-- what is asked, by the strip's numbers: 0 ln γ, 1 γ, else the excess energy
+unfoldable pub quantityOf : ℕ → ℕ → Quantity
+quantityOf asked i = cond (eqb asked 0) (LnGamma i) (cond (eqb asked 1) (Gamma i) ExcessGibbs)
+
+-- the value of an answered query, +0 for any other answer
+unfoldable pub valueOf : Answer → Float
+valueOf (Refused k) = +0
+valueOf Done = +0
+valueOf (Value v count) = v
+
+unfoldable pub plainValue : Plain.Answer → Float
+plainValue (PlainAnswer.Value v) = v
+plainValue (PlainAnswer.Refused k) = +0
+
+-- a td entry whose only number is a
+abbrev pub constant : Float → TdParam
+constant v = record { a = v; b = +0; c = +0; d = +0; e = +0 }
+
+-- what a turn sets: T where the change is 2, else entry 0, 1, for UNIFAC the td entry
+unfoldable pub settingOf : ℕ → Model → Float → Float → Setting
+settingOf change k v T = cond (eqb change 2) (Temperature T) (byModel k (Entry 0 1 v) (Entry 0 1 v) (Entry 0 1 v) (TdEntry 0 1 (constant v)))
+
+-- a setting and then a query
+unfoldable pub setAndAsked : Memory → Head → Setting → Quantity → After
+setAndAsked m h s q = afterQuery (afterSetting m h s .memory) (afterSetting m h s .reply .head) q
+
+-- a turn at T; where the change is 0 nothing is set
+unfoldable pub turnAt : ℕ → Model → Float → Quantity → Float → Memory → Head → After
+turnAt change k v q T m h = cond (eqb change 0) (afterQuery m h q) (setAndAsked m h (settingOf change k v T) q)
+
+-- n turns, at T 0, T 1, ..
+unfoldable pub turns : ℕ → ℕ → Model → Float → Quantity → (ℕ → Float) → After → After
+turns zero change k v q T a = a
+turns (suc n) change k v q T a =
+    turnAt change k v q (T n) (turns n change k v q T a .memory) (turns n change k v q T a .reply .head)
+
+-- opened, loaded, with T and fractions
+unfoldable pub loadedAt : Memory → Head → ModelData → After
+loadedAt m h d = afterLoad (afterOpen m h .memory) (afterOpen m h .reply .head) d
+
+unfoldable pub begun : Memory → Head → ModelData → Float → List Float → After
+begun m h d T x =
+    let a = loadedAt m h d in
+    let b = afterSetting (a .memory) (a .reply .head) (Temperature T) in
+    afterFractions (b .memory) (b .reply .head) x
+
+-- the memory and the head that it starts from
+unfoldable pub zeros : Memory
+zeros = memory (replicate 5328 +0) (replicate 1024 +0) (replicate 1024 0)
+
+abbrev pub noHead : Head
+noHead = freshHead 0 0 0 [] []
+
+-- the last value of the plain call
+unfoldable pub plainTurns : ℕ → ModelData → List Float → Quantity → (ℕ → Float) → Float
+plainTurns zero d x q T = +0
+plainTurns (suc n) d x q T = plainValue (plainCall d (T n) x q)
+
+-- the last value over n temperatures: of the plain call where the change is 3, else of the mixture
+unfoldable pub repeated : ℕ → ModelData → List Float → Quantity → ℕ → Float → (ℕ → Float) → Float
+repeated n d x q change v T =
+    cond (eqb change 3) (plainTurns n d x q T)
+    (valueOf (turns n change (d .model) v q T (begun zeros noHead d (T 0) x) .reply .answer))
+
+-- the same for bytes; +0 for more values or fractions than any model has, or no temperature
+unfoldable pub repeatedBytes : ℕ → ℕ → ℕ → List ℕ → List ℕ → List ℕ → List ℕ → ℕ → ℕ → ℕ → Float → List ℕ → Float
+repeatedBytes model n ng lens groups values x asked i change v temperatures =
+    cond (ltb 5328 (length values / 8)) +0
+    (cond (ltb 12 (length x / 8)) +0
+    (cond (ltb (length temperatures) 8) +0
+    (repeated (length temperatures / 8)
+    (record { model = modelOf model; n = n; ng = ng; lens = lens; groups = groups; values = floats values }) (floats x) (quantityOf asked i) change v (λ k. floatAt temperatures (8 * k)))))

@@ -1,0 +1,368 @@
+// For a host that measures: a mixture asked again and again in one call, since a head doesn't cross the C boundary, or the
+// plain call again and again. An f64 stands as eight bytes, lowest first.
+ghost use mathlib.Core.Path.{_≡_};
+ghost use Prim.Native.Nat.{_*_, _/_, _≤_};
+ghost use lib.ListN.{length};
+ghost use lib.Ieee.{Float};
+ghost use Rattle.arithmetic.specs.Bytes.{floatAt};
+ghost use Rattle.mixture.specs.Names.{ModelData};
+ghost use Rattle.mixture.specs.Memory.{Memory, memory, after};
+ghost use Rattle.mixture.specs.Plain.{plainCall};
+ghost use Rattle.repeat.specs.Exports.{quantityOf, valueOf, plainValue, settingOf, setAndAsked, turnAt, turns, loadedAt, begun, noHead, zeros, plainTurns, repeated, repeatedBytes};
+use arithmetic::TdParam;
+use arithmetic::bytes;
+use mixture::Answer;
+use mixture::Head;
+use mixture::Model;
+use mixture::Reply;
+use mixture::Setting;
+use mixture::faults::model_of;
+use mixture::fractions::fractions;
+use mixture::head::bare_head;
+use mixture::load::load;
+use mixture::open::open;
+use mixture::query::query;
+use mixture::set::set;
+use models::Quantity;
+
+// What is asked, by the strip's numbers.
+fn quantity_of(asked: u32, i: usize) -> Quantity
+    ensures { λ r. ⌜ r ≡ quantityOf asked i ⌝ }
+{
+    if asked == 0 {
+        return Quantity::LnGamma(i);
+    }
+    if asked == 1 {
+        return Quantity::Gamma(i);
+    }
+    Quantity::ExcessGibbs
+}
+
+// The value of an answered query, 0 for any other answer.
+fn value_of(a: Answer) -> f64
+    ensures { λ r. ⌜ r ≡ valueOf a ⌝ }
+{
+    match a {
+        Answer::Refused(_) => 0.0,
+        Answer::Done => 0.0,
+        Answer::Value(v, _) => v,
+    }
+}
+
+fn plain_value(a: models::Answer) -> f64
+    ensures { λ r. ⌜ r ≡ plainValue a ⌝ }
+{
+    match a {
+        models::Answer::Value(v) => v,
+        models::Answer::Refused(_) => 0.0,
+    }
+}
+
+// What a turn sets: T, or entry 0, 1.
+fn setting_of(change: u32, model: Model, v: f64, t: f64) -> Setting
+    ensures { λ r. ⌜ r ≡ settingOf change model v t ⌝ }
+{
+    if change == 2 {
+        return Setting::Temperature(t);
+    }
+    match model {
+        Model::Wilson => Setting::Entry(0, 1, v),
+        Model::Uniquac => Setting::Entry(0, 1, v),
+        Model::Nrtl => Setting::Entry(0, 1, v),
+        Model::Unifac => {
+            let p = TdParam {
+                a: v,
+                b: 0.0,
+                c: 0.0,
+                d: 0.0,
+                e: 0.0,
+            };
+            Setting::TdEntry(0, 1, p)
+        }
+    }
+}
+
+// A setting and then a query.
+fn set_and_ask(
+    values: &mut [f64],
+    cells: &mut [f64],
+    marks: &mut [u8],
+    head: Head,
+    s: Setting,
+    q: Quantity,
+) -> Reply
+    ensures { λ r. ⌜ after (memory (now (values .exit)) (now (cells .exit)) (now (marks .exit))) (r .head) (r .answer) ≡ setAndAsked (memory (now (values .entry)) (now (cells .entry)) (now (marks .entry))) head s q ⌝ }
+{
+    let set = set(values, cells, marks, head, s);
+    query(values, cells, marks, set.head, q)
+}
+
+// A turn; where the change is 0 nothing is set.
+fn turn_at(
+    values: &mut [f64],
+    cells: &mut [f64],
+    marks: &mut [u8],
+    head: Head,
+    change: u32,
+    s: Setting,
+    q: Quantity,
+) -> Reply
+    ensures { λ r. ⌜ ((model : Model) (v t : Float) → s ≡ settingOf change model v t → after (memory (now (values .exit)) (now (cells .exit)) (now (marks .exit))) (r .head) (r .answer) ≡ turnAt change model v q t (memory (now (values .entry)) (now (cells .entry)) (now (marks .entry))) head) ⌝ }
+{
+    if change == 0 {
+        return query(values, cells, marks, head, q);
+    }
+    set_and_ask(values, cells, marks, head, s, q)
+}
+
+// A turn at each temperature; the last value.
+fn keep(
+    values: &mut [f64],
+    cells: &mut [f64],
+    marks: &mut [u8],
+    start: Reply,
+    change: u32,
+    model: Model,
+    v: f64,
+    q: Quantity,
+    temperatures: &[u8],
+) -> f64
+    ensures { λ r. ⌜ r ≡ valueOf (turns (length (now (temperatures .entry)) / 8) change model v q (λ k. floatAt (now (temperatures .entry)) (8 * k)) (after (memory (now (values .entry)) (now (cells .entry)) (now (marks .entry))) (start .head) (start .answer)) .reply .answer) ⌝ }
+{
+    let mut last = start;
+    for k in 0..temperatures.len() / 8 {
+        let s = setting_of(change, model, v, bytes::float_at(temperatures, 8 * k));
+        last = turn_at(values, cells, marks, last.head, change, s, q);
+    }
+    let answer = last.answer;
+    value_of(answer)
+}
+
+// An opening and a load.
+fn load_anew(
+    values: &mut [f64],
+    cells: &[f64],
+    marks: &mut [u8],
+    head: Head,
+    model: Model,
+    n: usize,
+    ng: usize,
+    lens: &[u8],
+    groups: &[u8],
+    given: &[f64],
+) -> Reply
+    ensures { λ r. ⌜ after (memory (now (values .exit)) (now (cells .entry)) (now (marks .exit))) (r .head) (r .answer) ≡ loadedAt (memory (now (values .entry)) (now (cells .entry)) (now (marks .entry))) head (record { model = model; n = n; ng = ng; lens = now (lens .entry); groups = now (groups .entry); values = now (given .entry) }) ⌝ }
+{
+    let opened = open(values, cells, marks, head);
+    load(
+        values,
+        cells,
+        marks,
+        opened.head,
+        model,
+        n,
+        ng,
+        lens,
+        groups,
+        given,
+    )
+}
+
+// T and fractions after a load.
+fn begin(
+    values: &mut [f64],
+    cells: &[f64],
+    marks: &mut [u8],
+    head: Head,
+    t: f64,
+    x: &[f64],
+) -> Reply
+    ensures { λ r. ⌜ ((m : Memory) (h : Head) (d : ModelData) → loadedAt m h d .memory ≡ memory (now (values .entry)) (now (cells .entry)) (now (marks .entry)) → loadedAt m h d .reply .head ≡ head → after (memory (now (values .exit)) (now (cells .entry)) (now (marks .exit))) (r .head) (r .answer) ≡ begun m h d t (now (x .entry))) ⌝ }
+{
+    let set = set(values, cells, marks, head, Setting::Temperature(t));
+    fractions(values, cells, marks, set.head, x)
+}
+
+// The value of the plain call, 0 where it declines.
+fn plain_at(
+    model: Model,
+    n: usize,
+    ng: usize,
+    lens: &[u8],
+    groups: &[u8],
+    given: &[f64],
+    t: f64,
+    x: &[f64],
+    q: Quantity,
+) -> f64
+    ensures { λ r. ⌜ r ≡ plainValue (plainCall (record { model = model; n = n; ng = ng; lens = now (lens .entry); groups = now (groups .entry); values = now (given .entry) }) t (now (x .entry)) q) ⌝ }
+{
+    match model {
+        Model::Wilson => plain_value(models::wilson::plain(n, given, t, x, q)),
+        Model::Uniquac => plain_value(models::uniquac::plain(n, given, t, x, q)),
+        Model::Nrtl => plain_value(models::nrtl::plain(n, given, t, x, q)),
+        Model::Unifac => plain_value(models::unifac::plain(n, ng, lens, groups, given, t, x, q)),
+    }
+}
+
+// The plain call at each temperature; the last value.
+fn plain_each(
+    model: Model,
+    n: usize,
+    ng: usize,
+    lens: &[u8],
+    groups: &[u8],
+    given: &[f64],
+    temperatures: &[u8],
+    x: &[f64],
+    q: Quantity,
+) -> f64
+    ensures { λ r. ⌜ r ≡ plainTurns (length (now (temperatures .entry)) / 8) (record { model = model; n = n; ng = ng; lens = now (lens .entry); groups = now (groups .entry); values = now (given .entry) }) (now (x .entry)) q (λ k. floatAt (now (temperatures .entry)) (8 * k)) ⌝ }
+{
+    let mut last = 0.0;
+    for k in 0..temperatures.len() / 8 {
+        let t = bytes::float_at(temperatures, 8 * k);
+        last = plain_at(model, n, ng, lens, groups, given, t, x, q);
+    }
+    last
+}
+
+// The mixture on zeros, at each temperature; the last value.
+fn kept(
+    model: Model,
+    n: usize,
+    ng: usize,
+    lens: &[u8],
+    groups: &[u8],
+    given: &[f64],
+    x: &[f64],
+    q: Quantity,
+    change: u32,
+    v: f64,
+    temperatures: &[u8],
+) -> f64
+    requires { ⌜ 8 ≤ length (now temperatures) ⌝ }
+    ensures { λ r. ⌜ r ≡ valueOf (turns (length (now (temperatures .entry)) / 8) change model v q (λ k. floatAt (now (temperatures .entry)) (8 * k)) (begun zeros noHead (record { model = model; n = n; ng = ng; lens = now (lens .entry); groups = now (groups .entry); values = now (given .entry) }) (floatAt (now (temperatures .entry)) (8 * 0)) (now (x .entry))) .reply .answer) ⌝ }
+{
+    let mut values = [0.0; 5328];
+    let mut cells = [0.0; 1024];
+    let mut marks = [0u8; 1024];
+    let head = bare_head(0, 0);
+    let loaded = load_anew(
+        &mut values[..],
+        &cells[..],
+        &mut marks[..],
+        head,
+        model,
+        n,
+        ng,
+        lens,
+        groups,
+        given,
+    );
+    let t = bytes::float_at(temperatures, 0);
+    let start = begin(
+        &mut values[..],
+        &cells[..],
+        &mut marks[..],
+        loaded.head,
+        t,
+        x,
+    );
+    keep(
+        &mut values[..],
+        &mut cells[..],
+        &mut marks[..],
+        start,
+        change,
+        model,
+        v,
+        q,
+        temperatures,
+    )
+}
+
+// The last value over the temperatures; 0 where there are more values or fractions than any model has, or no temperature.
+// The change is 0 for none, 1 for entry 0, 1 (UNIFAC's td entry, with a alone) set to v before each query, 2 for T set before
+// each query, 3 for the plain call in place of a query.
+#[no_mangle]
+pub extern "C" fn kiltgrit_repeat(
+    model: u8,
+    n: usize,
+    ng: usize,
+    lens: &[u8],
+    groups: &[u8],
+    values: &[u8],
+    x: &[u8],
+    asked: u32,
+    i: usize,
+    change: u32,
+    v: f64,
+    temperatures: &[u8],
+) -> f64
+    ensures { λ r. ⌜ r ≡ repeatedBytes model n ng (now (lens .entry)) (now (groups .entry)) (now (values .entry)) (now (x .entry)) asked i change v (now (temperatures .entry)) ⌝ }
+{
+    let count = values.len() / 8;
+    let parts = x.len() / 8;
+    if 5328 < count {
+        return 0.0;
+    }
+    if 12 < parts {
+        return 0.0;
+    }
+    if temperatures.len() < 8 {
+        return 0.0;
+    }
+    let mut given = [0.0; 5328];
+    bytes::fill_floats(&mut given[..], values, 0, count);
+    let mut fractions = [0.0; 12];
+    bytes::fill_floats(&mut fractions[..], x, 0, parts);
+    repeat(
+        model_of(model),
+        n,
+        ng,
+        lens,
+        groups,
+        &given[..count],
+        &fractions[..parts],
+        quantity_of(asked, i),
+        change,
+        v,
+        temperatures,
+    )
+}
+
+// The same for values and fractions as floats.
+fn repeat(
+    model: Model,
+    n: usize,
+    ng: usize,
+    lens: &[u8],
+    groups: &[u8],
+    given: &[f64],
+    x: &[f64],
+    q: Quantity,
+    change: u32,
+    v: f64,
+    temperatures: &[u8],
+) -> f64
+    requires { ⌜ 8 ≤ length (now temperatures) ⌝ }
+    ensures { λ r. ⌜ r ≡ repeated (length (now (temperatures .entry)) / 8) (record { model = model; n = n; ng = ng; lens = now (lens .entry); groups = now (groups .entry); values = now (given .entry) }) (now (x .entry)) q change v (λ k. floatAt (now (temperatures .entry)) (8 * k)) ⌝ }
+{
+    if change == 3 {
+        return plain_each(model, n, ng, lens, groups, given, temperatures, x, q);
+    }
+    kept(
+        model,
+        n,
+        ng,
+        lens,
+        groups,
+        given,
+        x,
+        q,
+        change,
+        v,
+        temperatures,
+    )
+}

@@ -1,0 +1,2 @@
+// For the benchmark: a mixture asked again and again in one exported call.
+pub mod exports;
