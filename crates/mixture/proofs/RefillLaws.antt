@@ -1,13 +1,14 @@
 -- Stale cells worked out place by place, row by row through parts, are `written` and `howMany` over all of them. Assumes nothing.
 use mathlib.Core.Path.{_≡_, refl, sym, ap, _∙_, subst}
-use mathlib.Core.Bool.{Bool, true, false, _&&_, cond, and-false}
+use mathlib.Core.Bool.{Bool, true, false, not, _&&_, cond, and-false}
 use mathlib.Core.List.{List, [], _∷_, _++_, append-nil}
-use mathlib.Core.Logic.{inl, inr}
+use mathlib.Core.Logic.{_⊎_, inl, inr}
 use Prim.Native.Nat.{ℕ, zero, suc, _+_, _*_, _-_, _/_, _%_, _<_, _≤_}
-use native.Mathlib.Nat.{ne-of-lt, ne-of-gt, add-zero, le-antisymm}
+use native.Mathlib.Nat.{ne-of-lt, ne-of-gt, add-zero, zero-mul, le-antisymm}
 use native.Mathlib.Numerals.{add-one}
 use native.Mathlib.Omega.{arith}
 use borrow.Rule.Slice.PartMut.{putMid}
+use borrow.Author.Count.{below-more}
 use borrow.Author.Tests.{lt-ltb, le-ltb, eq-eqb, ne-eqb}
 use lib.Dec.{ltb}
 use lib.ListN.{length, getD, set, take, drop, length-set, length-append, length-drop, drop-of-length-le, List·getD-append}
@@ -21,7 +22,7 @@ use Rattle.mixture.specs.declared.head.Model.the-variants.{Wilson, Uniqu
 use Rattle.mixture.specs.Names.{byModel}
 use Rattle.mixture.specs.Lists.{written, howMany}
 use Rattle.mixture.specs.Refills.{rowCell, staleCell, Refilled}
-use Rattle.mixture.proofs.ListLaws.{length-written, getD-written, getD-kept, howMany-add, howMany-same}
+use Rattle.mixture.proofs.ListLaws.{never, length-written, getD-written, getD-kept, howMany-add, howMany-same}
 
 -- ---- a writable part, back
 
@@ -276,3 +277,55 @@ refilled-done i w {p} {f} {cells} {marks} {c} {l} {r} a b all = subst (λ (k : �
 pub last-row : (n : ℕ) → (n - 1) * n + n ≤ n * n
 last-row zero = omega arith
 last-row (suc n) = row-end (suc n) (suc n) (suc n - 1) (omega arith)
+
+-- ---- a row with nothing stale
+
+none-many : (n : ℕ) (p : ℕ → Bool) → ((c : ℕ) → c < n → p c ≡ false) → howMany n p ≡ 0
+unfolding howMany
+none-many zero p h = refl
+none-many (suc n) p h = rw (h n (omega arith), none-many n p (λ c b. h c (omega arith)))
+
+pub refilled-fresh : (n : ℕ) (p : ℕ → Bool) (f : ℕ → Float) (cells : List Float) (marks : List ℕ) → ((c : ℕ) → c < n → p c ≡ false) → Refilled n p f cells marks cells marks 0
+refilled-fresh n p f cells marks h =
+    record { worked = sym (written-none _ _ cells nowhere); marked = sym (written-none _ _ marks nowhere); counted = sym (none-many n p h) }
+  where
+    nowhere : (c : ℕ) → among n p c ≡ false
+    nowhere c = elim (le-or n c) [ inl b ↦ among-past n p c b | inr b ↦ among-in n p c b ∙ h c b ]
+
+-- one more mark looked at: it is 1, or the diagonal's
+pub look-more : (i j place : ℕ) (marks : List ℕ) {old new : Bool} → place ≡ j → new ≡ old → (getD marks j 0 ≡ 1) ⊎ (place ≡ i) →
+    (old ≡ true → (k : ℕ) → k < j → (k ≡ i → ⊥) → getD marks k 0 ≡ 1) → new ≡ true → (k : ℕ) → k < j + 1 → (k ≡ i → ⊥) → getD marks k 0 ≡ 1
+look-more i j place marks p q s all e k b ne =
+    below-more (λ k. (k ≡ i → ⊥) → getD marks k 0 ≡ 1) j (all (sym q ∙ e)) (λ not-own. elim s [ inl h ↦ h | inr h ↦ absurd (not-own (sym p ∙ h)) ]) k b ne
+
+-- each mark but the diagonal's is 1, and the diagonal isn't stale
+pub row-fresh : (k : Model) (w i n : ℕ) (marks : List ℕ) → w ≤ n → ((j : ℕ) → j < n → (j ≡ i → ⊥) → getD marks j 0 ≡ 1) → false ≡ staleCell k (getD marks i 0) i i → (j : ℕ) → j < w → staleCell k (getD marks j 0) i j ≡ false
+row-fresh k w i n marks le h own j b =
+    by-place j i (λ c. sym (stale-fresh (getD marks j 0) i j k (h j (omega arith) (λ q. absurd (omega arith))))) (λ q. rw (← q) (sym own)) (λ c. sym (stale-fresh (getD marks j 0) i j k (h j (omega arith) (λ q. absurd (omega arith)))))
+
+from-mark : (l : List ℕ) (s k : ℕ) → s + k < length l → getD (from s l) k 0 ≡ getD l (s + k) 0
+from-mark l s k h = getD-take (length l - s) (drop s l) k 0 (omega arith) ∙ rw getD-drop
+
+-- no rows, one more, all
+module _ (k : Model) (w : ℕ) (marks : List ℕ) where
+  pub rows-none : (c : ℕ) → c < 0 * w → staleCell k (getD marks c 0) (c / w) (c % w) ≡ false
+  rows-none c h = let z : 0 * w ≡ 0 = zero-mul w in absurd (omega arith)
+
+  pub rows-more : (i : ℕ) → i * w + w ≤ length marks → ((c : ℕ) → c < i * w → staleCell k (getD marks c 0) (c / w) (c % w) ≡ false) →
+      ((j : ℕ) → j < w → staleCell k (getD (from (i * w) marks) j 0) i j ≡ false) → (c : ℕ) → c < (i + 1) * w → staleCell k (getD marks c 0) (c / w) (c % w) ≡ false
+  rows-more i room all row c h = elim (le-or (i * w) c) [ inl b ↦ within b | inr b ↦ all c b ]
+    where
+      within : i * w ≤ c → staleCell k (getD marks c 0) (c / w) (c % w) ≡ false
+      within b =
+          let next = row-next w i in
+          let j = c - i * w in
+          let small : j < w = omega arith in
+          let place : c ≡ i * w + j = omega arith in
+          rw (place, cell-row w i j small, cell-column w i j small, ← from-mark marks (i * w) j (omega arith)) (row j small)
+
+  pub rows-done : (i : ℕ) → i ≤ w → w ≤ i → ((c : ℕ) → c < i * w → staleCell k (getD marks c 0) (c / w) (c % w) ≡ false) → (c : ℕ) → c < w * w → staleCell k (getD marks c 0) (c / w) (c % w) ≡ false
+  rows-done i a b all c h = all c (rw (le-antisymm a b) h)
+
+pub unnot : (b : Bool) → not b ≡ false → b ≡ true
+unnot true e = refl
+unnot false e = never e

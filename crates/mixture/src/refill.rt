@@ -1,6 +1,8 @@
 // A query's stale cells: each is worked out from T and its inputs, and marked 1.
 ghost use mathlib.Core.Path.{_≡_};
-ghost use Prim.Native.Nat.{_+_, _*_, _-_, _/_, _%_, _≤_, _<_};
+ghost use mathlib.Core.Bool.{true, false};
+ghost use mathlib.Core.Logic.{_⊎_};
+ghost use Prim.Native.Nat.{ℕ, _+_, _*_, _-_, _/_, _%_, _≤_, _<_};
 ghost use lib.ListN.{length, getD};
 ghost use Rattle.arithmetic.specs.Tables.{from};
 ghost use Rattle.mixture.specs.Refills.{rowCell, staleCell, Refilled};
@@ -38,6 +40,36 @@ fn is_stale(model: Model, mark: u8, i: usize, j: usize) -> bool
     }
 }
 
+// Whether a mark is 1, or stands at the place to be passed over.
+fn passes(mark: u8, place: u8, own: u8) -> bool
+    ensures { λ r. ⌜ (r ≡ true → (mark ≡ 1) ⊎ (place ≡ own)) ⌝ }
+{
+    if mark != 1 {
+        return place == own;
+    }
+    true
+}
+
+// Whether row i, whose marks these are, has no stale cell: one look at all marks side by side, the diagonal's apart.
+fn is_fresh(model: Model, w: usize, i: usize, marks: &[u8]) -> bool
+    requires { ⌜ (i < w) × (w ≤ 32) × (w ≤ length (now marks)) ⌝ }
+    ensures { λ r. ⌜ (r ≡ true → (j : ℕ) → j < w → staleCell model (getD (now (marks .entry)) j 0) i j ≡ false) ⌝ }
+{
+    let own = i as u8;
+    let mut place: u8 = 0;
+    let mut fresh = true;
+    for j in 0..w {
+        if !passes(marks[j], place, own) {
+            fresh = false;
+        }
+        place += 1;
+    }
+    if is_stale(model, marks[i], i, i) {
+        return false;
+    }
+    fresh
+}
+
 // Works out the stale cells of row i, and counts them. All four slices start at that row.
 fn refill_row(
     model: Model,
@@ -64,8 +96,22 @@ fn refill_row(
     count
 }
 
+// Whether no cell is stale; it stops at the first row that has one.
+fn all_fresh(model: Model, w: usize, marks: &[u8]) -> bool
+    requires { ⌜ (w ≤ 32) × (w * w ≤ length (now marks)) ⌝ }
+    ensures { λ r. ⌜ (r ≡ true → (c : ℕ) → c < w * w → staleCell model (getD (now (marks .entry)) c 0) (c / w) (c % w) ≡ false) ⌝ }
+{
+    for i in 0..w {
+        let place = i * w;
+        if !is_fresh(model, w, i, &marks[place..]) {
+            return false;
+        }
+    }
+    true
+}
+
 // Works out every stale cell, row by row, and counts them. Row i of `table` and of `tau` starts at i·stride.
-pub fn refill(
+fn refill_rows(
     model: Model,
     w: usize,
     stride: usize,
@@ -96,4 +142,25 @@ pub fn refill(
         );
     }
     count
+}
+
+// The same, at once where nothing is stale.
+pub fn refill(
+    model: Model,
+    w: usize,
+    stride: usize,
+    table: &[f64],
+    tau: &[f64],
+    t: f64,
+    ln: f64,
+    cells: &mut [f64],
+    marks: &mut [u8],
+) -> usize
+    requires { ⌜ (w ≤ 32) × ((w - 1) * stride + w * 5 ≤ length (now table)) × ((w - 1) * stride + w ≤ length (now tau)) × (w * w ≤ length (now cells)) × (w * w ≤ length (now marks)) ⌝ }
+    ensures { λ r. ⌜ Refilled (w * w) (λ c. staleCell model (getD (now (marks .entry)) c 0) (c / w) (c % w)) (λ c. rowCell model (from (c / w * stride) (now (table .entry))) (from (c / w * stride) (now (tau .entry))) t ln (c / w) (c % w)) (now (cells .entry)) (now (marks .entry)) (now (cells .exit)) (now (marks .exit)) r ⌝ }
+{
+    if all_fresh(model, w, marks) {
+        return 0;
+    }
+    refill_rows(model, w, stride, table, tau, t, ln, cells, marks)
 }

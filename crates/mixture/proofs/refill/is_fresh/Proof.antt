@@ -1,0 +1,84 @@
+use mathlib.Core.Path.{_≡_, refl, sym, ap, _∙_}
+use Prim.Native.Nat.{ℕ, zero, suc, _+_, _*_, _-_, _<_, _≤_}
+use native.Mathlib.Omega.{arith}
+use borrow.Author.Needs.{needs}
+use lib.ListN.{length, getD}
+use mathlib.Core.Bool.{true, false}
+use mathlib.Core.Logic.{⊎-elim}
+use denote.Ref.{now}
+use Rattle.mixture.proofs.ListLaws.{never}
+use Rattle.mixture.proofs.RefillLaws.{look-more, row-fresh, unnot}
+use Rattle.mixture.proofs.refill.is_fresh.Statement.{statement}
+use Rattle.mixture.proofs.refill.is_fresh.Tie as tie
+use Rattle.mixture.proofs.refill.is_fresh.Reads as reads
+use Rattle.mixture.proofs.refill.is_fresh.Lts as lts
+use Rattle.mixture.proofs.refill.is_stale.Reads as is-stale-reads
+use Rattle.mixture.proofs.refill.passes.Reads as passes-reads
+
+abbrev Inv-loop : tie.InvT-loop
+Inv-loop model w i marks own place₀ fresh₀ j₀ place fresh j = (j ≤ w) × (place ≡ j) × (fresh ≡ true → (k : ℕ) → k < j → (k ≡ i → ⊥) → getD marks k 0 ≡ 1)
+
+abbrev μ-loop : tie.MeasureT-loop
+μ-loop model w i marks own place₀ fresh₀ j₀ place fresh j = w - j
+
+cast-own : tie.Need-cast-own Inv-loop μ-loop
+cast-own c = omega arith
+
+loop-holds : tie.Need-loop-holds Inv-loop μ-loop
+loop-holds c = (omega arith, refl, λ e k b ne. absurd (omega arith))
+
+shared-slice-read-passes : tie.Need-shared-slice-read-passes Inv-loop μ-loop
+shared-slice-read-passes c = omega arith
+
+passes-requires : tie.Need-passes-requires Inv-loop μ-loop
+passes-requires c κs = search needs
+
+add-place : tie.Need-add-place Inv-loop μ-loop
+add-place c = omega arith
+
+add-j : tie.Need-add-j Inv-loop μ-loop
+add-j c = omega arith
+
+loop-less : tie.Need-loop-less Inv-loop μ-loop
+loop-less c = omega arith
+
+loop-again : tie.Need-loop-again Inv-loop μ-loop
+loop-again c =
+    let top = c .before .before .before .before in
+    let told = c .before .passes .ensures in
+    let s = c .before .before .before .before .before .before in
+    (omega arith, omega arith, ⊎-elim (λ w. λ e k b ne. never (sym e ∙ w .1)) (λ w. look-more (s .args .i) (top .loop .j) (top .loop .place) (now (s .args .marks)) (top .loop .inv .1) (w .1) (told (unnot _ (w .0 .left))) (top .loop .inv .2)) (c .if1 .came))
+
+shared-slice-read-is-stale : tie.Need-shared-slice-read-is-stale Inv-loop μ-loop
+shared-slice-read-is-stale c = omega arith
+
+is-stale-requires : tie.Need-is-stale-requires Inv-loop μ-loop
+is-stale-requires c κs = search needs
+
+returns : tie.Need-returns Inv-loop μ-loop
+returns c = λ e. never (sym e)
+
+returns-2 : tie.Need-returns-2 Inv-loop μ-loop
+returns-2 c =
+    let top = c .before .before .before .before in
+    let s = c .before .before .before .before .before .before in
+    λ e. row-fresh (s .args .model) (s .args .w) (s .args .i) (top .loop .j) (now (s .args .marks)) (c .before .before .before .loop-test .left) (top .loop .inv .2 e) (sym (c .if2 .left) ∙ c .before .is-stale .ensures)
+
+pub is-fresh-spec : {M : Type 1} → statement M
+is-fresh-spec =
+    tie.close
+    (tie.spec
+    Inv-loop
+    μ-loop
+    cast-own
+    loop-holds
+    shared-slice-read-passes
+    passes-requires
+    add-place
+    add-j
+    loop-less
+    loop-again
+    shared-slice-read-is-stale
+    is-stale-requires
+    returns
+    returns-2)
