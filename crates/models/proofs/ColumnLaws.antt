@@ -63,13 +63,17 @@ upto-either : (n k : ℕ) (old new other : ℕ → Float) → new k ≡ other k 
 unfolding upTo
 upto-either n k old new other e = rw e
 
--- a whole row added, then place i put right, where the row counts as 1
+-- a whole row added by F, then place i put right, where alone G may differ
+pub row-added : (n i : ℕ) (F G : ℕ → Float) (s s′ : List Float) {v : Float} → i < n → n ≤ length s → ((k : ℕ) → (i ≡ k → ⊥) → F k ≡ G k) → v ≡ G i →
+    Filled (upTo n F (at s)) (length s) s′ → length s′ ≡ length s → Filled (upTo n G (at s)) (length s) (set s′ i v)
+row-added n i F G s s′ b h off own all same =
+    filled-put (length s) i (omega arith) (λ k c d. upto-either n k (at s) F G (off k d)) (own ∙ sym (upto-below n G (at s) i b)) all
+
+-- the same where the row counts as 1 at i
 pub unit-added : (n i : ℕ) (w : Float) (row : ℕ → Float) (s s′ : List Float) {v : Float} → i < n → n ≤ length s → v ≡ at s i ⊕ w ⊗ one →
     Filled (upTo n (λ j. at s j ⊕ w ⊗ row j) (at s)) (length s) s′ → length s′ ≡ length s → Filled (upTo n (λ j. at s j ⊕ w ⊗ unitAt i row j) (at s)) (length s) (set s′ i v)
-unit-added n i w row s s′ {v} b h own all same =
-    filled-put (length s) i (omega arith)
-    (λ k c d. upto-either n k (at s) (λ j. at s j ⊕ w ⊗ row j) (λ j. at s j ⊕ w ⊗ unitAt i row j) (ap (λ (z : Float). at s k ⊕ w ⊗ z) (sym (unit-off i k row d))))
-    (own ∙ ap (λ (z : Float). at s i ⊕ w ⊗ z) (sym (unit-on i row)) ∙ sym (upto-below n (λ j. at s j ⊕ w ⊗ unitAt i row j) (at s) i b)) all
+unit-added n i w row s s′ b h own all same =
+    row-added n i _ _ s s′ b h (λ k d. ap (λ (z : Float). at s k ⊕ w ⊗ z) (sym (unit-off i k row d))) (own ∙ ap (λ (z : Float). at s i ⊕ w ⊗ z) (sym (unit-on i row))) all same
 
 -- the row lent as a part gives the table's entry
 pub unit-row : (n : ℕ) (l : List Float) (i j : ℕ) → i * n + n ≤ length l → j < n → unitAt i (at (from (i * n) l)) j ≡ unitDiagonal (grid n l) i j

@@ -6,11 +6,11 @@ use mathlib.Core.Logic.{_⊎_, inl, inr}
 use Prim.Native.Nat.{ℕ, _+_, _*_, _<_, _≤_}
 use native.Mathlib.Omega.{arith}
 use lib.Dec.{eqb}
-use lib.ListN.{length}
-use borrow.Author.Tests.{eqb-false}
+use lib.ListN.{length, set}
+use borrow.Author.Tests.{eq-eqb, ne-eqb, eqb-false}
 use lib.Ieee.{Float}
 use Rattle.arithmetic.specs.Exponential.{expOf}
-use Rattle.arithmetic.specs.Floats.{_⊕_, _⊖_, _⊗_, _⊘_}
+use Rattle.arithmetic.specs.Floats.{_⊕_, _⊖_, _⊗_, _⊘_, +0, one}
 use Rattle.arithmetic.specs.Sums.{sum}
 use Rattle.arithmetic.specs.Parameters.{tdAt}
 use Rattle.arithmetic.specs.Tables.{at, grid, from, Filled, upTo}
@@ -26,7 +26,29 @@ use Rattle.models.specs.Nrtl.{tauAt, tau, numerator, lnGamma, excess, nr
 use Rattle.models.specs.Rows.{OffDiagonal}
 use Rattle.models.specs.Values.{fiveAt, tdGrid, taus, alphas}
 use Rattle.models.proofs.AnswerLaws.{index-ln, index-gamma, quantity-ln, quantity-gamma, quantity-excess, quantity-same}
-use Rattle.models.proofs.ColumnLaws.{unit-row, unit-same, column-same}
+use Rattle.models.proofs.ColumnLaws.{unit-row, unit-same, column-same, unit-on, unit-off, row-added}
+
+-- ---- the diagonal, where G is 1 and τ is 0, put right after a whole row
+
+tau-on : (i : ℕ) (row : ℕ → Float) → tauAt i row i ≡ +0
+unfolding tauAt
+tau-on i row = rw (eq-eqb i i refl)
+
+tau-off : (i k : ℕ) (row : ℕ → Float) → (i ≡ k → ⊥) → tauAt i row k ≡ row k
+unfolding tauAt
+tau-off i k row h = rw (ne-eqb i k h)
+
+pub terms-added : (n i : ℕ) (x : Float) (g t : ℕ → Float) (s s′ : List Float) {v : Float} → i < n → n ≤ length s → v ≡ at s i ⊕ x ⊗ one ⊗ +0 →
+    Filled (upTo n (λ j. at s j ⊕ x ⊗ g j ⊗ t j) (at s)) (length s) s′ → length s′ ≡ length s → Filled (upTo n (λ j. at s j ⊕ x ⊗ unitAt i g j ⊗ tauAt i t j) (at s)) (length s) (set s′ i v)
+terms-added n i x g t s s′ b h own all same =
+    row-added n i _ _ s s′ b h (λ k d. rw (unit-off i k g d, tau-off i k t d)) (own ∙ rw (unit-on i g, tau-on i t)) all same
+
+module _ (x g d u t : ℕ → Float) (i : ℕ) where
+  pub second-off : (k : ℕ) → (i ≡ k → ⊥) → x k ⊗ g k ⊘ d k ⊗ (t k ⊖ u k ⊘ d k) ≡ x k ⊗ unitAt i g k ⊘ d k ⊗ (tauAt i t k ⊖ u k ⊘ d k)
+  second-off k ne = rw (unit-off i k g ne, tau-off i k t ne)
+
+  pub second-on : x i ⊗ one ⊘ d i ⊗ (+0 ⊖ u i ⊘ d i) ≡ x i ⊗ unitAt i g i ⊘ d i ⊗ (tauAt i t i ⊖ u i ⊘ d i)
+  second-on = rw (unit-on i g, tau-on i t)
 
 -- the row lent as a part gives the table's entry
 pub tau-row : (n : ℕ) (l : List Float) (i j : ℕ) → i * n + n ≤ length l → j < n → tauAt i (at (from (i * n) l)) j ≡ tau (grid n l) i j

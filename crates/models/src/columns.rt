@@ -10,17 +10,6 @@ ghost use Rattle.arithmetic.specs.Sums.{sum};
 ghost use Rattle.arithmetic.specs.Tables.{at, grid, Filled, upTo};
 ghost use Rattle.models.specs.Columns.{unitDiagonal, columnSum, unitAt};
 
-// Entry k of a row whose entry i counts as 1.
-pub fn unit_at(row: &[f64], i: usize, k: usize) -> f64
-    requires { ⌜ k < length (now row) ⌝ }
-    ensures { λ r. ⌜ r ≡ unitAt i (at (now (row .entry))) k ⌝ }
-{
-    if i == k {
-        return 1.0;
-    }
-    row[k]
-}
-
 // The sum of the first n terms.
 pub fn sum_to(terms: &[f64], n: usize) -> f64
     requires { ⌜ n ≤ length (now terms) ⌝ }

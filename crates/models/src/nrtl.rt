@@ -76,25 +76,25 @@ fn exponential_table(alpha: &[f64], tau: &[f64], n: usize) -> [f64; 144]
     g
 }
 
-// Entry j of a row of τ, whose entry i counts as 0.
-fn tau_at(row: &[f64], i: usize, j: usize) -> f64
-    requires { ⌜ j < length (now row) ⌝ }
-    ensures { λ r. ⌜ r ≡ tauAt i (at (now (row .entry))) j ⌝ }
-{
-    if i == j {
-        return 0.0;
-    }
-    row[j]
-}
-
-// Adds x·G_ij·τ_ij to sums[j] for each j below n; g and tau are row i of their tables.
-fn add_terms(sums: &mut [f64], x: f64, g: &[f64], tau: &[f64], n: usize, i: usize)
+// Adds x·g[j]·tau[j] to sums[j] for each j below n.
+fn add_products(sums: &mut [f64], x: f64, g: &[f64], tau: &[f64], n: usize)
     requires { ⌜ (n ≤ length (now sums)) × (n ≤ length (now g)) × (n ≤ length (now tau)) ⌝ }
-    ensures { λ _. ⌜ Filled (upTo n (λ j. at (now (sums .entry)) j ⊕ x ⊗ unitAt i (at (now (g .entry))) j ⊗ tauAt i (at (now (tau .entry))) j) (at (now (sums .entry)))) (length (now (sums .entry))) (now (sums .exit)) ⌝ }
+    ensures { λ _. ⌜ Filled (upTo n (λ j. at (now (sums .entry)) j ⊕ x ⊗ at (now (g .entry)) j ⊗ at (now (tau .entry)) j) (at (now (sums .entry)))) (length (now (sums .entry))) (now (sums .exit)) ⌝ }
 {
     for j in 0..n {
-        sums[j] = sums[j] + x * columns::unit_at(g, i, j) * tau_at(tau, i, j);
+        sums[j] = sums[j] + x * g[j] * tau[j];
     }
+}
+
+// Adds x·G_ij·τ_ij to sums[j] for each j below n; g and tau are row i of their tables. The row runs without a test for the
+// diagonal, then place i, where G is 1 and τ is 0, is put right.
+fn add_terms(sums: &mut [f64], x: f64, g: &[f64], tau: &[f64], n: usize, i: usize)
+    requires { ⌜ (n ≤ length (now sums)) × (n ≤ length (now g)) × (n ≤ length (now tau)) × (i < n) ⌝ }
+    ensures { λ _. ⌜ Filled (upTo n (λ j. at (now (sums .entry)) j ⊕ x ⊗ unitAt i (at (now (g .entry))) j ⊗ tauAt i (at (now (tau .entry))) j) (at (now (sums .entry)))) (length (now (sums .entry))) (now (sums .exit)) ⌝ }
+{
+    let own = sums[i] + x * 1.0 * 0.0;
+    add_products(sums, x, g, tau, n);
+    sums[i] = own;
 }
 
 // Σ_m x_m G_mj τ_mj for each j.
@@ -111,16 +111,17 @@ fn numerators(n: usize, tau: &[f64], g: &[f64], x: &[f64]) -> [f64; 12]
 }
 
 // The second sum of ln γ_i; tau and g are row i of their tables, u the numerators and d the
-// denominators.
+// denominators. The terms run without a test for the diagonal, then its own is put right.
 fn second(n: usize, tau: &[f64], g: &[f64], u: &[f64], d: &[f64], x: &[f64], i: usize) -> f64
-    requires { ⌜ (n ≤ length (now tau)) × (n ≤ length (now g)) × (n ≤ length (now u)) × (n ≤ length (now d)) × (n ≤ length (now x)) ⌝ }
+    requires { ⌜ (n ≤ length (now tau)) × (n ≤ length (now g)) × (n ≤ length (now u)) × (n ≤ length (now d)) × (n ≤ length (now x)) × (i < n) × (n ≤ 12) ⌝ }
     ensures { λ r. ⌜ r ≡ sum n (λ j. at (now (x .entry)) j ⊗ unitAt i (at (now (g .entry))) j ⊘ at (now (d .entry)) j ⊗ (tauAt i (at (now (tau .entry))) j ⊖ at (now (u .entry)) j ⊘ at (now (d .entry)) j)) ⌝ }
 {
-    let mut s = 0.0;
+    let mut terms = [0.0; 12];
     for j in 0..n {
-        s = s + x[j] * columns::unit_at(g, i, j) / d[j] * (tau_at(tau, i, j) - u[j] / d[j]);
+        terms[j] = x[j] * g[j] / d[j] * (tau[j] - u[j] / d[j]);
     }
-    s
+    terms[i] = x[i] * 1.0 / d[i] * (0.0 - u[i] / d[i]);
+    columns::sum_to(&terms[..], n)
 }
 
 // ln γ_i, u being the numerators and d the denominators.

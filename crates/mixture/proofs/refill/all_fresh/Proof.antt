@@ -1,3 +1,4 @@
+-- No cell of the rows passed is stale. Assumes nothing.
 use mathlib.Core.Path.{_≡_, refl, sym, ap, _∙_}
 use Prim.Native.Nat.{ℕ, zero, suc, _+_, _*_, _-_, _<_, _≤_}
 use native.Mathlib.Omega.{arith}
@@ -13,9 +14,6 @@ use Rattle.mixture.proofs.ListLaws.{never}
 use Rattle.mixture.proofs.RefillLaws.{rows-none, rows-more, rows-done, unnot}
 use Rattle.mixture.proofs.refill.all_fresh.Statement.{statement}
 use Rattle.mixture.proofs.refill.all_fresh.Tie as tie
-use Rattle.mixture.proofs.refill.all_fresh.Reads as reads
-use Rattle.mixture.proofs.refill.all_fresh.Lts as lts
-use Rattle.mixture.proofs.refill.is_fresh.Reads as is-fresh-reads
 
 abbrev Inv-loop : tie.InvT-loop
 Inv-loop model w marks i₀ i = (i ≤ w) × ((c : ℕ) → c < i * w → staleCell model (getD marks c 0) (c / w) (c % w) ≡ false)

@@ -1,3 +1,4 @@
+-- Each mark passed is 1, but for the diagonal's. Assumes nothing.
 use mathlib.Core.Path.{_≡_, refl, sym, ap, _∙_}
 use Prim.Native.Nat.{ℕ, zero, suc, _+_, _*_, _-_, _<_, _≤_}
 use native.Mathlib.Omega.{arith}
@@ -10,10 +11,6 @@ use Rattle.mixture.proofs.ListLaws.{never}
 use Rattle.mixture.proofs.RefillLaws.{look-more, row-fresh, unnot}
 use Rattle.mixture.proofs.refill.is_fresh.Statement.{statement}
 use Rattle.mixture.proofs.refill.is_fresh.Tie as tie
-use Rattle.mixture.proofs.refill.is_fresh.Reads as reads
-use Rattle.mixture.proofs.refill.is_fresh.Lts as lts
-use Rattle.mixture.proofs.refill.is_stale.Reads as is-stale-reads
-use Rattle.mixture.proofs.refill.passes.Reads as passes-reads
 
 abbrev Inv-loop : tie.InvT-loop
 Inv-loop model w i marks own place₀ fresh₀ j₀ place fresh j = (j ≤ w) × (place ≡ j) × (fresh ≡ true → (k : ℕ) → k < j → (k ≡ i → ⊥) → getD marks k 0 ≡ 1)

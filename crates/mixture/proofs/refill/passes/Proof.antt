@@ -1,3 +1,4 @@
+-- By the test. Assumes nothing.
 use mathlib.Core.Path.{_≡_, refl, sym, ap, _∙_}
 use Prim.Native.Nat.{ℕ, zero, suc, _+_, _*_, _-_, _<_, _≤_}
 use native.Mathlib.Omega.{arith}
@@ -7,8 +8,6 @@ use mathlib.Core.Logic.{inl, inr}
 use borrow.Author.Tests.{eqb-true}
 use Rattle.mixture.proofs.refill.passes.Statement.{statement}
 use Rattle.mixture.proofs.refill.passes.Tie as tie
-use Rattle.mixture.proofs.refill.passes.Reads as reads
-use Rattle.mixture.proofs.refill.passes.Lts as lts
 
 returns : tie.Need-returns
 returns c = λ e. inr (eqb-true _ _ e)

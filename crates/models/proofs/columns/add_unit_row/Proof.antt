@@ -1,3 +1,4 @@
+-- The whole row is added, then place i is put right. Assumes nothing.
 use mathlib.Core.Path.{_≡_, refl, sym, ap, _∙_}
 use Prim.Native.Nat.{ℕ, zero, suc, _+_, _*_, _-_, _<_, _≤_}
 use native.Mathlib.Omega.{arith}
@@ -10,9 +11,6 @@ use Rattle.arithmetic.specs.Tables.{at}
 use Rattle.models.proofs.ColumnLaws.{unit-added}
 use Rattle.models.proofs.columns.add_unit_row.Statement.{statement}
 use Rattle.models.proofs.columns.add_unit_row.Tie as tie
-use Rattle.models.proofs.columns.add_unit_row.Reads as reads
-use Rattle.models.proofs.columns.add_unit_row.Lts as lts
-use Rattle.models.proofs.columns.add_row.Reads as add-row-reads
 
 mul-own : tie.Need-mul-own
 mul-own c = search needs

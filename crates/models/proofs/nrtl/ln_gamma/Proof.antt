@@ -67,7 +67,7 @@ second-requires : tie.Need-second-requires
 second-requires c κs =
     let start = c .before .before .before .before .before .before .before .before .before in
     let at-row = start .args .i * start .args .n in
-    (omega (arith, from-length at-row (now (start .args .tau)), ends start), omega (arith, from-length at-row (now (start .args .g)), ends start), omega arith, omega arith, omega arith)
+    (omega (arith, from-length at-row (now (start .args .tau)), ends start), omega (arith, from-length at-row (now (start .args .g)), ends start), omega arith, omega arith, omega arith, start .pre .1, start .pre .0)
 
 returns : tie.Need-returns
 returns c =

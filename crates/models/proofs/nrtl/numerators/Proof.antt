@@ -81,7 +81,7 @@ add-terms-requires c κs =
     let turn = c .before .before .before .before in
     let start = turn .before .before .before .before .before in
     let at-row = turn .before .loop .i * start .args .n in
-    (omega arith, omega (arith, from-length at-row (now (start .args .g)), ends turn), omega (arith, from-length at-row (now (start .args .tau)), ends turn))
+    (omega arith, omega (arith, from-length at-row (now (start .args .g)), ends turn), omega (arith, from-length at-row (now (start .args .tau)), ends turn), turn .loop-test .taken)
 
 add-i : tie.Need-add-i Inv-loop μ-loop
 add-i c = omega arith

@@ -1,56 +1,70 @@
--- The loop keeps the sum of the terms passed; at its end these are all. Assumes nothing.
-use mathlib.Core.Path.{_≡_, refl, sym, ap, _∙_}
-use Prim.Native.Nat.{ℕ, zero, suc, _+_, _*_, _-_, _<_, _≤_}
+-- The terms are the definition's off the diagonal, whose own is put right; the sum is their fold. Assumes nothing.
+use mathlib.Core.Path.{_≡_, refl, _∙_}
+use Prim.Native.Nat.{_-_, _≤_}
 use native.Mathlib.Omega.{arith}
 use borrow.Author.Needs.{needs}
-use lib.ListN.{length, getD}
-use Rattle.arithmetic.specs.Floats.{_⊖_, _⊗_, _⊘_}
-use Rattle.arithmetic.specs.Sums.{sum}
-use Rattle.arithmetic.specs.Tables.{at}
-use Rattle.arithmetic.proofs.SumLaws.{sum-none, sum-more, sum-done}
-use Rattle.models.specs.Columns.{unitAt}
-use Rattle.models.specs.Nrtl.{tauAt}
+use denote.Ref.{now}
+use lib.ListN.{length, length-set}
+use lib.Ieee.{round, ofBits}
+use Rattle.arithmetic.specs.Floats.{_⊖_, _⊗_, _⊘_, dec, one}
+use Rattle.arithmetic.specs.Tables.{at, Filled}
+use Rattle.arithmetic.proofs.TableLaws.{filled-none, filled-more, filled-less}
+use Rattle.models.proofs.ColumnLaws.{filled-sum, filled-put}
+use Rattle.models.proofs.NrtlLaws.{second-on, second-off}
 use Rattle.models.proofs.nrtl.second.Statement.{statement}
 use Rattle.models.proofs.nrtl.second.Tie as tie
 
 abbrev Inv-loop : tie.InvT-loop
-Inv-loop n tau g u d x i s₀ j₀ s j = (j ≤ n) × (s ≡ sum j (λ j. at x j ⊗ unitAt i (at g) j ⊘ at d j ⊗ (tauAt i (at tau) j ⊖ at u j ⊘ at d j)))
+Inv-loop n tau g u d x i terms₀ j₀ terms j =
+    (j ≤ n) × (length terms ≡ 12) × Filled (λ j. at x j ⊗ at g j ⊘ at d j ⊗ (at tau j ⊖ at u j ⊘ at d j)) j terms
 
 abbrev μ-loop : tie.MeasureT-loop
-μ-loop n tau g u d x i s₀ j₀ s j = n - j
+μ-loop n tau g u d x i terms₀ j₀ terms j = n - j
 
 loop-holds : tie.Need-loop-holds Inv-loop μ-loop
-loop-holds c = (omega arith, sum-none _)
+loop-holds c = (omega arith, refl, filled-none (omega arith))
 
-mul-s : tie.Need-mul-s Inv-loop μ-loop
-mul-s c = omega arith
+mul-terms : tie.Need-mul-terms Inv-loop μ-loop
+mul-terms c = omega arith
 
-shared-slice-read-s : tie.Need-shared-slice-read-s Inv-loop μ-loop
-shared-slice-read-s c = omega arith
+shared-slice-read-terms : tie.Need-shared-slice-read-terms Inv-loop μ-loop
+shared-slice-read-terms c = omega arith
 
-unit-at-requires : tie.Need-unit-at-requires Inv-loop μ-loop
-unit-at-requires c κs = search needs
+mul-terms-2 : tie.Need-mul-terms-2 Inv-loop μ-loop
+mul-terms-2 c = omega arith
 
-mul-s-2 : tie.Need-mul-s-2 Inv-loop μ-loop
-mul-s-2 c = omega arith
+shared-slice-read-terms-2 : tie.Need-shared-slice-read-terms-2 Inv-loop μ-loop
+shared-slice-read-terms-2 c = omega arith
 
-shared-slice-read-s-2 : tie.Need-shared-slice-read-s-2 Inv-loop μ-loop
-shared-slice-read-s-2 c = omega arith
+mul-terms-3 : tie.Need-mul-terms-3 Inv-loop μ-loop
+mul-terms-3 c = omega arith
 
-tau-at-requires : tie.Need-tau-at-requires Inv-loop μ-loop
-tau-at-requires c κs = search needs
+shared-slice-read-terms-3 : tie.Need-shared-slice-read-terms-3 Inv-loop μ-loop
+shared-slice-read-terms-3 c = omega arith
 
-mul-s-3 : tie.Need-mul-s-3 Inv-loop μ-loop
-mul-s-3 c = omega arith
+mul-terms-4 : tie.Need-mul-terms-4 Inv-loop μ-loop
+mul-terms-4 c = omega arith
 
-shared-slice-read-s-3 : tie.Need-shared-slice-read-s-3 Inv-loop μ-loop
-shared-slice-read-s-3 c = omega arith
+shared-slice-read-terms-4 : tie.Need-shared-slice-read-terms-4 Inv-loop μ-loop
+shared-slice-read-terms-4 c = omega arith
 
-mul-s-4 : tie.Need-mul-s-4 Inv-loop μ-loop
-mul-s-4 c = omega arith
+mul-terms-5 : tie.Need-mul-terms-5 Inv-loop μ-loop
+mul-terms-5 c = omega arith
 
-shared-slice-read-s-4 : tie.Need-shared-slice-read-s-4 Inv-loop μ-loop
-shared-slice-read-s-4 c = omega arith
+shared-slice-read-terms-5 : tie.Need-shared-slice-read-terms-5 Inv-loop μ-loop
+shared-slice-read-terms-5 c = omega arith
+
+mul-terms-6 : tie.Need-mul-terms-6 Inv-loop μ-loop
+mul-terms-6 c = omega arith
+
+shared-slice-read-terms-6 : tie.Need-shared-slice-read-terms-6 Inv-loop μ-loop
+shared-slice-read-terms-6 c = omega arith
+
+mul-terms-7 : tie.Need-mul-terms-7 Inv-loop μ-loop
+mul-terms-7 c = omega arith
+
+array-write-terms : tie.Need-array-write-terms Inv-loop μ-loop
+array-write-terms c = omega arith
 
 add-j : tie.Need-add-j Inv-loop μ-loop
 add-j c = omega arith
@@ -59,10 +73,58 @@ loop-less : tie.Need-loop-less Inv-loop μ-loop
 loop-less c = omega arith
 
 loop-again : tie.Need-loop-again Inv-loop μ-loop
-loop-again c = (omega arith, sum-more _ _ (c .before .before .before .before .before .before .before .loop .inv .1) (rw (c .before .before .tau-at .ensures, c .before .before .before .before .unit-at .ensures)))
+loop-again c =
+    let top = c .before .before .before .before .before .before .before in
+    (omega arith, simp length-set (top .loop .inv .1), filled-more (omega arith) (omega arith) (top .loop .inv .2) refl)
+
+mul-terms-8 : tie.Need-mul-terms-8 Inv-loop μ-loop
+mul-terms-8 c = omega arith
+
+shared-slice-read-terms-7 : tie.Need-shared-slice-read-terms-7 Inv-loop μ-loop
+shared-slice-read-terms-7 c = omega arith
+
+mul-terms-9 : tie.Need-mul-terms-9 Inv-loop μ-loop
+mul-terms-9 c = omega arith
+
+shared-slice-read-terms-8 : tie.Need-shared-slice-read-terms-8 Inv-loop μ-loop
+shared-slice-read-terms-8 c = omega arith
+
+mul-terms-10 : tie.Need-mul-terms-10 Inv-loop μ-loop
+mul-terms-10 c = omega arith
+
+shared-slice-read-terms-9 : tie.Need-shared-slice-read-terms-9 Inv-loop μ-loop
+shared-slice-read-terms-9 c = omega arith
+
+mul-terms-11 : tie.Need-mul-terms-11 Inv-loop μ-loop
+mul-terms-11 c = omega arith
+
+shared-slice-read-terms-10 : tie.Need-shared-slice-read-terms-10 Inv-loop μ-loop
+shared-slice-read-terms-10 c = omega arith
+
+mul-terms-12 : tie.Need-mul-terms-12 Inv-loop μ-loop
+mul-terms-12 c = omega arith
+
+array-write-terms-2 : tie.Need-array-write-terms-2 Inv-loop μ-loop
+array-write-terms-2 c = omega (arith, c .before .before .before .before .before .loop .inv .1, c .before .before .before .before .before .before .before .before .before .before .before .pre .5, c .before .before .before .before .before .before .before .before .before .before .before .pre .6)
+
+slice-aggregate-sum-to : tie.Need-slice-aggregate-sum-to Inv-loop μ-loop
+slice-aggregate-sum-to c = search needs
+
+sum-to-requires : tie.Need-sum-to-requires Inv-loop μ-loop
+sum-to-requires c κs = simp length-set (omega (arith, c .before .before .before .before .before .before .loop .inv .1, c .before .before .before .before .before .before .before .before .before .before .before .before .pre .6))
 
 returns : tie.Need-returns Inv-loop μ-loop
-returns c = search (sum-done, needs)
+unfolding one dec round ofBits
+returns c =
+    let top = c .before .before .before .before .before .before .before in
+    let s = c .before .before .before .before .before .before .before .before .before .before .before .before .before in
+    let a = s .args in
+    let all = filled-less (c .before .before .before .before .before .before .loop-test .left) (top .loop .inv .2) in
+    c .sum-to .ensures
+    ∙ filled-sum _ _ _
+    (filled-put (a .n) (a .i) (omega (arith, top .loop .inv .1, s .pre .5, s .pre .6))
+    (λ k b ne. second-off (at (now (a .x))) (at (now (a .g))) (at (now (a .d))) (at (now (a .u))) (at (now (a .tau))) (a .i) k ne)
+    (second-on (at (now (a .x))) (at (now (a .g))) (at (now (a .d))) (at (now (a .u))) (at (now (a .tau))) (a .i)) all)
 
 pub second-spec : {M : Type 1} → statement M
 second-spec =
@@ -71,17 +133,33 @@ second-spec =
     Inv-loop
     μ-loop
     loop-holds
-    mul-s
-    shared-slice-read-s
-    unit-at-requires
-    mul-s-2
-    shared-slice-read-s-2
-    tau-at-requires
-    mul-s-3
-    shared-slice-read-s-3
-    mul-s-4
-    shared-slice-read-s-4
+    mul-terms
+    shared-slice-read-terms
+    mul-terms-2
+    shared-slice-read-terms-2
+    mul-terms-3
+    shared-slice-read-terms-3
+    mul-terms-4
+    shared-slice-read-terms-4
+    mul-terms-5
+    shared-slice-read-terms-5
+    mul-terms-6
+    shared-slice-read-terms-6
+    mul-terms-7
+    array-write-terms
     add-j
     loop-less
     loop-again
+    mul-terms-8
+    shared-slice-read-terms-7
+    mul-terms-9
+    shared-slice-read-terms-8
+    mul-terms-10
+    shared-slice-read-terms-9
+    mul-terms-11
+    shared-slice-read-terms-10
+    mul-terms-12
+    array-write-terms-2
+    slice-aggregate-sum-to
+    sum-to-requires
     returns)

@@ -1,3 +1,4 @@
+-- The quotients are filled in place by place; the sum is their fold. Assumes nothing.
 use mathlib.Core.Path.{_≡_, refl, sym, ap, _∙_}
 use Prim.Native.Nat.{ℕ, zero, suc, _+_, _*_, _-_, _<_, _≤_}
 use native.Mathlib.Omega.{arith}
@@ -10,9 +11,6 @@ use Rattle.arithmetic.specs.Floats.{_⊗_, _⊘_}
 use Rattle.models.proofs.ColumnLaws.{filled-sum}
 use Rattle.models.proofs.unifac.row_sum.Statement.{statement}
 use Rattle.models.proofs.unifac.row_sum.Tie as tie
-use Rattle.models.proofs.unifac.row_sum.Reads as reads
-use Rattle.models.proofs.unifac.row_sum.Lts as lts
-use Rattle.models.proofs.columns.sum_to.Reads as sum-to-reads
 
 abbrev Inv-loop : tie.InvT-loop
 Inv-loop theta row denom ng terms₀ m₀ terms m = (m ≤ ng) × (length terms ≡ 32) × Filled (λ m. at theta m ⊗ at row m ⊘ at denom m) m terms

@@ -1,3 +1,4 @@
+-- The quotients are the definition's off the diagonal, whose own is put right; the sum is their fold. Assumes nothing.
 use mathlib.Core.Path.{_≡_, refl, sym, ap, _∙_}
 use Prim.Native.Nat.{ℕ, zero, suc, _+_, _*_, _-_, _<_, _≤_}
 use native.Mathlib.Omega.{arith}
@@ -12,10 +13,6 @@ use Rattle.arithmetic.specs.Floats.{_⊗_, _⊘_, dec, one}
 use Rattle.models.proofs.ColumnLaws.{filled-sum, filled-put, unit-on, unit-off}
 use Rattle.models.proofs.uniquac.residual.Statement.{statement}
 use Rattle.models.proofs.uniquac.residual.Tie as tie
-use Rattle.models.proofs.uniquac.residual.Reads as reads
-use Rattle.models.proofs.uniquac.residual.Lts as lts
-use Rattle.arithmetic.proofs.log.Reads as log-reads
-use Rattle.models.proofs.columns.sum_to.Reads as sum-to-reads
 
 abbrev Inv-loop : tie.InvT-loop
 Inv-loop n q row theta sums i terms₀ j₀ terms j = (j ≤ n) × (length terms ≡ 12) × Filled (λ j. at theta j ⊗ at row j ⊘ at sums j) j terms

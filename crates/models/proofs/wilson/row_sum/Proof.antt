@@ -1,3 +1,4 @@
+-- The terms are the definition's off the diagonal, whose own is put right; the sum is their fold. Assumes nothing.
 use mathlib.Core.Path.{_≡_, refl, sym, ap, _∙_}
 use Prim.Native.Nat.{ℕ, zero, suc, _+_, _*_, _-_, _<_, _≤_}
 use native.Mathlib.Omega.{arith}
@@ -14,9 +15,6 @@ use Rattle.models.proofs.ColumnLaws.{filled-sum, filled-put}
 use Rattle.models.proofs.WilsonLaws.{lambda-on, lambda-off}
 use Rattle.models.proofs.wilson.row_sum.Statement.{statement}
 use Rattle.models.proofs.wilson.row_sum.Tie as tie
-use Rattle.models.proofs.wilson.row_sum.Reads as reads
-use Rattle.models.proofs.wilson.row_sum.Lts as lts
-use Rattle.models.proofs.columns.sum_to.Reads as sum-to-reads
 
 abbrev Inv-loop : tie.InvT-loop
 Inv-loop n v row x i terms₀ own j₀ terms j = (j ≤ n) × (length terms ≡ 12) × Filled (λ j. at x j ⊗ (at v j ⊘ own ⊗ at row j)) j terms

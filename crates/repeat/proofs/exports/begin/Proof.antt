@@ -1,3 +1,4 @@
+-- T and fractions after a load, by the calls' own definitions. Assumes nothing.
 use mathlib.Core.Path.{_≡_, refl, sym, ap, _∙_}
 use Prim.Native.Nat.{ℕ, zero, suc, _+_, _*_, _-_, _<_, _≤_}
 use native.Mathlib.Omega.{arith}
@@ -6,10 +7,6 @@ use lib.ListN.{length, getD}
 use Rattle.repeat.proofs.ExportLaws.{begun-is}
 use Rattle.repeat.proofs.exports.begin.Statement.{statement}
 use Rattle.repeat.proofs.exports.begin.Tie as tie
-use Rattle.repeat.proofs.exports.begin.Reads as reads
-use Rattle.repeat.proofs.exports.begin.Lts as lts
-use Rattle.mixture.proofs.fractions.fractions.Reads as fractions-reads
-use Rattle.mixture.proofs.set.set.Reads as set-reads
 
 set-requires : tie.Need-set-requires
 set-requires c κs = search needs

@@ -1,3 +1,4 @@
+-- After k turns memory and last reply are those of the definition; at the end these are all. Assumes nothing.
 use mathlib.Core.Path.{_≡_, refl, sym, ap, _∙_}
 use Prim.Native.Nat.{ℕ, zero, suc, _+_, _*_, _-_, _<_, _≤_}
 use native.Mathlib.Omega.{arith}
@@ -10,12 +11,6 @@ use Rattle.repeat.specs.Exports.{settingOf, turns}
 use Rattle.repeat.proofs.ExportLaws.{turns-none, turns-more, turns-done}
 use Rattle.repeat.proofs.exports.keep.Statement.{statement}
 use Rattle.repeat.proofs.exports.keep.Tie as tie
-use Rattle.repeat.proofs.exports.keep.Reads as reads
-use Rattle.repeat.proofs.exports.keep.Lts as lts
-use Rattle.arithmetic.proofs.bytes.float_at.Reads as float-at-reads
-use Rattle.repeat.proofs.exports.setting_of.Reads as setting-of-reads
-use Rattle.repeat.proofs.exports.turn_at.Reads as turn-at-reads
-use Rattle.repeat.proofs.exports.value_of.Reads as value-of-reads
 
 abbrev Inv-loop : tie.InvT-loop
 Inv-loop values₀ cells₀ marks₀ change model v q temperatures last₀ k₀ k-end values cells marks last k =

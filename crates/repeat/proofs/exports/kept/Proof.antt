@@ -1,3 +1,4 @@
+-- The calls one after another are the definition's. Assumes nothing.
 use mathlib.Core.Path.{_≡_, refl, sym, ap, _∙_}
 use Prim.Native.Nat.{ℕ, zero, suc, _+_, _*_, _-_, _<_, _≤_}
 use native.Mathlib.Omega.{arith}
@@ -8,13 +9,6 @@ use Rattle.arithmetic.specs.Bytes.{floatAt}
 use Rattle.repeat.proofs.ExportLaws.{kept-is}
 use Rattle.repeat.proofs.exports.kept.Statement.{statement}
 use Rattle.repeat.proofs.exports.kept.Tie as tie
-use Rattle.repeat.proofs.exports.kept.Reads as reads
-use Rattle.repeat.proofs.exports.kept.Lts as lts
-use Rattle.arithmetic.proofs.bytes.float_at.Reads as float-at-reads
-use Rattle.repeat.proofs.exports.begin.Reads as begin-reads
-use Rattle.repeat.proofs.exports.keep.Reads as keep-reads
-use Rattle.repeat.proofs.exports.load_anew.Reads as load-anew-reads
-use Rattle.mixture.proofs.head.bare_head.Reads as bare-head-reads
 
 bare-head-requires : tie.Need-bare-head-requires
 bare-head-requires c κs = search needs

@@ -1,3 +1,4 @@
+-- The three cases that give 0, and else the decoded values. Assumes nothing.
 use mathlib.Core.Path.{_≡_, refl, sym, ap, _∙_}
 use Prim.Native.Nat.{ℕ, zero, suc, _+_, _*_, _-_, _<_, _≤_}
 use native.Mathlib.Omega.{arith}
@@ -9,12 +10,6 @@ use Rattle.repeat.specs.Exports.{repeatedBytes}
 use Rattle.repeat.proofs.ExportLaws.{bytes-are}
 use Rattle.repeat.proofs.exports.kiltgrit_repeat.Statement.{statement}
 use Rattle.repeat.proofs.exports.kiltgrit_repeat.Tie as tie
-use Rattle.repeat.proofs.exports.kiltgrit_repeat.Reads as reads
-use Rattle.repeat.proofs.exports.kiltgrit_repeat.Lts as lts
-use Rattle.arithmetic.proofs.bytes.fill_floats.Reads as fill-floats-reads
-use Rattle.repeat.proofs.exports.quantity_of.Reads as quantity-of-reads
-use Rattle.repeat.proofs.exports.repeat.Reads as repeat-reads
-use Rattle.mixture.proofs.faults.model_of.Reads as model-of-reads
 
 returns : tie.Need-returns
 unfolding repeatedBytes ofBits

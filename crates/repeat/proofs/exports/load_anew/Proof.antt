@@ -1,3 +1,4 @@
+-- An opening and then a load, by the calls' own definitions. Assumes nothing.
 use mathlib.Core.Path.{_≡_, refl, sym, ap, _∙_}
 use Prim.Native.Nat.{ℕ, zero, suc, _+_, _*_, _-_, _<_, _≤_}
 use native.Mathlib.Omega.{arith}
@@ -6,10 +7,6 @@ use lib.ListN.{length, getD}
 use Rattle.repeat.proofs.ExportLaws.{loaded-anew}
 use Rattle.repeat.proofs.exports.load_anew.Statement.{statement}
 use Rattle.repeat.proofs.exports.load_anew.Tie as tie
-use Rattle.repeat.proofs.exports.load_anew.Reads as reads
-use Rattle.repeat.proofs.exports.load_anew.Lts as lts
-use Rattle.mixture.proofs.load.load.Reads as load-reads
-use Rattle.mixture.proofs.open.open.Reads as open-reads
 
 open-requires : tie.Need-open-requires
 open-requires c κs = search needs

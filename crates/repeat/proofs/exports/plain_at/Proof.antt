@@ -1,3 +1,4 @@
+-- Each model's plain call. Assumes nothing.
 use mathlib.Core.Path.{_≡_, refl, sym, ap, _∙_}
 use Prim.Native.Nat.{ℕ, zero, suc, _+_, _*_, _-_, _<_, _≤_}
 use native.Mathlib.Omega.{arith}
@@ -7,13 +8,6 @@ use Rattle.mixture.specs.Plain.{plainCall}
 use Rattle.repeat.specs.Exports.{plainValue}
 use Rattle.repeat.proofs.exports.plain_at.Statement.{statement}
 use Rattle.repeat.proofs.exports.plain_at.Tie as tie
-use Rattle.repeat.proofs.exports.plain_at.Reads as reads
-use Rattle.repeat.proofs.exports.plain_at.Lts as lts
-use Rattle.repeat.proofs.exports.plain_value.Reads as plain-value-reads
-use Rattle.models.proofs.nrtl.plain.Reads as nrtl-plain-reads
-use Rattle.models.proofs.unifac.plain.Reads as unifac-plain-reads
-use Rattle.models.proofs.uniquac.plain.Reads as uniquac-plain-reads
-use Rattle.models.proofs.wilson.plain.Reads as wilson-plain-reads
 
 enum-told : tie.Need-enum-told
 enum-told c = search needs

@@ -1,3 +1,4 @@
+-- After k turns the last value is that of turn k - 1. Assumes nothing.
 use mathlib.Core.Path.{_≡_, refl, sym, ap, _∙_}
 use Prim.Native.Nat.{ℕ, zero, suc, _+_, _*_, _-_, _<_, _≤_}
 use native.Mathlib.Omega.{arith}
@@ -13,10 +14,6 @@ use Rattle.repeat.specs.Exports.{plainValue, plainTurns}
 use Rattle.repeat.proofs.ExportLaws.{plain-none, plain-more, plain-done}
 use Rattle.repeat.proofs.exports.plain_each.Statement.{statement}
 use Rattle.repeat.proofs.exports.plain_each.Tie as tie
-use Rattle.repeat.proofs.exports.plain_each.Reads as reads
-use Rattle.repeat.proofs.exports.plain_each.Lts as lts
-use Rattle.arithmetic.proofs.bytes.float_at.Reads as float-at-reads
-use Rattle.repeat.proofs.exports.plain_at.Reads as plain-at-reads
 
 abbrev Inv-loop : tie.InvT-loop
 Inv-loop model n ng lens groups given temperatures x q last₀ k₀ k-end last k = (k ≤ length temperatures / 8) × (last ≡ plainTurns k (record { model = model; n = n; ng = ng; lens = lens; groups = groups; values = given }) x q (λ j. floatAt temperatures (8 * j)))

@@ -1,3 +1,4 @@
+-- By the answer's case. Assumes nothing.
 use mathlib.Core.Path.{_≡_, refl, sym, ap, _∙_}
 use Prim.Native.Nat.{ℕ, zero, suc, _+_, _*_, _-_, _<_, _≤_}
 use native.Mathlib.Omega.{arith}
@@ -7,8 +8,6 @@ use lib.Ieee.{ofBits}
 use Rattle.repeat.specs.Exports.{plainValue}
 use Rattle.repeat.proofs.exports.plain_value.Statement.{statement}
 use Rattle.repeat.proofs.exports.plain_value.Tie as tie
-use Rattle.repeat.proofs.exports.plain_value.Reads as reads
-use Rattle.repeat.proofs.exports.plain_value.Lts as lts
 
 enum-known-a : tie.Need-enum-known-a
 enum-known-a c = search needs

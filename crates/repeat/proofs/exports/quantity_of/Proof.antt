@@ -1,3 +1,4 @@
+-- The two tests in the definition's order. Assumes nothing.
 use mathlib.Core.Path.{_≡_, refl, sym, ap, _∙_}
 use Prim.Native.Nat.{ℕ, zero, suc, _+_, _*_, _-_, _<_, _≤_}
 use native.Mathlib.Omega.{arith}
@@ -7,8 +8,6 @@ use borrow.Author.Tests.{eq-eqb, ne-eqb}
 use Rattle.repeat.specs.Exports.{quantityOf}
 use Rattle.repeat.proofs.exports.quantity_of.Statement.{statement}
 use Rattle.repeat.proofs.exports.quantity_of.Tie as tie
-use Rattle.repeat.proofs.exports.quantity_of.Reads as reads
-use Rattle.repeat.proofs.exports.quantity_of.Lts as lts
 
 returns : tie.Need-returns
 unfolding quantityOf

@@ -1,3 +1,4 @@
+-- The plain calls, or the mixture. Assumes nothing.
 use mathlib.Core.Path.{_≡_, refl, sym, ap, _∙_}
 use Prim.Native.Nat.{ℕ, zero, suc, _+_, _*_, _-_, _<_, _≤_}
 use native.Mathlib.Omega.{arith}
@@ -6,10 +7,6 @@ use lib.ListN.{length, getD}
 use Rattle.repeat.proofs.ExportLaws.{repeated-plain, repeated-kept}
 use Rattle.repeat.proofs.exports.repeat.Statement.{statement}
 use Rattle.repeat.proofs.exports.repeat.Tie as tie
-use Rattle.repeat.proofs.exports.repeat.Reads as reads
-use Rattle.repeat.proofs.exports.repeat.Lts as lts
-use Rattle.repeat.proofs.exports.kept.Reads as kept-reads
-use Rattle.repeat.proofs.exports.plain_each.Reads as plain-each-reads
 
 plain-each-requires : tie.Need-plain-each-requires
 plain-each-requires c κs = search needs

@@ -1,3 +1,4 @@
+-- A setting and then a query, by the calls' own definitions. Assumes nothing.
 use mathlib.Core.Path.{_≡_, refl, sym, ap, _∙_}
 use Prim.Native.Nat.{ℕ, zero, suc, _+_, _*_, _-_, _<_, _≤_}
 use native.Mathlib.Omega.{arith}
@@ -6,10 +7,6 @@ use lib.ListN.{length, getD}
 use Rattle.repeat.proofs.ExportLaws.{set-asked}
 use Rattle.repeat.proofs.exports.set_and_ask.Statement.{statement}
 use Rattle.repeat.proofs.exports.set_and_ask.Tie as tie
-use Rattle.repeat.proofs.exports.set_and_ask.Reads as reads
-use Rattle.repeat.proofs.exports.set_and_ask.Lts as lts
-use Rattle.mixture.proofs.query.query.Reads as query-reads
-use Rattle.mixture.proofs.set.set.Reads as set-reads
 
 set-requires : tie.Need-set-requires
 set-requires c κs = search needs

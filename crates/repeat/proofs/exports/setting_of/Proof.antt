@@ -1,3 +1,4 @@
+-- The test, then the model's case. Assumes nothing.
 use mathlib.Core.Path.{_≡_, refl, sym, ap, _∙_}
 use Prim.Native.Nat.{ℕ, zero, suc, _+_, _*_, _-_, _<_, _≤_}
 use native.Mathlib.Omega.{arith}
@@ -8,8 +9,6 @@ use borrow.Author.Tests.{eq-eqb, ne-eqb}
 use Rattle.repeat.specs.Exports.{settingOf}
 use Rattle.repeat.proofs.exports.setting_of.Statement.{statement}
 use Rattle.repeat.proofs.exports.setting_of.Tie as tie
-use Rattle.repeat.proofs.exports.setting_of.Reads as reads
-use Rattle.repeat.proofs.exports.setting_of.Lts as lts
 
 returns : tie.Need-returns
 unfolding settingOf

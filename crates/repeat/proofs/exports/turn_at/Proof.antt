@@ -1,3 +1,4 @@
+-- A query alone, or after a setting. Assumes nothing.
 use mathlib.Core.Path.{_≡_, refl, sym, ap, _∙_}
 use Prim.Native.Nat.{ℕ, zero, suc, _+_, _*_, _-_, _<_, _≤_}
 use native.Mathlib.Omega.{arith}
@@ -6,10 +7,6 @@ use lib.ListN.{length, getD}
 use Rattle.repeat.proofs.ExportLaws.{turn-none, turn-set}
 use Rattle.repeat.proofs.exports.turn_at.Statement.{statement}
 use Rattle.repeat.proofs.exports.turn_at.Tie as tie
-use Rattle.repeat.proofs.exports.turn_at.Reads as reads
-use Rattle.repeat.proofs.exports.turn_at.Lts as lts
-use Rattle.repeat.proofs.exports.set_and_ask.Reads as set-and-ask-reads
-use Rattle.mixture.proofs.query.query.Reads as query-reads
 
 query-requires : tie.Need-query-requires
 query-requires c κs = search needs

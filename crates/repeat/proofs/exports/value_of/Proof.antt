@@ -1,3 +1,4 @@
+-- By the answer's case. Assumes nothing.
 use mathlib.Core.Path.{_≡_, refl, sym, ap, _∙_}
 use Prim.Native.Nat.{ℕ, zero, suc, _+_, _*_, _-_, _<_, _≤_}
 use native.Mathlib.Omega.{arith}
@@ -7,8 +8,6 @@ use lib.Ieee.{ofBits}
 use Rattle.repeat.specs.Exports.{valueOf}
 use Rattle.repeat.proofs.exports.value_of.Statement.{statement}
 use Rattle.repeat.proofs.exports.value_of.Tie as tie
-use Rattle.repeat.proofs.exports.value_of.Reads as reads
-use Rattle.repeat.proofs.exports.value_of.Lts as lts
 
 enum-told : tie.Need-enum-told
 enum-told c = search needs

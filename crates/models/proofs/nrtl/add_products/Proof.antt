@@ -1,0 +1,82 @@
+-- Each turn adds one column's term; the places from n on stay. Assumes nothing.
+use mathlib.Core.Path.{_≡_, refl}
+use Prim.Native.Nat.{_-_, _≤_}
+use native.Mathlib.Nat.{le-antisymm}
+use native.Mathlib.Omega.{arith}
+use lib.ListN.{length-set, length}
+use Rattle.arithmetic.specs.Tables.{at, Filled, upTo}
+use Rattle.arithmetic.specs.Floats.{_⊕_, _⊗_}
+use Rattle.arithmetic.proofs.TableLaws.{upto-none, upto-more, upto-next}
+use Rattle.models.proofs.nrtl.add_products.Statement.{statement}
+use Rattle.models.proofs.nrtl.add_products.Tie as tie
+
+abbrev Inv-loop : tie.InvT-loop
+Inv-loop sums₀ x g tau n j₀ sums j = (j ≤ n) × (length sums ≡ length sums₀) × Filled (upTo j (λ j. at sums₀ j ⊕ x ⊗ at g j ⊗ at tau j) (at sums₀)) (length sums₀) sums
+
+abbrev μ-loop : tie.MeasureT-loop
+μ-loop sums₀ x g tau n j₀ sums j = n - j
+
+loop-holds : tie.Need-loop-holds Inv-loop μ-loop
+loop-holds c = (omega arith, refl, upto-none _ _ _)
+
+mul-sums : tie.Need-mul-sums Inv-loop μ-loop
+mul-sums c = omega arith
+
+slice-read-sums : tie.Need-slice-read-sums Inv-loop μ-loop
+slice-read-sums c = omega arith
+
+mul-sums-2 : tie.Need-mul-sums-2 Inv-loop μ-loop
+mul-sums-2 c = omega arith
+
+shared-slice-read-sums : tie.Need-shared-slice-read-sums Inv-loop μ-loop
+shared-slice-read-sums c = omega arith
+
+mul-sums-3 : tie.Need-mul-sums-3 Inv-loop μ-loop
+mul-sums-3 c = omega arith
+
+shared-slice-read-sums-2 : tie.Need-shared-slice-read-sums-2 Inv-loop μ-loop
+shared-slice-read-sums-2 c = omega arith
+
+mul-sums-4 : tie.Need-mul-sums-4 Inv-loop μ-loop
+mul-sums-4 c = omega arith
+
+slice-write-sums : tie.Need-slice-write-sums Inv-loop μ-loop
+slice-write-sums c = omega arith
+
+add-j : tie.Need-add-j Inv-loop μ-loop
+add-j c = omega arith
+
+loop-less : tie.Need-loop-less Inv-loop μ-loop
+loop-less c = omega arith
+
+loop-again : tie.Need-loop-again Inv-loop μ-loop
+loop-again c =
+    let top = c .before .before .before .before in
+    (omega arith, simp length-set (top .loop .inv .1), upto-more _ _ _ _ (omega arith) (rw (upto-next _ _ _ _ (omega arith) (top .loop .inv .2))) (top .loop .inv .2))
+
+same-length : tie.Need-same-length Inv-loop μ-loop
+same-length c = c .before .loop .inv .1
+
+returns : tie.Need-returns Inv-loop μ-loop
+returns c = rw (← le-antisymm (c .before .loop .inv .0) (c .loop-test .left)) (c .before .loop .inv .2)
+
+pub add-products-spec : {M : Type 1} → statement M
+add-products-spec =
+    tie.close
+    (tie.spec
+    Inv-loop
+    μ-loop
+    loop-holds
+    mul-sums
+    slice-read-sums
+    mul-sums-2
+    shared-slice-read-sums
+    mul-sums-3
+    shared-slice-read-sums-2
+    mul-sums-4
+    slice-write-sums
+    add-j
+    loop-less
+    loop-again
+    same-length
+    returns)
