@@ -292,11 +292,14 @@ refilled-fresh n p f cells marks h =
     nowhere : (c : ℕ) → among n p c ≡ false
     nowhere c = elim (le-or n c) [ inl b ↦ among-past n p c b | inr b ↦ among-in n p c b ∙ h c b ]
 
+pub both-none : (a b : ℕ) → a + b ≡ 0 → (a ≡ 0) × (b ≡ 0)
+both-none a b e = (omega arith, omega arith)
+
 -- one more mark looked at: it is 1, or the diagonal's
-pub look-more : (i j place : ℕ) (marks : List ℕ) {old new : Bool} → place ≡ j → new ≡ old → (getD marks j 0 ≡ 1) ⊎ (place ≡ i) →
-    (old ≡ true → (k : ℕ) → k < j → (k ≡ i → ⊥) → getD marks k 0 ≡ 1) → new ≡ true → (k : ℕ) → k < j + 1 → (k ≡ i → ⊥) → getD marks k 0 ≡ 1
-look-more i j place marks p q s all e k b ne =
-    below-more (λ k. (k ≡ i → ⊥) → getD marks k 0 ≡ 1) j (all (sym q ∙ e)) (λ not-own. elim s [ inl h ↦ h | inr h ↦ absurd (not-own (sym p ∙ h)) ]) k b ne
+pub look-more : (i j place : ℕ) (marks : List ℕ) → place ≡ j → (getD marks j 0 ≡ 1) ⊎ (place ≡ i) → ((k : ℕ) → k < j → (k ≡ i → ⊥) → getD marks k 0 ≡ 1) →
+    (k : ℕ) → k < j + 1 → (k ≡ i → ⊥) → getD marks k 0 ≡ 1
+look-more i j place marks p s all k b ne =
+    below-more (λ k. (k ≡ i → ⊥) → getD marks k 0 ≡ 1) j all (λ not-own. elim s [ inl h ↦ h | inr h ↦ absurd (not-own (sym p ∙ h)) ]) k b ne
 
 -- each mark but the diagonal's is 1, and the diagonal isn't stale
 pub row-fresh : (k : Model) (w i n : ℕ) (marks : List ℕ) → w ≤ n → ((j : ℕ) → j < n → (j ≡ i → ⊥) → getD marks j 0 ≡ 1) → false ≡ staleCell k (getD marks i 0) i i → (j : ℕ) → j < w → staleCell k (getD marks j 0) i j ≡ false

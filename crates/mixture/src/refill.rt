@@ -40,34 +40,34 @@ fn is_stale(model: Model, mark: u8, i: usize, j: usize) -> bool
     }
 }
 
-// Whether a mark is 1, or stands at the place to be passed over.
-fn passes(mark: u8, place: u8, own: u8) -> bool
-    ensures { λ r. ⌜ (r ≡ true → (mark ≡ 1) ⊎ (place ≡ own)) ⌝ }
+// 0 where a mark is 1 or stands at the place to be passed over, else 1.
+fn look(mark: u8, place: u8, own: u8) -> u8
+    ensures { λ r. ⌜ (r ≤ 1) × (r ≡ 0 → (mark ≡ 1) ⊎ (place ≡ own)) ⌝ }
 {
     if mark != 1 {
-        return place == own;
+        if place != own {
+            return 1;
+        }
     }
-    true
+    0
 }
 
-// Whether row i, whose marks these are, has no stale cell: one look at all marks side by side, the diagonal's apart.
+// Whether row i, whose marks these are, has no stale cell: they are looked at side by side, a byte a lane, the diagonal's apart.
 fn is_fresh(model: Model, w: usize, i: usize, marks: &[u8]) -> bool
     requires { ⌜ (i < w) × (w ≤ 32) × (w ≤ length (now marks)) ⌝ }
     ensures { λ r. ⌜ (r ≡ true → (j : ℕ) → j < w → staleCell model (getD (now (marks .entry)) j 0) i j ≡ false) ⌝ }
 {
     let own = i as u8;
     let mut place: u8 = 0;
-    let mut fresh = true;
+    let mut others: u8 = 0;
     for j in 0..w {
-        if !passes(marks[j], place, own) {
-            fresh = false;
-        }
+        others += look(marks[j], place, own);
         place += 1;
     }
     if is_stale(model, marks[i], i, i) {
         return false;
     }
-    fresh
+    others == 0
 }
 
 // Works out the stale cells of row i, and counts them. All four slices start at that row.
