@@ -1,5 +1,5 @@
 //! The exported call that the benchmark measures, in a safe wrapper. Nothing checks the declaration against the
-//! Rattle source (crates/mixture/src/exports.rt). A slice of bytes passes as a pointer and then its length.
+//! Rattle source (crates/repeat/src/exports.rt). A slice of bytes passes as a pointer and then its length.
 
 use crate::bench_inputs::{Case, Quantity, NRTL, UNIFAC};
 
