@@ -74,6 +74,15 @@ impl Strips {
         drawn
     }
 
+    /// One of the bits, if there are any.
+    fn one_of(&mut self, bits: u32) -> u32 {
+        let places: Vec<u32> = (0..32).filter(|k| bits >> k & 1 == 1).collect();
+        match places.len() {
+            0 => 0,
+            n => 1 << places[self.below(n)],
+        }
+    }
+
     /// The word at one of the places, if there are any, without the bits of `clear`, with those of `set`, and with some of `some`.
     fn turn(&mut self, bytes: &mut [u8], places: &[usize], clear: u32, set: u32, some: u32) {
         if places.is_empty() {
@@ -82,7 +91,10 @@ impl Strips {
         let place = places[self.below(places.len())];
         let word = &mut bytes[place..place + 4];
         let old = u32::from_le_bytes([word[0], word[1], word[2], word[3]]);
-        let more = self.random.bits() as u32 & some;
+        let more = match self.below(2) {
+            0 => self.random.bits() as u32 & some,
+            _ => self.one_of(some),
+        };
         word.copy_from_slice(&(old & !clear | set | more).to_le_bytes());
     }
 
@@ -112,7 +124,8 @@ impl Strips {
             }
             4 => {
                 let places = of(bytes, &[11]);
-                self.turn(bytes, &places, 0, 0, 0xFC00);
+                let j = [3, 3 + self.below(253)][self.below(2)] as u32;
+                self.turn(bytes, &places, 0xFF00, j << 8, 0);
             }
             5 => put_head(bytes, 11, 1 + self.below(255), 2),
             6 => self.turn(bytes, &drawn.listed, 0xF << 28, 0, 0xF << 28),

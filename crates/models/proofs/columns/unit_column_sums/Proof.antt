@@ -1,3 +1,4 @@
+-- Row after row is added: before each turn every sum has the terms of the rows passed.
 use mathlib.Core.Path.{_≡_, refl, sym, ap, _∙_}
 use Prim.Native.Nat.{ℕ, zero, suc, _+_, _*_, _-_, _<_, _≤_}
 use native.Mathlib.Omega.{arith}

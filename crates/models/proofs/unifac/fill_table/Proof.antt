@@ -1,3 +1,4 @@
+-- Ψ by full rows, each written through the part of the table that starts there; log(T) is worked out once.
 use mathlib.Core.Path.{_≡_, refl, _∙_}
 use Prim.Native.Nat.{_+_, _*_, _-_, _≤_}
 use native.Mathlib.Nat.{mul-le-mul, mul-le-mul-right}
@@ -14,8 +15,6 @@ use Rattle.models.specs.Exponentials.{groupEnergy}
 use Rattle.models.proofs.UnifacLaws.{table-more}
 use Rattle.models.proofs.unifac.fill_table.Statement.{statement}
 use Rattle.models.proofs.unifac.fill_table.Tie as tie
-
--- Ψ by full rows, each written through the part of the table that starts there; log(T) is worked out once.
 
 abbrev Inv-loop : tie.InvT-loop
 Inv-loop values t ng table₀ ln m₀ table m = (m ≤ ng) × (length table ≡ length table₀) × Filled (flat ng (groupEnergy (λ m k. tdAt (groupAs ng values m k) t) t)) (m * ng) table

@@ -1,11 +1,10 @@
+-- The fractions of the groups in the mixture, then Θ, then ln Γ.
 use borrow.Author.Needs.{needs}
 use Rattle.models.specs.Unifac as Unifac
 use Rattle.models.proofs.ListLaws.{listed-wider}
 use Rattle.models.proofs.UnifacLaws.{groups-from}
 use Rattle.models.proofs.unifac.mixed.Statement.{statement}
 use Rattle.models.proofs.unifac.mixed.Tie as tie
-
--- The fractions of the groups in the mixture, then Θ, then ln Γ.
 
 group-fractions-requires : tie.Need-group-fractions-requires
 group-fractions-requires c κs = let start = c .before .before .before .before .before .before in (listed-wider (start .pre .0) 32 (start .pre .2), start .pre .1, start .pre .5, start .pre .2)

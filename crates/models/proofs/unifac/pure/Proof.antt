@@ -1,11 +1,10 @@
+-- The fractions of the groups in pure i, then Θ, then ln Γ.
 use borrow.Author.Needs.{needs}
 use Rattle.models.specs.Unifac as Unifac
 use Rattle.models.proofs.ListLaws.{listed-wider}
 use Rattle.models.proofs.UnifacLaws.{groups-from}
 use Rattle.models.proofs.unifac.pure.Statement.{statement}
 use Rattle.models.proofs.unifac.pure.Tie as tie
-
--- The fractions of the groups in pure i, then Θ, then ln Γ.
 
 group-fractions-pure-requires : tie.Need-group-fractions-pure-requires
 group-fractions-pure-requires c κs = let start = c .before .before .before .before .before in (listed-wider (start .pre .0) 32 (start .pre .2), start .pre .1, start .pre .2)
