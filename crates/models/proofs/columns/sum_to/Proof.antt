@@ -2,11 +2,10 @@
 use Rattle.arithmetic.specs.Sums.{sum}
 use Rattle.arithmetic.specs.Tables.{at}
 use Rattle.arithmetic.proofs.SumLaws.{sum-none, sum-more, sum-done}
-use mathlib.Core.Path.{_≡_, refl, sym, ap, _∙_}
-use Prim.Native.Nat.{ℕ, zero, suc, _+_, _*_, _-_, _<_, _≤_}
+use mathlib.Core.Path.{_≡_, refl}
+use Prim.Native.Nat.{_-_, _≤_}
 use native.Mathlib.Omega.{arith}
 use borrow.Author.Needs.{needs}
-use lib.ListN.{length, getD}
 use Rattle.models.proofs.columns.sum_to.Statement.{statement}
 use Rattle.models.proofs.columns.sum_to.Tie as tie
 

@@ -1,9 +1,9 @@
 -- Row after row is added: before each turn every sum has the terms of the rows passed.
-use mathlib.Core.Path.{_≡_, refl, sym, ap, _∙_}
-use Prim.Native.Nat.{ℕ, zero, suc, _+_, _*_, _-_, _<_, _≤_}
+use mathlib.Core.Path.{_≡_, refl, ap, _∙_}
+use Prim.Native.Nat.{ℕ, _+_, _*_, _-_, _≤_}
 use native.Mathlib.Omega.{arith}
 use borrow.Author.Needs.{needs}
-use lib.ListN.{length, getD}
+use lib.ListN.{length}
 use denote.Ref.{now}
 use lib.Ieee.{Float}
 use native.Mathlib.Nat.{mul-le-mul}
@@ -11,13 +11,10 @@ use Rattle.arithmetic.specs.Floats.{_⊗_}
 use Rattle.arithmetic.specs.Sums.{sum}
 use Rattle.arithmetic.specs.Tables.{at, grid, Filled}
 use Rattle.arithmetic.proofs.TableLaws.{row-end, from-length}
-use Rattle.models.specs.Columns.{unitAt, unitDiagonal, columnSum}
+use Rattle.models.specs.Columns.{unitDiagonal, columnSum}
 use Rattle.models.proofs.ColumnLaws.{columns-none, columns-more, columns-done, unit-row}
 use Rattle.models.proofs.columns.unit_column_sums.Statement.{statement}
 use Rattle.models.proofs.columns.unit_column_sums.Tie as tie
-use Rattle.models.proofs.columns.unit_column_sums.Reads as reads
-use Rattle.models.proofs.columns.unit_column_sums.Lts as lts
-use Rattle.models.proofs.columns.add_unit_row.Reads as add-unit-row-reads
 
 abbrev Inv-loop : tie.InvT-loop
 Inv-loop n table w sums₀ i₀ sums i = (i ≤ n) × (length sums ≡ 12) × Filled (λ j. sum i (λ k. at w k ⊗ unitDiagonal (grid n table) k j)) n sums

@@ -1,6 +1,5 @@
 -- The check with 1e-6: the code's literal is the definition's decimal. Assumes nothing.
 use lib.Ieee.{round, ofBits}
-use borrow.Author.Needs.{needs}
 use Rattle.arithmetic.specs.Floats.{dec}
 use Rattle.models.specs.Composition.{tolerance}
 use Rattle.models.proofs.composition.check_composition.Statement.{statement}

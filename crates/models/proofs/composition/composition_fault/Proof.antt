@@ -1,6 +1,5 @@
 -- An empty composition, or the fault of its sum. Assumes nothing.
 use mathlib.Core.Path.{_∙_, ap}
-use borrow.Author.Needs.{needs}
 use borrow.Author.Tests.{eq-eqb, ne-eqb}
 use Rattle.models.specs.Composition.{compositionFault, sumFault}
 use Rattle.models.proofs.composition.composition_fault.Statement.{statement}

@@ -1,9 +1,7 @@
 -- By the case of the answer. Assumes nothing.
-use mathlib.Core.Path.{_≡_, refl, sym, ap, _∙_}
-use Prim.Native.Nat.{ℕ, zero, suc, _+_, _*_, _-_, _<_, _≤_}
-use native.Mathlib.Omega.{arith}
+use mathlib.Core.Path.{refl}
+use Prim.Native.Nat.{_-_}
 use borrow.Author.Needs.{needs}
-use lib.ListN.{length, getD}
 use Rattle.models.specs.Answers.{numberOf}
 use Rattle.models.specs.Exports.{left}
 use Rattle.models.proofs.exports.give.Statement.{statement}

@@ -1,9 +1,5 @@
 -- The call's answer, given as a number and a value. Assumes nothing.
-use mathlib.Core.Path.{_≡_, refl, sym, ap, _∙_}
-use Prim.Native.Nat.{ℕ, zero, suc, _+_, _*_, _-_, _<_, _≤_}
-use native.Mathlib.Omega.{arith}
-use borrow.Author.Needs.{needs}
-use lib.ListN.{length, getD}
+use Prim.Native.Nat.{_-_}
 use denote.Ref.{now}
 use Rattle.models.proofs.ExportLaws.{given-as}
 use Rattle.models.proofs.exports.kiltgrit_gamma.Statement.{statement}

@@ -1,9 +1,5 @@
 -- The model's own value, by its number; a load that passed has one of the four. Assumes nothing.
-use mathlib.Core.Path.{_≡_, refl, sym, ap, _∙_}
-use Prim.Native.Nat.{ℕ, zero, suc, _+_, _*_, _-_, _<_, _≤_}
-use native.Mathlib.Omega.{arith}
-use borrow.Author.Needs.{needs}
-use lib.ListN.{length, getD}
+use Prim.Native.Nat.{_-_}
 use denote.Ref.{now}
 use Rattle.arithmetic.specs.Tables.{at}
 use Rattle.models.proofs.ExportLaws.{value-wilson, value-uniquac, value-nrtl, value-unifac}

@@ -2,7 +2,6 @@
 use mathlib.Core.Path.{sym, _∙_}
 use native.Mathlib.Omega.{arith}
 use borrow.Author.Tests.{eq-eqb, ne-eqb}
-use borrow.Author.Needs.{needs}
 use Rattle.models.specs.Plain.{fractionsFault}
 use Rattle.models.proofs.AnswerLaws.{first-left, first-right}
 use Rattle.models.proofs.faults.fractions_fault.Statement.{statement}

@@ -1,5 +1,4 @@
 -- The first of the shape's fault and the fractions'; a 0 has passed both. Assumes nothing.
-use borrow.Author.Needs.{needs}
 use Rattle.models.proofs.AnswerLaws.{first-left, first-right}
 use Rattle.models.proofs.faults.plain_fault.Statement.{statement}
 use Rattle.models.proofs.faults.plain_fault.Tie as tie

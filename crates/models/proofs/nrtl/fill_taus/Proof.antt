@@ -1,14 +1,12 @@
 -- Each turn writes one entry; log(T) is worked out before the loop. Assumes nothing.
-use mathlib.Core.Path.{_≡_, refl, sym, ap, _∙_}
-use Prim.Native.Nat.{ℕ, zero, suc, _+_, _*_, _-_, _<_, _≤_}
+use mathlib.Core.Path.{_≡_, refl, sym, _∙_}
+use Prim.Native.Nat.{_+_, _*_, _-_, _≤_}
 use native.Mathlib.Omega.{arith}
 use borrow.Author.Needs.{needs}
-use lib.ListN.{length, getD}
+use lib.ListN.{length}
 use native.Mathlib.Nat.{le-antisymm, mul-le-mul}
 use lib.ListN.{length-set}
-use lib.Ieee.{Float}
-use Rattle.arithmetic.specs.Logarithm.{logOf}
-use Rattle.arithmetic.specs.Parameters.{tdAt, tdBy}
+use Rattle.arithmetic.specs.Parameters.{tdAt}
 use Rattle.arithmetic.specs.Tables.{at, Filled, upTo}
 use Rattle.arithmetic.proofs.TableLaws.{upto-none, upto-more}
 use Rattle.models.specs.Values.{fiveAt, nrtlSize}

@@ -1,18 +1,13 @@
 -- The first term by the sums given, the second over the rows that start at i. Assumes nothing.
-use mathlib.Core.Path.{_≡_, refl, sym, ap, _∙_}
-use Prim.Native.Nat.{ℕ, zero, suc, _+_, _*_, _-_, _<_, _≤_}
+use Prim.Native.Nat.{_+_, _*_, _-_, _≤_}
 use native.Mathlib.Omega.{arith}
 use borrow.Author.Needs.{needs}
-use lib.ListN.{length, getD}
+use lib.ListN.{length}
 use denote.Ref.{now}
 use native.Mathlib.Nat.{mul-le-mul}
-use lib.Ieee.{Float}
-use Rattle.arithmetic.specs.Floats.{_⊕_, _⊖_, _⊗_, _⊘_}
 use Rattle.arithmetic.specs.Sums.{sum}
-use Rattle.arithmetic.specs.Tables.{at, grid, Filled}
+use Rattle.arithmetic.specs.Tables.{at}
 use Rattle.arithmetic.proofs.TableLaws.{row-end, from-length}
-use Rattle.models.specs.Columns.{unitAt, unitDiagonal}
-use Rattle.models.specs.Nrtl.{tauAt}
 use Rattle.models.proofs.NrtlLaws.{second-rows}
 use Rattle.models.proofs.nrtl.ln_gamma.Statement.{statement}
 use Rattle.models.proofs.nrtl.ln_gamma.Tie as tie

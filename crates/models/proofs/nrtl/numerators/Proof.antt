@@ -1,17 +1,17 @@
 -- Each turn adds one row to every column; at the end the rows are all. Assumes nothing.
-use mathlib.Core.Path.{_≡_, refl, sym, ap, _∙_}
-use Prim.Native.Nat.{ℕ, zero, suc, _+_, _*_, _-_, _<_, _≤_}
+use mathlib.Core.Path.{_≡_, refl, _∙_}
+use Prim.Native.Nat.{ℕ, _+_, _*_, _-_, _≤_}
 use native.Mathlib.Omega.{arith}
 use borrow.Author.Needs.{needs}
-use lib.ListN.{length, getD}
+use lib.ListN.{length}
 use denote.Ref.{now}
 use native.Mathlib.Nat.{mul-le-mul}
 use lib.Ieee.{Float}
-use Rattle.arithmetic.specs.Floats.{_⊖_, _⊗_, _⊘_}
+use Rattle.arithmetic.specs.Floats.{_⊗_}
 use Rattle.arithmetic.specs.Sums.{sum}
 use Rattle.arithmetic.specs.Tables.{at, grid, Filled}
 use Rattle.arithmetic.proofs.TableLaws.{row-end, from-length}
-use Rattle.models.specs.Columns.{unitAt, unitDiagonal}
+use Rattle.models.specs.Columns.{unitDiagonal}
 use Rattle.models.specs.Nrtl.{numerator}
 use Rattle.models.specs.Nrtl as Nrtl
 use Rattle.models.proofs.ColumnLaws.{columns-none, columns-more, columns-done, unit-row}

@@ -1,9 +1,8 @@
 -- The size, worked out for n within range alone. Assumes nothing.
-use mathlib.Core.Path.{_≡_, refl, sym, ap, _∙_}
-use Prim.Native.Nat.{ℕ, zero, suc, _+_, _*_, _-_, _<_, _≤_}
+use mathlib.Core.Path.{refl}
+use Prim.Native.Nat.{_-_}
 use native.Mathlib.Omega.{arith}
 use borrow.Author.Needs.{needs}
-use lib.ListN.{length, getD}
 use native.Mathlib.Nat.{mul-le-mul}
 use Rattle.models.specs.Values.{nrtlSize}
 use Rattle.models.proofs.nrtl.size.Statement.{statement}

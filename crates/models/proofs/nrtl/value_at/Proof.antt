@@ -1,9 +1,9 @@
 -- τ at T fills its table, and G its own off the diagonal: equal entries, equal answers. Assumes nothing.
-use mathlib.Core.Path.{_≡_, refl, sym, ap, _∙_}
-use Prim.Native.Nat.{ℕ, zero, suc, _+_, _*_, _-_, _<_, _≤_}
+use mathlib.Core.Path.{_∙_}
+use Prim.Native.Nat.{_*_, _-_, _≤_}
 use native.Mathlib.Omega.{arith}
 use borrow.Author.Needs.{needs}
-use lib.ListN.{length, getD}
+use lib.ListN.{length}
 use native.Mathlib.Nat.{mul-le-mul}
 use denote.Ref.{now}
 use Rattle.arithmetic.proofs.TableLaws.{from-length}

@@ -1,9 +1,7 @@
 -- The sums once, then the quantity asked for, by the laws that hoist them. Assumes nothing.
-use mathlib.Core.Path.{_≡_, refl, sym, ap, _∙_}
-use Prim.Native.Nat.{ℕ, zero, suc, _+_, _*_, _-_, _<_, _≤_}
+use Prim.Native.Nat.{_-_}
 use native.Mathlib.Omega.{arith}
 use borrow.Author.Needs.{needs}
-use lib.ListN.{length, getD}
 use denote.Ref.{now}
 use Rattle.arithmetic.specs.Tables.{at, grid}
 use Rattle.models.proofs.AnswerLaws.{index-ln, index-gamma}

@@ -1,9 +1,7 @@
 -- Each field is the place that the definition names. Assumes nothing.
-use mathlib.Core.Path.{_≡_, refl, sym, ap, _∙_}
-use Prim.Native.Nat.{ℕ, zero, suc, _+_, _*_, _-_, _<_, _≤_}
-use native.Mathlib.Omega.{arith}
+use mathlib.Core.Path.{refl}
+use Prim.Native.Nat.{_-_}
 use borrow.Author.Needs.{needs}
-use lib.ListN.{length, getD}
 use Rattle.models.specs.Values.{fiveAt}
 use Rattle.models.proofs.parameters.five_at.Statement.{statement}
 use Rattle.models.proofs.parameters.five_at.Tie as tie

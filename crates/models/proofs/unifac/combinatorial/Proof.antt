@@ -1,6 +1,5 @@
 -- The combinatorial term, operation by operation as the definition has it.
 use lib.Ieee.{ofBits, round}
-use borrow.Author.Needs.{needs}
 use Rattle.arithmetic.specs.Floats.{one, dec}
 use Rattle.models.specs.Unifac.{combinatorialBy, five}
 use Rattle.models.proofs.unifac.combinatorial.Statement.{statement}

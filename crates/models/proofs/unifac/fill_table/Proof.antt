@@ -6,7 +6,6 @@ use native.Mathlib.Omega.{arith}
 use denote.Ref.{now}
 use lib.ListN.{length}
 use borrow.Rule.Slice.PartMut.{same-len-mid}
-use borrow.Author.Needs.{needs}
 use Rattle.arithmetic.specs.Tables.{flat, Filled}
 use Rattle.arithmetic.specs.Parameters.{tdAt}
 use Rattle.arithmetic.proofs.TableLaws.{row-end, from-length, filled-none, filled-less}

@@ -1,5 +1,4 @@
 -- The quantity from what the components share, which is worked out once.
-use mathlib.Core.Path.{_∙_}
 use native.Mathlib.Omega.{arith}
 use borrow.Author.Needs.{needs}
 use Rattle.models.proofs.UnifacLaws.{listed-same, unifac-ln, unifac-gamma, unifac-excess}

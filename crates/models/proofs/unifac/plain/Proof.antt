@@ -1,6 +1,5 @@
 -- The first fault, or the value where there is none.
 use native.Mathlib.Omega.{arith}
-use borrow.Author.Needs.{needs}
 use Rattle.models.specs.Plain.{unifacPlain}
 use Rattle.models.proofs.AnswerLaws.{answer-refused, answer-value, first-left, first-right}
 use Rattle.models.proofs.unifac.plain.Statement.{statement}

@@ -1,6 +1,5 @@
 -- The definition's own steps, with what log and l give. Assumes nothing.
 use lib.Ieee.{round, ofBits}
-use borrow.Author.Needs.{needs}
 use Rattle.arithmetic.specs.Floats.{dec, half}
 use Rattle.models.specs.Uniquac.{Z}
 use Rattle.models.proofs.uniquac.combinatorial.Statement.{statement}

@@ -5,7 +5,6 @@ use native.Mathlib.Omega.{arith}
 use denote.Ref.{now}
 use lib.Ieee.{round, ofBits}
 use lib.ListN.{length}
-use borrow.Author.Needs.{needs}
 use Rattle.arithmetic.specs.Floats.{_⊗_, _⊘_, dec, one}
 use Rattle.arithmetic.specs.Sums.{sum}
 use Rattle.arithmetic.specs.Tables.{at, grid}
