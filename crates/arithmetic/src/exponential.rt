@@ -1,11 +1,14 @@
 // exp on every f64.
 ghost use mathlib.Core.Path.{_≡_};
 ghost use mathlib.Core.Bool.{not, _&&_};
+ghost use Prim.Native.Nat.{_≤_};
 ghost use lib.Dec.{T};
 ghost use lib.IntN.{ℤ, pos, negsuc};
 ghost use lib.Signed.{leZ};
 ghost use lib.Ieee.{lt, isNan};
+ghost use lib.ListN.{length};
 ghost use Rattle.arithmetic.specs.Floats.{two^};
+ghost use Rattle.arithmetic.specs.Tables.{at, Filled, upTo};
 ghost use Rattle.arithmetic.specs.Exponential.{expOf, highest, lowest};
 ghost use Rattle.arithmetic.specs.Exponential.{exponent as Exp·exponent, correction as Exp·correction, reduced as Exp·reduced, scaled as Exp·scaled};
 
@@ -42,6 +45,16 @@ pub fn exp(v: f64) -> f64
     }
     let k = exponent(v);
     scaled(reduced(v, k), k)
+}
+
+// Puts exp of each of the first n places there.
+pub fn exp_each(a: &mut [f64], n: usize)
+    requires { ⌜ n ≤ length (now a) ⌝ }
+    ensures { λ _. ⌜ Filled (upTo n (λ k. expOf (at (now (a .entry)) k)) (at (now (a .entry)))) (length (now (a .entry))) (now (a .exit)) ⌝ }
+{
+    for k in 0..n {
+        a[k] = exp(a[k]);
+    }
 }
 
 // k: v over ln 2, to the nearest whole number.

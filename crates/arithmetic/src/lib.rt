@@ -8,6 +8,7 @@ pub mod parameters;
 pub mod sums;
 
 pub use exponential::exp;
+pub use exponential::exp_each;
 pub use logarithm::log;
 pub use parameters::TdParam;
 pub use sums::dot;
