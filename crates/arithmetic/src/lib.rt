@@ -10,6 +10,7 @@ pub mod sums;
 pub use exponential::exp;
 pub use exponential::exp_each;
 pub use logarithm::log;
+pub use logarithm::log_each;
 pub use parameters::TdParam;
 pub use sums::dot;
 pub use sums::sum;

@@ -1,6 +1,8 @@
 // log on every f64.
 ghost use mathlib.Core.Path.{_≡_};
 ghost use Prim.Native.Nat.{_^_, _≤_, _<_};
+ghost use lib.ListN.{length};
+ghost use Rattle.arithmetic.specs.Tables.{at, Filled, upTo};
 ghost use Rattle.arithmetic.specs.Logarithm.{logOf, logBy};
 ghost use Rattle.arithmetic.specs.Logarithm.{remainder as Log·remainder};
 ghost use Rattle.arithmetic.specs.Digits.{fromDigits};
@@ -44,6 +46,16 @@ pub fn log(v: f64) -> f64
         return from_digits(b << (z - 11), 64 - z);
     }
     from_digits(b % 0x10_0000_0000_0000 + 0x10_0000_0000_0000, x + 52)
+}
+
+// Puts log of each of the first n places there.
+pub fn log_each(a: &mut [f64], n: usize)
+    requires { ⌜ n ≤ length (now a) ⌝ }
+    ensures { λ _. ⌜ Filled (upTo n (λ k. logOf (at (now (a .entry)) k)) (at (now (a .entry)))) (length (now (a .entry))) (now (a .exit)) ⌝ }
+{
+    for k in 0..n {
+        a[k] = log(a[k]);
+    }
 }
 
 // log of q·2^-53·2^(x - 1074), q being the number's 53 digits, of which the highest is 1.
