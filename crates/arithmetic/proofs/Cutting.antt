@@ -1,12 +1,10 @@
 -- What exp's k is cut from is below 1493 in size. Assumes nothing.
-use mathlib.Core.Path.{_≡_, refl, sym, ap, _∙_, subst}
-use mathlib.Core.Bool.{Bool, true, false, not, _&&_, cond}
-use Prim.Native.Nat.{ℕ, _+_, _*_, _≤_, _<_}
+use mathlib.Core.Bool.{Bool, true, false, not, cond}
+use Prim.Native.Nat.{_*_, _≤_}
 use native.Mathlib.Omega.{arith}
-use lib.Dec.{T, ltb, nltb→le, lit≤}
-use lib.IntN.{ℤ, pos, negsuc}
-use lib.Ieee.{Float, nan, inf, fin, binary64, up, down, lt, isNan, add, mul, ofBits, neg, round}
-use lib.Ieee.Fits.{and-l, and-r}
+use lib.Dec.{T, nltb→le, lit≤}
+use lib.IntN.{pos}
+use lib.Ieee.{Float, nan, inf, fin, up, down, lt, isNan, neg, round}
 use Rattle.arithmetic.specs.Floats.{_⊕_, _⊗_, dec, half}
 use Rattle.arithmetic.specs.Exponential.{highest, lowest, reciprocal, rounding}
 use Rattle.arithmetic.proofs.Within.{Within, mul-within, add-within}
@@ -26,7 +24,7 @@ in-range (fin false m e) h =
     let a : m * up e * 8796093022208 ≤ 6243314768165359 * 1 * down e = nltb→le (6243314768165359 * 1 * down e) (m * up e * 8796093022208) (h .1) in
     omega arith
 
-reciprocal-within : Within 2 reciprocal
+pub reciprocal-within : Within 2 reciprocal
 unfolding reciprocal dec round
 reciprocal-within = lit≤ tt
 

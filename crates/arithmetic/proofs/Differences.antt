@@ -1,12 +1,12 @@
 -- Differences of two natural numbers as integers, and the float that 53 digits and an exponent stand for. Assumes nothing.
-use mathlib.Core.Path.{_≡_, refl, sym, ap, _∙_, subst}
+use mathlib.Core.Path.{_≡_, refl, ap, _∙_}
 use mathlib.Core.Logic.{_⊎_, inl, inr}
-use mathlib.Core.Bool.{Bool, true, false, not, cond}
-use Prim.Native.Nat.{ℕ, zero, suc, _+_, _-_, _*_, _/_, _%_, _^_, _≤_, _<_}
+use mathlib.Core.Bool.{Bool, true, false, not}
+use Prim.Native.Nat.{ℕ, zero, suc, _+_, _-_, _*_, _^_, _≤_, _<_}
 use native.Mathlib.Omega.{arith}
-use lib.Dec.{T, leb, ltb, eqb}
-use lib.IntN.{ℤ, pos, negsuc, negℤ, _+ℤ_, _-ℤ_}
-use lib.Ieee.{Float, fin, binary64, minus, ofBits, ofFields, odd, isNan, nanBits}
+use lib.Dec.{T, leb}
+use lib.IntN.{pos, negsuc, negℤ, _+ℤ_, _-ℤ_}
+use lib.Ieee.{binary64, minus, ofBits, odd, isNan, nanBits}
 use lib.Ieee.Bits.{nanBits-is}
 use borrow.Author.Tests.{lt-leb, le-leb, le-ltb, lt-ltb, leb-true, leb-false}
 use mir.Syntax.{w64}

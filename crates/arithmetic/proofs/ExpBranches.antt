@@ -1,10 +1,10 @@
 -- Which line of `expOf` holds, by the tests that led there. Assumes nothing.
-use mathlib.Core.Path.{_≡_, refl, sym, ap, _∙_, subst}
-use mathlib.Core.Bool.{Bool, true, false, not, _&&_}
+use mathlib.Core.Path.{_≡_, refl, sym, subst}
+use mathlib.Core.Bool.{true, false, _&&_}
 use lib.Dec.{T}
-use lib.IntN.{ℤ, pos, negsuc}
-use lib.Ieee.{Float, nan, inf, fin, binary64, lt, le, ne, isNan}
-use lib.Ieee.Compare.{differs-from-itself, nan-differs}
+use lib.IntN.{pos, negsuc}
+use lib.Ieee.{Float, nan, inf, fin, lt, le, ne, isNan}
+use lib.Ieee.Compare.{differs-from-itself}
 use Rattle.arithmetic.specs.Floats.{_⊕_, one}
 use Rattle.arithmetic.proofs.AbsLaws.{abs-le}
 use Rattle.arithmetic.specs.Exponential.{expOf, highest, lowest, scaled, reduced, exponent}

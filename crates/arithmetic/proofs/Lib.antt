@@ -11,3 +11,6 @@ pub mod LogBranches
 pub mod Splitting
 pub mod WorkedValues
 pub mod ByteLaws
+pub mod Rounding
+pub mod Nearest
+pub mod EasyExp

@@ -1,7 +1,7 @@
 -- Which line of `logOf` holds, by the tests that led there. Assumes nothing.
-use mathlib.Core.Path.{_≡_, refl, sym, ap, _∙_, subst}
-use mathlib.Core.Bool.{Bool, true, false, not, _||_, true≢false}
-use lib.IntN.{ℤ, pos, negsuc}
+use mathlib.Core.Path.{_≡_, refl, sym}
+use mathlib.Core.Bool.{true, false, true≢false}
+use lib.IntN.{pos}
 use lib.Ieee.{Float, nan, inf, fin, lt, eq, isNan}
 use Rattle.arithmetic.specs.Floats.{one}
 use Rattle.arithmetic.specs.Logarithm.{logOf, logBy, significand, binade}

@@ -1,19 +1,19 @@
 -- 2 ^ k as a float, by its bit pattern, and the sums of i64 on the way. Assumes nothing.
-use mathlib.Core.Path.{_≡_, refl, sym, ap, _∙_, subst}
-use mathlib.Core.Bool.{Bool, true, false, not, _&&_, cond, true≢false}
-use Prim.Native.Nat.{ℕ, zero, suc, _+_, _-_, _*_, _/_, _%_, _^_, _≤_, _<_}
+use mathlib.Core.Path.{_≡_, refl, sym, ap, _∙_}
+use mathlib.Core.Bool.{Bool, true, false, _&&_, true≢false}
+use Prim.Native.Nat.{ℕ, suc, _+_, _-_, _*_, _/_, _%_, _^_, _≤_, _<_}
 use native.Mathlib.Omega.{arith}
-use lib.Dec.{T, leb, ltb, eqb, leb→le, ltb→lt, le→leb}
+use lib.Dec.{T, leb, leb→le, le→leb}
 use lib.IntN.{ℤ, pos, negsuc, _+ℤ_, _-ℤ_, natAbs}
-use lib.Signed.{leZ, ltZ, mag}
+use lib.Signed.{leZ, ltZ}
 use lib.Count.{trailingZeros}
-use lib.Ieee.{Float, fin, binary64, top, hid, minus, ofBits, ofFields, odd, nanBits}
-use lib.Ieee.Fits.{and-l, and-r, and-i}
+use lib.Ieee.{Float, fin, binary64, top, hid, minus, ofBits, ofFields, odd}
+use lib.Ieee.Fits.{and-l, and-i}
 use borrow.Author.Tests.{lt-leb, le-leb, ne-eqb, le-ltb, lt-ltb, ltb-true, ltb-false}
 use Rattle.arithmetic.specs.Floats.{_⊗_, two^}
 use Rattle.arithmetic.specs.Exponential.{scaled}
 use mir.Syntax.{w64}
-use mir.Val.{SFits, Fits, toZ, ofZ}
+use mir.Val.{SFits, toZ, ofZ}
 use mir.ValLaws.{toZ-ofZ, toZ-pos}
 
 -- ---- the float of a biased exponent

@@ -1,20 +1,20 @@
 -- The specification's m lies at M or above and below 2·M, and m · 2^k is v. Assumes nothing.
 use mathlib.Core.Path.{_≡_, refl, sym, ap, _∙_, subst}
-use mathlib.Core.Logic.{_⊎_, inl, inr}
+use mathlib.Core.Logic.{inl, inr}
 use mathlib.Core.Bool.{Bool, true, false, cond, _||_, _&&_, true≢false}
 use Prim.Native.Nat.{ℕ, zero, suc, _+_, _-_, _*_, _^_, _≤_, _<_}
-use native.Mathlib.Nat.{pow-succ', le-of-lt, le-antisymm, eq-or-lt-of-le, mul-le-mul-left, mul-le-mul-right, mul-lt-mul-of-pos-right, mul-assoc, mul-comm, mul-left-comm, mul-right-comm}
+use native.Mathlib.Nat.{pow-succ', le-antisymm, eq-or-lt-of-le, mul-le-mul-left, mul-le-mul-right, mul-lt-mul-of-pos-right, mul-assoc, mul-comm, mul-left-comm, mul-right-comm}
 use lib.Pow.{pow-pos, pow-mono}
 use lib.Signed.{ltZ}
 use native.Mathlib.Omega.{arith}
 use lib.Dec.{T, ltb, eqb, lt→ltb, ltb→lt, eqb-refl}
 use lib.IntN.{ℤ, pos, negsuc, negℤ, _+ℤ_, +ℤ-comm, +ℤ-assoc, +ℤ-invr, +ℤ-invl, +ℤ-idr, +ℤ-idl}
-use lib.Ieee.{Float, nan, inf, fin, binary64, up, down, lt, le, size, ofBits, mul, round}
+use lib.Ieee.{Float, nan, inf, fin, up, down, lt, le, size, ofBits, mul, round}
 use Rattle.arithmetic.specs.Floats.{_⊗_, two, dec}
 use lib.Ieee.Digits.{size-lt, size-reaches}
 use lib.Ieee.Fits.{down-pos}
 use borrow.Author.Tests.{ltb-true, ltb-false}
-use Rattle.arithmetic.specs.Logarithm.{places, M, Splits, shifted, significand, binade}
+use Rattle.arithmetic.specs.Logarithm.{places, M, Splits, significand, binade}
 use Rattle.arithmetic.proofs.Differences.{either}
 use Rattle.arithmetic.proofs.Within.{le→fractions}
 

@@ -1,14 +1,12 @@
 -- Left folds: none, one more, all of them, and equal terms. Assumes nothing.
-use mathlib.Core.Path.{_≡_, refl, sym, ap, _∙_}
-use mathlib.Core.List.{List}
+use mathlib.Core.Path.{_≡_, refl, ap}
 use Prim.Native.Nat.{ℕ, zero, suc, _+_, _<_, _≤_}
 use native.Mathlib.Nat.{le-antisymm}
 use native.Mathlib.Numerals.{add-one}
 use native.Mathlib.Omega.{arith}
-use lib.ListN.{length}
 use lib.Ieee.{Float, binary64, ofBits}
 use Rattle.arithmetic.specs.Floats.{_⊕_, +0}
-use Rattle.arithmetic.specs.Sums.{fold, sum, total}
+use Rattle.arithmetic.specs.Sums.{fold, sum}
 use Rattle.arithmetic.specs.Tables.{at}
 
 pub fold-none : (s : Float) (f : ℕ → Float → Float) → s ≡ fold 0 s f

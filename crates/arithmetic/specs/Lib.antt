@@ -6,3 +6,4 @@ pub mod Sums
 pub mod Tables
 pub mod Digits
 pub mod Bytes
+pub mod Nearest

@@ -1,13 +1,15 @@
 // exp on every f64.
 ghost use mathlib.Core.Path.{_≡_};
 ghost use mathlib.Core.Bool.{not, _&&_};
-ghost use Prim.Native.Nat.{_≤_};
+ghost use Prim.Native.Nat.{ℕ, _≤_, _<_};
 ghost use lib.Dec.{T};
 ghost use lib.IntN.{ℤ, pos, negsuc};
 ghost use lib.Signed.{leZ};
-ghost use lib.Ieee.{lt, isNan};
+ghost use lib.Ieee.{binary64, lt, isNan, ofInt};
 ghost use lib.ListN.{length};
 ghost use Rattle.arithmetic.specs.Floats.{two^};
+ghost use Rattle.arithmetic.specs.Nearest.{Easy};
+ghost use Rattle.arithmetic.specs.Nearest.{nearest as Nearest·nearest};
 ghost use Rattle.arithmetic.specs.Tables.{at, Filled, upTo};
 ghost use Rattle.arithmetic.specs.Exponential.{expOf, highest, lowest};
 ghost use Rattle.arithmetic.specs.Exponential.{exponent as Exp·exponent, correction as Exp·correction, reduced as Exp·reduced, scaled as Exp·scaled};
@@ -25,7 +27,108 @@ pub const L1: f64 = 6.93147180369123816490e-01;
 
 pub const L2: f64 = 1.90821492927058770002e-10;
 
+// 1/ln 2
+const RECIPROCAL: f64 = 1.4426950408889634;
+
+// 1.5·2^52: the floats about it are whole numbers, so that what is added to it is rounded to one.
+const SHIFT: f64 = 6755399441055744.0;
+
+// 1/2 - 2^-30
+const MARGIN: f64 = 0.49999999906867743;
+
 pub fn exp(v: f64) -> f64
+    ensures { λ x. ⌜ x ≡ expOf v ⌝ }
+{
+    if hard(v) == 0 {
+        return easy_exp(v);
+    }
+    careful_exp(v)
+}
+
+// Puts exp of each of the first n places there; side by side where all are easy.
+pub fn exp_each(a: &mut [f64], n: usize)
+    requires { ⌜ n ≤ length (now a) ⌝ }
+    ensures { λ _. ⌜ Filled (upTo n (λ k. expOf (at (now (a .entry)) k)) (at (now (a .entry)))) (length (now (a .entry))) (now (a .exit)) ⌝ }
+{
+    if count_hard(a, n) == 0 {
+        return each_easy(a, n);
+    }
+    each_careful(a, n)
+}
+
+// How many of the first n places are not easy.
+fn count_hard(a: &[f64], n: usize) -> u64
+    requires { ⌜ n ≤ length (now a) ⌝ }
+    ensures { λ r. ⌜ (r ≡ 0 → (k : ℕ) → k < n → Easy (at (now (a .entry)) k)) ⌝ }
+{
+    let mut count: u64 = 0;
+    for k in 0..n {
+        count += hard(a[k]);
+    }
+    count
+}
+
+fn each_easy(a: &mut [f64], n: usize)
+    requires { ⌜ (n ≤ length (now a)) × ((k : ℕ) → k < n → Easy (at (now a) k)) ⌝ }
+    ensures { λ _. ⌜ Filled (upTo n (λ k. expOf (at (now (a .entry)) k)) (at (now (a .entry)))) (length (now (a .entry))) (now (a .exit)) ⌝ }
+{
+    for k in 0..n {
+        a[k] = easy_exp(a[k]);
+    }
+}
+
+fn each_careful(a: &mut [f64], n: usize)
+    requires { ⌜ n ≤ length (now a) ⌝ }
+    ensures { λ _. ⌜ Filled (upTo n (λ k. expOf (at (now (a .entry)) k)) (at (now (a .entry)))) (length (now (a .entry))) (now (a .exit)) ⌝ }
+{
+    for k in 0..n {
+        a[k] = exp(a[k]);
+    }
+}
+
+// 0 where v is easy: from -500 to 500, and v over ln 2 no closer than 2^-30 to the middle between two whole numbers. Else 1.
+fn hard(v: f64) -> u64
+    ensures { λ r. ⌜ (r ≤ 1) × (r ≡ 0 → Easy v) ⌝ }
+{
+    let u = RECIPROCAL * v;
+    let apart = u - nearest(u);
+    if v >= -500.0 {
+        if v <= 500.0 {
+            if apart > -MARGIN {
+                if apart < MARGIN {
+                    return 0;
+                }
+            }
+        }
+    }
+    1
+}
+
+// The whole number nearest to u.
+fn nearest(u: f64) -> f64
+    ensures { λ x. ⌜ x ≡ Nearest·nearest u ⌝ }
+{
+    u + SHIFT - SHIFT
+}
+
+// exp of an easy v, without a branch: there k is the nearest whole number, and 2^k a float.
+fn easy_exp(v: f64) -> f64
+    requires { ⌜ Easy v ⌝ }
+    ensures { λ x. ⌜ x ≡ expOf v ⌝ }
+{
+    let n = nearest(RECIPROCAL * v);
+    let y = reduced(v, n) * power((n as i32) as i64);
+    // 2^-28
+    if v >= -3.725290298461914e-09 {
+        if v <= 3.725290298461914e-09 {
+            return 1.0 + v;
+        }
+    }
+    y
+}
+
+// exp of any v, its k cut toward zero.
+fn careful_exp(v: f64) -> f64
     ensures { λ x. ⌜ x ≡ expOf v ⌝ }
 {
     if v != v {
@@ -44,17 +147,7 @@ pub fn exp(v: f64) -> f64
         }
     }
     let k = exponent(v);
-    scaled(reduced(v, k), k)
-}
-
-// Puts exp of each of the first n places there.
-pub fn exp_each(a: &mut [f64], n: usize)
-    requires { ⌜ n ≤ length (now a) ⌝ }
-    ensures { λ _. ⌜ Filled (upTo n (λ k. expOf (at (now (a .entry)) k)) (at (now (a .entry)))) (length (now (a .entry))) (now (a .exit)) ⌝ }
-{
-    for k in 0..n {
-        a[k] = exp(a[k]);
-    }
+    scaled(reduced(v, std::num::nearest_i64_to_f64(k)), k)
 }
 
 // k: v over ln 2, to the nearest whole number.
@@ -66,14 +159,13 @@ fn exponent(v: f64) -> i64
     if v < 0.0 {
         h = -0.5;
     }
-    std::num::truncating_f64_to_i64(1.4426950408889634 * v + h)
+    std::num::truncating_f64_to_i64(RECIPROCAL * v + h)
 }
 
-// y: exp of v - k·ln 2.
-fn reduced(v: f64, k: i64) -> f64
-    ensures { λ x. ⌜ x ≡ Exp·reduced v k ⌝ }
+// y: exp of v - k·ln 2, n being k as a float.
+fn reduced(v: f64, n: f64) -> f64
+    ensures { λ x. ⌜ ((k : ℤ) → n ≡ ofInt binary64 k → x ≡ Exp·reduced v k) ⌝ }
 {
-    let n = std::num::nearest_i64_to_f64(k);
     let hi = v - n * L1;
     let lo = n * L2;
     let r = hi - lo;

@@ -1,11 +1,7 @@
 -- The two words make the bit pattern. Assumes nothing.
 use Rattle.arithmetic.proofs.ByteLaws.{float-is}
-use Rattle.arithmetic.specs.Bytes.{wordAt, floatAt}
-use mathlib.Core.Path.{_≡_, refl, sym, ap, _∙_}
-use Prim.Native.Nat.{ℕ, zero, suc, _+_, _*_, _-_, _<_, _≤_}
-use native.Mathlib.Omega.{arith}
+use Prim.Native.Nat.{_-_}
 use borrow.Author.Needs.{needs}
-use lib.ListN.{length, getD}
 use Rattle.arithmetic.proofs.bytes.float_at.Statement.{statement}
 use Rattle.arithmetic.proofs.bytes.float_at.Tie as tie
 

@@ -1,11 +1,9 @@
 -- A NaN pattern is told by its value, and the others are read as they are. Assumes nothing.
 use lib.Ieee.{ofBits, div}
 use Rattle.arithmetic.proofs.ByteLaws.{pattern-nan, pattern-no-nan}
-use mathlib.Core.Path.{_≡_, refl, sym, ap, _∙_}
-use Prim.Native.Nat.{ℕ, zero, suc, _+_, _*_, _-_, _<_, _≤_}
-use native.Mathlib.Omega.{arith}
+use mathlib.Core.Path.{sym}
+use Prim.Native.Nat.{_-_}
 use borrow.Author.Needs.{needs}
-use lib.ListN.{length, getD}
 use Rattle.arithmetic.proofs.bytes.float_of.Statement.{statement}
 use Rattle.arithmetic.proofs.bytes.float_of.Tie as tie
 

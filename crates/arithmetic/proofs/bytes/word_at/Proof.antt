@@ -1,10 +1,7 @@
 -- The four bytes fit a word; the sum is the definition. Assumes nothing.
 use Rattle.arithmetic.specs.Bytes.{wordAt}
-use mathlib.Core.Path.{_≡_, refl, sym, ap, _∙_}
-use Prim.Native.Nat.{ℕ, zero, suc, _+_, _*_, _-_, _<_, _≤_}
-use native.Mathlib.Omega.{arith}
+use Prim.Native.Nat.{_-_}
 use borrow.Author.Needs.{needs}
-use lib.ListN.{length, getD}
 use Rattle.arithmetic.proofs.bytes.word_at.Statement.{statement}
 use Rattle.arithmetic.proofs.bytes.word_at.Tie as tie
 

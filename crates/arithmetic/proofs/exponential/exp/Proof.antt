@@ -1,110 +1,23 @@
--- Each return is the line of `expOf` that the tests on the way pick. Assumes nothing.
+-- Both ways give exp of v. Assumes nothing.
 use borrow.Author.Needs.{needs}
-use mathlib.Core.Path.{_≡_, refl, sym, ap, _∙_, subst}
-use mathlib.Core.Bool.{Bool, true, false, not, _&&_}
-use mathlib.Core.Logic.{⊎-elim}
-use lib.Dec.{T}
-use lib.IntN.{ℤ, pos, negsuc}
-use lib.Ieee.{Float, fin, binary64, ofBits, neg, round, lt, le, isNan, nanBits}
-use mir.Syntax.{w64}
-use mir.Val.{toZ, ofZ, SFits}
-use mir.ValLaws.{toZ-ofZ}
-use Rattle.arithmetic.specs.Floats.{dec, one}
-use Rattle.arithmetic.specs.Exponential.{expOf, highest, lowest, scaled, reduced, exponent}
-use Rattle.arithmetic.proofs.Within.{near}
-use Rattle.arithmetic.proofs.Cutting.{cut-within, Inside}
-use Rattle.arithmetic.proofs.Powers.{Near}
-use Rattle.arithmetic.proofs.ExpBranches.{no-nan, a-nan, exp-nan, exp-high, exp-low, exp-tiny, exp-rest}
 use Rattle.arithmetic.proofs.exponential.exp.Statement.{statement}
 use Rattle.arithmetic.proofs.exponential.exp.Tie as tie
 
--- ---- the tests, in the words of `expOf`
-is-no-nan : (c : tie.Else1) → isNan (c .before .args .v) ≡ false
-is-no-nan c = no-nan (c .before .args .v) (c .if1 .left)
+hard-requires : tie.Need-hard-requires
+hard-requires c κs = tt
 
-not-high : (c : tie.Else2) → lt highest (c .before .before .args .v) ≡ false
-unfolding highest dec round ofBits
-not-high c = c .if2 .left
+easy-exp-requires : tie.Need-easy-exp-requires
+easy-exp-requires c κs = c .before .hard .ensures .1 (c .if1 .taken)
 
-not-low : (c : tie.Else3) → lt (c .before .before .before .args .v) lowest ≡ false
-unfolding lowest dec round ofBits neg
-not-low c = c .if3 .left
-
-and-f : (a b : Bool) → a ≡ true → b ≡ false → a && b ≡ false
-and-f a b p q = rw (p, q)
-
-and-ff : (a b : Bool) → a ≡ false → a && b ≡ false
-and-ff a b p = rw p
-
-not-tiny : (c : tie.Joined4) → le (fin true 1 (negsuc 27)) (c .before .before .before .before .args .v) && le (c .before .before .before .before .args .v) (fin false 1 (negsuc 27)) ≡ false
-unfolding ofBits neg
-not-tiny c = ⊎-elim (λ w. and-f _ _ (w .0 .taken) (w .1 .left)) (λ w. and-ff _ _ (w .left)) (c .if4 .came)
-
-refuted : (b : Bool) → b ≡ false → T (not b)
-refuted b e = subst (λ (x : Bool). T (not x)) (sym e) tt
-
-inside : (c : tie.Joined4) → Inside (c .before .before .before .before .args .v)
-inside c = (refuted _ (is-no-nan (c .before .before .before)), refuted _ (not-high (c .before .before)), refuted _ (not-low (c .before)))
-
--- ---- the needs
 returns : tie.Need-returns
-returns c = rw (a-nan (c .before .args .v) (c .if1 .taken)) exp-nan
+returns c = search needs
 
-float-from-bits-result : tie.Need-float-from-bits-result
-unfolding nanBits
-float-from-bits-result c = tt
+careful-exp-requires : tie.Need-careful-exp-requires
+careful-exp-requires c κs = tt
 
 returns-2 : tie.Need-returns-2
-unfolding highest dec round ofBits
-returns-2 c = exp-high (c .before .before .args .v) (is-no-nan (c .before)) (c .if2 .taken)
-
-returns-3 : tie.Need-returns-3
-unfolding lowest dec round ofBits neg
-returns-3 c = exp-low (c .before .before .before .args .v) (is-no-nan (c .before .before)) (not-high (c .before)) (c .if3 .taken)
-
-returns-4 : tie.Need-returns-4
-unfolding one dec round ofBits neg
-returns-4 c =
-    let e = c .before .before in
-    exp-tiny (e .before .before .before .args .v) (is-no-nan (e .before .before)) (not-high (e .before)) (not-low e) (c .before .if4 .taken) (c .if5 .taken)
-
-exponent-requires : tie.Need-exponent-requires
-exponent-requires c κs = inside c
-
-reduced-requires : tie.Need-reduced-requires
-reduced-requires c κs = search needs
-
-near-k : (c : tie.After-exponent) → Near (c .exponent .result)
-unfolding exponent
-near-k c = rw (c .exponent .ensures) (near _ (cut-within _ (inside (c .before))))
-
-back : (c : tie.After-exponent) → toZ w64 (ofZ w64 (c .exponent .result)) ≡ c .exponent .result
-back c = toZ-ofZ w64 (c .exponent .result) (record { sfits = c .exponent .ok })
-
-scaled-requires : tie.Need-scaled-requires
-scaled-requires c κs = rw (back (c .before)) (near-k (c .before))
-
-returns-5 : tie.Need-returns-5
-returns-5 c =
-    let m = c .before in
-    let t = m .before in
-    let j = t .before in
-    let v = j .before .before .before .before .args .v in
-    let k : toZ w64 (ofZ w64 (t .exponent .result)) ≡ exponent v = back t ∙ t .exponent .ensures in
-    c .scaled .ensures
-    ∙ rw (m .reduced .ensures, k) refl
-    ∙ exp-rest v (is-no-nan (j .before .before .before)) (not-high (j .before .before)) (not-low (j .before)) (not-tiny j)
+returns-2 c = search needs
 
 pub exp-spec : {M : Type 1} → statement M
 exp-spec =
-    tie.close
-    (tie.spec
-    returns
-    float-from-bits-result
-    returns-2
-    returns-3
-    returns-4
-    exponent-requires
-    reduced-requires
-    scaled-requires
-    returns-5)
+    tie.close (tie.spec hard-requires easy-exp-requires returns careful-exp-requires returns-2)

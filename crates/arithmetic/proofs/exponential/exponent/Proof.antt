@@ -1,12 +1,11 @@
 -- What is cut is below 1,493 in size, so it fits an i64. Assumes nothing.
-use mathlib.Core.Path.{_≡_, refl, sym, ap, _∙_, subst}
+use mathlib.Core.Path.{_≡_, sym, ap, _∙_, subst}
 use mathlib.Core.Logic.{⊎-elim}
 use mathlib.Core.Bool.{Bool, true, false, cond}
 use lib.Dec.{T}
 use lib.IntN.{pos}
 use lib.Ieee.{Float, fin, binary64, add, mul, ofBits, neg, round, toSigned, lt, le}
 use mir.Syntax.{w64}
-use mir.Val.{toZ, ofZ, SFits}
 use mir.ValLaws.{toZ-ofZ}
 use Rattle.arithmetic.specs.Floats.{_⊕_, _⊗_, dec, half}
 use Rattle.arithmetic.specs.Exponential.{exponent, reciprocal, rounding}

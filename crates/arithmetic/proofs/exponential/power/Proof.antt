@@ -1,10 +1,6 @@
 -- The bits are the biased exponent with no digits below it, which is 2^k. Assumes nothing.
-use mathlib.Core.Path.{sym, subst, refl}
-use mathlib.Core.Bool.{Bool, not}
 use native.Mathlib.Omega.{arith}
-use lib.Dec.{T}
-use lib.IntN.{natAbs}
-use lib.Ieee.{Float, isNan}
+use lib.Ieee.{isNan}
 use lib.Ieee.Bits.{nanBits-is}
 use Rattle.arithmetic.proofs.Powers.{biased, sum-is, sum-back, power-is}
 use Rattle.arithmetic.proofs.exponential.power.Statement.{statement}

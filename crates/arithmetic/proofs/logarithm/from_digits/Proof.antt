@@ -1,6 +1,6 @@
 -- The bits put the 53 digits below the exponent of 1 or of 1/2, by the test against the digits of M. Assumes nothing.
-use mathlib.Core.Path.{_≡_, refl, ap, _∙_}
-use mathlib.Core.Bool.{Bool, true, false}
+use mathlib.Core.Path.{_≡_, _∙_}
+use mathlib.Core.Bool.{true, false}
 use Prim.Native.Nat.{ℕ}
 use lib.Dec.{ltb, lit<}
 use lib.Ieee.{odd, minus}

@@ -1,5 +1,4 @@
 -- The code is the definition; k as a float is exact. Assumes nothing.
-use mathlib.Core.Path.{refl}
 use lib.Ieee.{round, ofBits}
 use mir.Syntax.{w64}
 use mir.ValLaws.{toZ-ofZ}

@@ -1,10 +1,8 @@
 -- The value at T is the second form at log(T), which `log` promises. Assumes nothing.
 use Rattle.arithmetic.specs.Parameters.{tdAt, tdBy}
-use mathlib.Core.Path.{_≡_, refl, sym, ap, _∙_}
-use Prim.Native.Nat.{ℕ, zero, suc, _+_, _*_, _-_, _<_, _≤_}
-use native.Mathlib.Omega.{arith}
+use mathlib.Core.Path.{ap, _∙_}
+use Prim.Native.Nat.{_-_}
 use borrow.Author.Needs.{needs}
-use lib.ListN.{length, getD}
 use Rattle.arithmetic.proofs.parameters.TdParam.value.Statement.{statement}
 use Rattle.arithmetic.proofs.parameters.TdParam.value.Tie as tie
 

@@ -1,10 +1,7 @@
 -- The code is the definition, operation by operation. Assumes nothing.
 use Rattle.arithmetic.specs.Parameters.{tdBy}
-use mathlib.Core.Path.{_≡_, refl, sym, ap, _∙_}
-use Prim.Native.Nat.{ℕ, zero, suc, _+_, _*_, _-_, _<_, _≤_}
-use native.Mathlib.Omega.{arith}
-use borrow.Author.Needs.{needs}
-use lib.ListN.{length, getD}
+use mathlib.Core.Path.{refl}
+use Prim.Native.Nat.{_-_}
 use Rattle.arithmetic.proofs.parameters.TdParam.value_by.Statement.{statement}
 use Rattle.arithmetic.proofs.parameters.TdParam.value_by.Tie as tie
 
