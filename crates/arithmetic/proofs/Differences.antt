@@ -9,7 +9,7 @@ use lib.IntN.{pos, negsuc, negℤ, _+ℤ_, _-ℤ_}
 use lib.Ieee.{binary64, minus, ofBits, odd, isNan, nanBits}
 use lib.Ieee.Bits.{nanBits-is}
 use borrow.Author.Tests.{lt-leb, le-leb, le-ltb, lt-ltb, leb-true, leb-false}
-use mir.Syntax.{w64}
+use mir.Syntax.{w32}
 use mir.Val.{SFits, toZ, ofZ}
 use mir.ValLaws.{toZ-ofZ, toZ-pos}
 use Rattle.arithmetic.proofs.Powers.{ofBits-at, field-odd}
@@ -65,7 +65,7 @@ minus-neg a zero l h = let e : a - l ≡ 0 = omega arith in minus-ge a l (omega 
 minus-neg a (suc z) l h = let e : l - suc a ≡ z = omega arith in minus-lt a l (omega arith) ∙ ap negsuc e
 
 -- ---- the difference as the machine has it
-near-fits : (x l : ℕ) → x < 4096 → l < 4096 → SFits w64 (minus x l)
+near-fits : (x l : ℕ) → x < 4096 → l < 4096 → SFits w32 (minus x l)
 near-fits x l h k =
     elim (le-or l x) [
       | inl g ↦ rw (minus-ge x l g) (record { sfits = omega arith })
@@ -73,14 +73,14 @@ near-fits x l h k =
     ]
 
 module _ (x l : ℕ) (h : x < 4096) (k : suc l < 4096) where
-  pub diff-is : toZ w64 x -ℤ pos (suc l) ≡ minus x (suc l)
-  diff-is = rw (toZ-pos w64 x (omega arith)) (sub-minus x l)
+  pub diff-is : toZ w32 x -ℤ pos (suc l) ≡ minus x (suc l)
+  diff-is = rw (toZ-pos w32 x (omega arith)) (sub-minus x l)
 
-  pub diff-fits : SFits w64 (toZ w64 x -ℤ pos (suc l))
+  pub diff-fits : SFits w32 (toZ w32 x -ℤ pos (suc l))
   diff-fits = rw diff-is (near-fits x (suc l) h k)
 
-  pub diff-back : toZ w64 (ofZ w64 (toZ w64 x -ℤ pos (suc l))) ≡ minus x (suc l)
-  diff-back = toZ-ofZ w64 (toZ w64 x -ℤ pos (suc l)) diff-fits ∙ diff-is
+  pub diff-back : toZ w32 (ofZ w32 (toZ w32 x -ℤ pos (suc l))) ≡ minus x (suc l)
+  diff-back = toZ-ofZ w32 (toZ w32 x -ℤ pos (suc l)) diff-fits ∙ diff-is
 
 -- ---- 53 digits below an exponent's field
 pub digits-bits : (q y : ℕ) → 2 ^ 52 ≤ q → q < 2 ^ 53 → y < 2046 → ofBits binary64 (q + y * 4503599627370496) ≡ odd 53 false q y 1074

@@ -1,6 +1,9 @@
 // log on every f64.
 ghost use mathlib.Core.Path.{_≡_};
+ghost use mathlib.Core.Bool.{cond};
 ghost use Prim.Native.Nat.{_^_, _≤_, _<_};
+ghost use lib.Dec.{ltb};
+ghost use lib.IntN.{pos};
 ghost use lib.ListN.{length};
 ghost use Rattle.arithmetic.specs.Tables.{at, Filled, upTo};
 ghost use Rattle.arithmetic.specs.Logarithm.{logOf, logBy};
@@ -63,21 +66,38 @@ fn from_digits(q: u64, x: u64) -> f64
     requires { ⌜ (2 ^ 52 ≤ q) × (q < 2 ^ 53) × (x < 4096) ⌝ }
     ensures { λ r. ⌜ r ≡ fromDigits q x ⌝ }
 {
+    log_by(f64::from_bits(q + bias(q)), (x as i32) - places(q))
+}
+
+// The exponent's field over the digits q: that of 1 where they are below M's, else that of 1/2, less the digit that q has.
+fn bias(q: u64) -> u64
+    ensures { λ r. ⌜ r ≡ cond (ltb q 0x16_a09e_0000_0000) 0x3fe0_0000_0000_0000 0x3fd0_0000_0000_0000 ⌝ }
+{
     if q < 0x16_a09e_0000_0000 {
-        return log_by(f64::from_bits(q + 0x3fe0_0000_0000_0000), (x as i64) - 1075);
+        return 0x3fe0_0000_0000_0000;
     }
-    log_by(f64::from_bits(q + 0x3fd0_0000_0000_0000), (x as i64) - 1074)
+    0x3fd0_0000_0000_0000
+}
+
+// What k falls short of x by.
+fn places(q: u64) -> i32
+    ensures { λ r. ⌜ r ≡ cond (ltb q 0x16_a09e_0000_0000) (pos 1075) (pos 1074) ⌝ }
+{
+    if q < 0x16_a09e_0000_0000 {
+        return 1075;
+    }
+    1074
 }
 
 // log of m·2^k, for an m near 1.
-fn log_by(m: f64, k: i64) -> f64
+fn log_by(m: f64, k: i32) -> f64
     ensures { λ x. ⌜ x ≡ logBy m k ⌝ }
 {
     let f = m - 1.0;
     let p = 0.5 * f * f;
     let s = f / (2.0 + f);
     let r = remainder(s);
-    let n = std::num::nearest_i64_to_f64(k);
+    let n = k as f64;
     s * (p + r) + n * L2 - p + f + n * L1
 }
 

@@ -1,85 +1,109 @@
 -- The bits put the 53 digits below the exponent of 1 or of 1/2, by the test against the digits of M. Assumes nothing.
-use mathlib.Core.Path.{_≡_, _∙_}
-use mathlib.Core.Bool.{true, false}
-use Prim.Native.Nat.{ℕ}
+use mathlib.Core.Path.{_≡_, refl, _∙_}
+use mathlib.Core.Bool.{Bool, true, false, cond}
+use Prim.Native.Nat.{ℕ, suc, _*_, _<_}
+use native.Mathlib.Omega.{arith}
 use lib.Dec.{ltb, lit<}
+use lib.IntN.{pos}
 use lib.Ieee.{odd, minus}
-use borrow.Author.Tests.{lt-ltb, le-ltb}
+use mir.Syntax.{w32}
+use mir.Val.{toZ, ofZ}
+use mir.ValLaws.{toZ-ofZ}
+use borrow.Author.Needs.{needs}
 use Rattle.arithmetic.specs.Logarithm.{logBy}
 use Rattle.arithmetic.specs.Digits.{fromDigits}
 use Rattle.arithmetic.proofs.Differences.{digits-bits, digits-no-nan, diff-fits, diff-back}
-use borrow.Author.Needs.{needs}
 use Rattle.arithmetic.proofs.logarithm.from_digits.Statement.{statement}
 use Rattle.arithmetic.proofs.logarithm.from_digits.Tie as tie
 
-ap2 : {A B C : Type 0} (f : A → B → C) {a a' : A} {b b' : B} → a ≡ a' → b ≡ b' → f a b ≡ f a' b'
-ap2 f p q = cc
+-- ---- the test's two numbers
 
-below-m : (q x : ℕ) → ltb q 6369049952911360 ≡ true → logBy (odd 53 false q 1022 1074) (minus x 1075) ≡ fromDigits q x
-unfolding fromDigits
-below-m q x h = rw h
+abbrev test : ℕ → Bool
+test q = ltb q 0x16_a09e_0000_0000
 
-from-m : (q x : ℕ) → ltb q 6369049952911360 ≡ false → logBy (odd 53 false q 1021 1074) (minus x 1074) ≡ fromDigits q x
+abbrev field : Bool → ℕ
+field t = cond t 1022 1021
+
+abbrev short : Bool → ℕ
+short t = cond t 1074 1073
+
+field-lt : (t : Bool) → field t < 2046
+field-lt true = lit< tt
+field-lt false = lit< tt
+
+short-lt : (t : Bool) → suc (short t) < 4096
+short-lt true = lit< tt
+short-lt false = lit< tt
+
+bias-is : (t : Bool) → cond t 0x3fe0_0000_0000_0000 0x3fd0_0000_0000_0000 ≡ field t * 4503599627370496
+bias-is true = refl
+bias-is false = refl
+
+places-is : (t : Bool) → cond t (pos 1075) (pos 1074) ≡ pos (suc (short t))
+places-is true = refl
+places-is false = refl
+
+digits-is : (t : Bool) (q x : ℕ) → test q ≡ t → logBy (odd 53 false q (field t) 1074) (minus x (suc (short t))) ≡ fromDigits q x
 unfolding fromDigits
-from-m q x h = rw h
+digits-is true q x h = rw h
+digits-is false q x h = rw h
+
+-- ---- the needs
+
+bias-at : (c : tie.After-bias) → c .bias .result ≡ field (test (c .before .args .q)) * 4503599627370496
+bias-at c = c .bias .ensures ∙ bias-is (test (c .before .args .q))
+
+-- the number of places as the machine has it
+places-at : (c : tie.After-places) → toZ w32 (ofZ w32 (c .places .result)) ≡ pos (suc (short (test (c .before .before .args .q))))
+places-at c = toZ-ofZ w32 (c .places .result) (record { sfits = c .places .ok }) ∙ c .places .ensures ∙ places-is (test (c .before .before .args .q))
+
+bias-requires : tie.Need-bias-requires
+bias-requires c κs = tt
 
 add-log-by : tie.Need-add-log-by
-add-log-by c = search needs
+add-log-by c =
+    let b = bias-at c in
+    let l = field-lt (test (c .before .args .q)) in
+    record { fits = omega arith }
 
 float-from-bits-log-by : tie.Need-float-from-bits-log-by
-float-from-bits-log-by c = let p = c .before .pre in digits-no-nan (c .before .args .q) 1022 (p .0) (p .1) (lit< tt)
+float-from-bits-log-by c =
+    let a = c .before in
+    rw (bias-at c) (digits-no-nan (a .args .q) (field (test (a .args .q))) (a .pre .0) (a .pre .1) (field-lt (test (a .args .q))))
 
 cast-log-by : tie.Need-cast-log-by
 cast-log-by c = search needs
 
+places-requires : tie.Need-places-requires
+places-requires c κs = tt
+
 sub-log-by : tie.Need-sub-log-by
-sub-log-by c = diff-fits (c .before .args .x) 1074 (c .before .pre .2) (lit< tt)
+sub-log-by c =
+    let a = c .before .before in
+    rw (places-at c) (diff-fits (a .args .x) (short (test (a .args .q))) (a .pre .2) (short-lt (test (a .args .q))))
 
 log-by-requires : tie.Need-log-by-requires
-log-by-requires c κs = search needs
+log-by-requires c κs = tt
 
 returns : tie.Need-returns
 returns c =
-    let a = c .before .before in
+    let p = c .before in
+    let b = p .before in
+    let a = b .before in
+    let t = test (a .args .q) in
     c .log-by .ensures
-    ∙ ap2 logBy (digits-bits (a .args .q) 1022 (a .pre .0) (a .pre .1) (lit< tt)) (diff-back (a .args .x) 1074 (a .pre .2) (lit< tt))
-    ∙ below-m (a .args .q) (a .args .x) (lt-ltb (a .args .q) 6369049952911360 (c .before .if1 .taken))
-
-add-log-by-2 : tie.Need-add-log-by-2
-add-log-by-2 c = search needs
-
-float-from-bits-log-by-2 : tie.Need-float-from-bits-log-by-2
-float-from-bits-log-by-2 c = let p = c .before .pre in digits-no-nan (c .before .args .q) 1021 (p .0) (p .1) (lit< tt)
-
-cast-log-by-2 : tie.Need-cast-log-by-2
-cast-log-by-2 c = search needs
-
-sub-log-by-2 : tie.Need-sub-log-by-2
-sub-log-by-2 c = diff-fits (c .before .args .x) 1073 (c .before .pre .2) (lit< tt)
-
-log-by-requires-2 : tie.Need-log-by-requires-2
-log-by-requires-2 c κs = search needs
-
-returns-2 : tie.Need-returns-2
-returns-2 c =
-    let a = c .before .before in
-    c .log-by2 .ensures
-    ∙ ap2 logBy (digits-bits (a .args .q) 1021 (a .pre .0) (a .pre .1) (lit< tt)) (diff-back (a .args .x) 1073 (a .pre .2) (lit< tt))
-    ∙ from-m (a .args .q) (a .args .x) (le-ltb (a .args .q) 6369049952911360 (c .before .if1 .left))
+    ∙ rw (places-at p, bias-at b, digits-bits (a .args .q) (field t) (a .pre .0) (a .pre .1) (field-lt t), diff-back (a .args .x) (short t) (a .pre .2) (short-lt t)) refl
+    ∙ digits-is t (a .args .q) (a .args .x) refl
 
 pub from-digits-spec : {M : Type 1} → statement M
 from-digits-spec =
     tie.close
     (tie.spec
+    bias-requires
     add-log-by
     float-from-bits-log-by
     cast-log-by
+    places-requires
     sub-log-by
     log-by-requires
-    returns
-    add-log-by-2
-    float-from-bits-log-by-2
-    cast-log-by-2
-    sub-log-by-2
-    log-by-requires-2
-    returns-2)
+    returns)

@@ -1,6 +1,6 @@
 -- The code is the definition; k as a float is exact. Assumes nothing.
 use lib.Ieee.{round, ofBits}
-use mir.Syntax.{w64}
+use mir.Syntax.{w32}
 use mir.ValLaws.{toZ-ofZ}
 use Rattle.arithmetic.specs.Floats.{dec, L1, L2, one, two, half}
 use Rattle.arithmetic.specs.Logarithm.{logBy}
@@ -9,14 +9,14 @@ use Rattle.arithmetic.proofs.logarithm.log_by.Statement.{statement}
 use Rattle.arithmetic.proofs.logarithm.log_by.Tie as tie
 
 remainder-requires : tie.Need-remainder-requires
-remainder-requires c κs = search needs
+remainder-requires c κs = tt
 
-nearest-i64-to-f64-requires : tie.Need-nearest-i64-to-f64-requires
-nearest-i64-to-f64-requires c κs = search needs
+int-to-float-n : tie.Need-int-to-float-n
+int-to-float-n c = search needs
 
 returns : tie.Need-returns
 unfolding logBy L1 L2 one two half dec round ofBits
-returns c = rw (c .before .remainder .ensures, c .nearest-i64-to-f64 .ensures, toZ-ofZ w64 (c .before .before .args .k) (c .before .before .fits .k))
+returns c = rw (c .before .remainder .ensures, toZ-ofZ w32 (c .before .before .args .k) (c .before .before .fits .k))
 
 pub log-by-spec : {M : Type 1} → statement M
-log-by-spec = tie.close (tie.spec remainder-requires nearest-i64-to-f64-requires returns)
+log-by-spec = tie.close (tie.spec remainder-requires int-to-float-n returns)

@@ -1,0 +1,13 @@
+-- The test is the definition's. Assumes nothing.
+use borrow.Author.Tests.{lt-ltb, le-ltb}
+use Rattle.arithmetic.proofs.logarithm.places.Statement.{statement}
+use Rattle.arithmetic.proofs.logarithm.places.Tie as tie
+
+returns : tie.Need-returns
+returns c = rw (lt-ltb (c .before .args .q) 0x16_a09e_0000_0000 (c .if1 .taken))
+
+returns-2 : tie.Need-returns-2
+returns-2 c = rw (le-ltb (c .before .args .q) 0x16_a09e_0000_0000 (c .if1 .left))
+
+pub places-spec : {M : Type 1} → statement M
+places-spec = tie.close (tie.spec returns returns-2)
