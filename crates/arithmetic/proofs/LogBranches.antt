@@ -1,9 +1,14 @@
 -- Which line of `logOf` holds, by the tests that led there. Assumes nothing.
-use mathlib.Core.Path.{_≡_, refl, sym}
-use mathlib.Core.Bool.{true, false, true≢false}
+use mathlib.Core.Path.{_≡_, refl, sym, _∙_, subst}
+use mathlib.Core.Bool.{Bool, true, false, _&&_, true≢false}
+use Prim.Native.Nat.{_+_, _*_, _/_, _^_}
+use native.Mathlib.Omega.{arith}
+use lib.Dec.{T, eqb, ltb→lt}
 use lib.IntN.{pos}
-use lib.Ieee.{Float, nan, inf, fin, lt, eq, isNan}
+use lib.Ieee.{Float, nan, inf, fin, binary64, up, down, lt, eq, isNan, toBits}
+use borrow.Author.Tests.{lt-ltb, le-ltb, ltb-false, eq-eqb, ne-eqb, eqb-false}
 use Rattle.arithmetic.specs.Floats.{one}
+use Rattle.arithmetic.specs.Digits.{Normal}
 use Rattle.arithmetic.specs.Logarithm.{logOf, logBy, significand, binade}
 
 -- the last line of `logOf`
@@ -44,3 +49,33 @@ module _ (v : Float) (n : isNan v ≡ false) where
         pub log-rest : eq v one ≡ false → rest v ≡ logOf v
         unfolding logOf
         log-rest o = rw (n, h, z, i, o)
+
+-- ---- a normal number
+
+pub normal-plain : (v : Float) → Normal v → (isNan v ≡ false) × (lt v (fin false 0 (pos 0)) ≡ false) × (eq v (fin false 0 (pos 0)) ≡ false) × (eq v (inf false) ≡ false)
+unfolding lt eq isNan
+normal-plain nan h = absurd (h .above)
+normal-plain (inf true) h = absurd (h .above)
+normal-plain (inf false) h = absurd (h .below)
+normal-plain (fin true m e) h = absurd (h .above)
+normal-plain (fin false m e) h =
+    let l = ltb→lt (0 * 1 * down e) (m * up e * 1) (h .above) in
+    (refl, le-ltb (m * up e * 1) (0 * 1 * down e) (omega arith), rw (ne-eqb (m * up e * 1) (0 * 1 * down e) (λ q. omega arith)) refl, refl)
+
+pub normal-of : (v : Float) → isNan v ≡ false → lt v (fin false 0 (pos 0)) ≡ false → eq v (fin false 0 (pos 0)) ≡ false → eq v (inf false) ≡ false → (toBits binary64 v / 2 ^ 52 ≡ 0 → ⊥) → Normal v
+unfolding lt eq isNan
+normal-of nan n h z i f = absurd (true≢false n)
+normal-of (inf true) n h z i f = absurd (true≢false h)
+normal-of (inf false) n h z i f = absurd (true≢false i)
+normal-of (fin true m e) n h z i f =
+    let l = ltb-false 0 (m * up e * 1 + 0 * 1 * down e) h in
+    let a : eqb (m * up e * 1) (0 * 1 * down e) ≡ true = eq-eqb (m * up e * 1) (0 * 1 * down e) (omega arith) in
+    let b : eqb (m * up e * 1) 0 ≡ true = eq-eqb (m * up e * 1) 0 (omega arith) in
+    absurd (true≢false (sym (rw (a, b) refl) ∙ z))
+normal-of (fin false m e) n h z i f =
+    let l = eqb-false (m * up e * 1) (0 * 1 * down e) (and-l-false _ z) in
+    record { above = subst T (sym (lt-ltb (0 * 1 * down e) (m * up e * 1) (omega arith))) tt; below = tt; field = f }
+  where
+    and-l-false : (b : Bool) → b && true ≡ false → b ≡ false
+    and-l-false true q = q
+    and-l-false false q = refl

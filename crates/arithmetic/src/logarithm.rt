@@ -1,14 +1,14 @@
 // log on every f64.
 ghost use mathlib.Core.Path.{_≡_};
 ghost use mathlib.Core.Bool.{cond};
-ghost use Prim.Native.Nat.{_^_, _≤_, _<_};
+ghost use Prim.Native.Nat.{ℕ, _^_, _≤_, _<_};
 ghost use lib.Dec.{ltb};
 ghost use lib.IntN.{pos};
 ghost use lib.ListN.{length};
 ghost use Rattle.arithmetic.specs.Tables.{at, Filled, upTo};
 ghost use Rattle.arithmetic.specs.Logarithm.{logOf, logBy};
 ghost use Rattle.arithmetic.specs.Logarithm.{remainder as Log·remainder};
-ghost use Rattle.arithmetic.specs.Digits.{fromDigits};
+ghost use Rattle.arithmetic.specs.Digits.{fromDigits, Normal};
 use crate::exponential::L1;
 use crate::exponential::L2;
 
@@ -24,6 +24,87 @@ const G: [f64; 7] = [
 ];
 
 pub fn log(v: f64) -> f64
+    ensures { λ r. ⌜ r ≡ logOf v ⌝ }
+{
+    if hard(v) == 0 {
+        return easy_log(v);
+    }
+    careful_log(v)
+}
+
+// Puts log of each of the first n places there; side by side where all are easy.
+pub fn log_each(a: &mut [f64], n: usize)
+    requires { ⌜ n ≤ length (now a) ⌝ }
+    ensures { λ _. ⌜ Filled (upTo n (λ k. logOf (at (now (a .entry)) k)) (at (now (a .entry)))) (length (now (a .entry))) (now (a .exit)) ⌝ }
+{
+    if count_hard(a, n) == 0 {
+        return each_easy(a, n);
+    }
+    each_careful(a, n)
+}
+
+// How many of the first n places are not easy.
+fn count_hard(a: &[f64], n: usize) -> u64
+    requires { ⌜ n ≤ length (now a) ⌝ }
+    ensures { λ r. ⌜ (r ≡ 0 → (k : ℕ) → k < n → Normal (at (now (a .entry)) k)) ⌝ }
+{
+    let mut count: u64 = 0;
+    for k in 0..n {
+        count += hard(a[k]);
+    }
+    count
+}
+
+fn each_easy(a: &mut [f64], n: usize)
+    requires { ⌜ (n ≤ length (now a)) × ((k : ℕ) → k < n → Normal (at (now a) k)) ⌝ }
+    ensures { λ _. ⌜ Filled (upTo n (λ k. logOf (at (now (a .entry)) k)) (at (now (a .entry)))) (length (now (a .entry))) (now (a .exit)) ⌝ }
+{
+    for k in 0..n {
+        a[k] = easy_log(a[k]);
+    }
+}
+
+fn each_careful(a: &mut [f64], n: usize)
+    requires { ⌜ n ≤ length (now a) ⌝ }
+    ensures { λ _. ⌜ Filled (upTo n (λ k. logOf (at (now (a .entry)) k)) (at (now (a .entry)))) (length (now (a .entry))) (now (a .exit)) ⌝ }
+{
+    for k in 0..n {
+        a[k] = log(a[k]);
+    }
+}
+
+// 0 where v is easy: positive and finite, and not subnormal. Else 1.
+fn hard(v: f64) -> u64
+    ensures { λ r. ⌜ (r ≤ 1) × (r ≡ 0 → Normal v) ⌝ }
+{
+    if v > 0.0 {
+        if v < f64::from_bits(0x7ff0_0000_0000_0000) {
+            if f64::to_bits(v) >> 52 != 0 {
+                return 0;
+            }
+        }
+    }
+    1
+}
+
+// log of an easy v, without a branch.
+fn easy_log(v: f64) -> f64
+    requires { ⌜ Normal v ⌝ }
+    ensures { λ r. ⌜ r ≡ logOf v ⌝ }
+{
+    let b = f64::to_bits(v);
+    let y = from_digits(
+        b % 0x10_0000_0000_0000 + 0x10_0000_0000_0000,
+        (b >> 52) + 52,
+    );
+    if v == 1.0 {
+        return 0.0;
+    }
+    y
+}
+
+// log of any v.
+fn careful_log(v: f64) -> f64
     ensures { λ r. ⌜ r ≡ logOf v ⌝ }
 {
     if v != v {
@@ -42,23 +123,12 @@ pub fn log(v: f64) -> f64
         return 0.0;
     }
     let b = f64::to_bits(v);
-    let x = b >> 52;
-    if x == 0 {
-        // a subnormal: its digits are moved up until the highest is the 53rd
-        let z = u64::leading_zeros(b) as u64;
-        return from_digits(b << (z - 11), 64 - z);
+    if b >> 52 != 0 {
+        return easy_log(v);
     }
-    from_digits(b % 0x10_0000_0000_0000 + 0x10_0000_0000_0000, x + 52)
-}
-
-// Puts log of each of the first n places there.
-pub fn log_each(a: &mut [f64], n: usize)
-    requires { ⌜ n ≤ length (now a) ⌝ }
-    ensures { λ _. ⌜ Filled (upTo n (λ k. logOf (at (now (a .entry)) k)) (at (now (a .entry)))) (length (now (a .entry))) (now (a .exit)) ⌝ }
-{
-    for k in 0..n {
-        a[k] = log(a[k]);
-    }
+    // a subnormal: its digits are moved up until the highest is the 53rd
+    let z = u64::leading_zeros(b) as u64;
+    from_digits(b << (z - 11), 64 - z)
 }
 
 // log of q·2^-53·2^(x - 1074), q being the number's 53 digits, of which the highest is 1.

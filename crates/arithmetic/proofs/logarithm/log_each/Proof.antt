@@ -1,70 +1,37 @@
--- Each place takes log of what stood there; the places from n on stay. Assumes nothing.
-use mathlib.Core.Path.{_≡_, refl, ap, _∙_}
-use Prim.Native.Nat.{_-_, _≤_}
-use native.Mathlib.Nat.{le-antisymm}
-use native.Mathlib.Omega.{arith}
-use lib.ListN.{length, length-set}
-use Rattle.arithmetic.specs.Logarithm.{logOf}
-use Rattle.arithmetic.specs.Tables.{at, Filled, upTo}
-use Rattle.arithmetic.proofs.TableLaws.{upto-none, upto-more, upto-next}
+-- Either way each place takes log of what stood there; the easy way is taken only where no place is hard. Assumes nothing.
+use borrow.Author.Needs.{needs}
 use Rattle.arithmetic.proofs.logarithm.log_each.Statement.{statement}
 use Rattle.arithmetic.proofs.logarithm.log_each.Tie as tie
 
-abbrev Inv-loop : tie.InvT-loop
-Inv-loop a₀ n k₀ a k = (k ≤ n) × (length a ≡ length a₀) × Filled (upTo k (λ j. logOf (at a₀ j)) (at a₀)) (length a₀) a
+count-hard-requires : tie.Need-count-hard-requires
+count-hard-requires c κs = search needs
 
-abbrev μ-loop : tie.MeasureT-loop
-μ-loop a₀ n k₀ a k = n - k
+each-easy-requires : tie.Need-each-easy-requires
+each-easy-requires c κs = (c .before .before .before .before .before .pre, c .before .before .count-hard .ensures (c .before .if1 .taken))
 
-loop-holds : tie.Need-loop-holds Inv-loop μ-loop
-loop-holds c = (omega arith, refl, upto-none _ _ _)
+same-length : tie.Need-same-length
+same-length c = search needs
 
-mul-log : tie.Need-mul-log Inv-loop μ-loop
-mul-log c = omega arith
+returns : tie.Need-returns
+returns c = search needs
 
-slice-read-log : tie.Need-slice-read-log Inv-loop μ-loop
-slice-read-log c = omega arith
+each-careful-requires : tie.Need-each-careful-requires
+each-careful-requires c κs = search needs
 
-log-requires : tie.Need-log-requires Inv-loop μ-loop
-log-requires c κs = tt
+same-length-2 : tie.Need-same-length-2
+same-length-2 c = search needs
 
-mul-a : tie.Need-mul-a Inv-loop μ-loop
-mul-a c = omega arith
-
-slice-write-a : tie.Need-slice-write-a Inv-loop μ-loop
-slice-write-a c = omega arith
-
-add-k : tie.Need-add-k Inv-loop μ-loop
-add-k c = omega arith
-
-loop-less : tie.Need-loop-less Inv-loop μ-loop
-loop-less c = omega arith
-
-loop-again : tie.Need-loop-again Inv-loop μ-loop
-loop-again c =
-    let top = c .before .before .before in
-    (omega arith, simp length-set (top .loop .inv .1), upto-more _ _ _ _ (omega arith) (c .log .ensures ∙ ap logOf (upto-next _ _ _ _ (omega arith) (top .loop .inv .2))) (top .loop .inv .2))
-
-same-length : tie.Need-same-length Inv-loop μ-loop
-same-length c = c .before .loop .inv .1
-
-returns : tie.Need-returns Inv-loop μ-loop
-returns c = rw (← le-antisymm (c .before .loop .inv .0) (c .loop-test .left)) (c .before .loop .inv .2)
+returns-2 : tie.Need-returns-2
+returns-2 c = search needs
 
 pub log-each-spec : {M : Type 1} → statement M
 log-each-spec =
     tie.close
     (tie.spec
-    Inv-loop
-    μ-loop
-    loop-holds
-    mul-log
-    slice-read-log
-    log-requires
-    mul-a
-    slice-write-a
-    add-k
-    loop-less
-    loop-again
+    count-hard-requires
+    each-easy-requires
     same-length
-    returns)
+    returns
+    each-careful-requires
+    same-length-2
+    returns-2)

@@ -1,0 +1,62 @@
+-- No place passed is hard while the count is 0. Assumes nothing.
+use mathlib.Core.Path.{_≡_}
+use Prim.Native.Nat.{ℕ, _-_, _≤_, _<_}
+use native.Mathlib.Omega.{arith}
+use borrow.Author.Count.{below-more}
+use Rattle.arithmetic.specs.Digits.{Normal}
+use Rattle.arithmetic.specs.Tables.{at}
+use Rattle.arithmetic.proofs.logarithm.count_hard.Statement.{statement}
+use Rattle.arithmetic.proofs.logarithm.count_hard.Tie as tie
+
+abbrev Inv-loop : tie.InvT-loop
+Inv-loop a n count₀ k₀ count k = (k ≤ n) × (count ≤ k) × (count ≡ 0 → (j : ℕ) → j < k → Normal (at a j))
+
+abbrev μ-loop : tie.MeasureT-loop
+μ-loop a n count₀ k₀ count k = n - k
+
+loop-holds : tie.Need-loop-holds Inv-loop μ-loop
+loop-holds c = (omega arith, omega arith, λ z j h. absurd (omega arith))
+
+mul-hard : tie.Need-mul-hard Inv-loop μ-loop
+mul-hard c = omega arith
+
+shared-slice-read-hard : tie.Need-shared-slice-read-hard Inv-loop μ-loop
+shared-slice-read-hard c = omega arith
+
+hard-requires : tie.Need-hard-requires Inv-loop μ-loop
+hard-requires c κs = tt
+
+add-count : tie.Need-add-count Inv-loop μ-loop
+add-count c = omega arith
+
+add-k : tie.Need-add-k Inv-loop μ-loop
+add-k c = omega arith
+
+loop-less : tie.Need-loop-less Inv-loop μ-loop
+loop-less c = omega arith
+
+loop-again : tie.Need-loop-again Inv-loop μ-loop
+loop-again c =
+    let top = c .before .before .before in
+    let k = top .loop .k in
+    let one = c .hard .ensures .0 in
+    (omega arith, omega arith, λ z. below-more (λ j. Normal (at (top .before .before .args .a .now) j)) k (top .loop .inv .2 (omega arith)) (c .hard .ensures .1 (omega arith)))
+
+returns : tie.Need-returns Inv-loop μ-loop
+returns c z k h = c .before .loop .inv .2 z k (omega arith)
+
+pub count-hard-spec : {M : Type 1} → statement M
+count-hard-spec =
+    tie.close
+    (tie.spec
+    Inv-loop
+    μ-loop
+    loop-holds
+    mul-hard
+    shared-slice-read-hard
+    hard-requires
+    add-count
+    add-k
+    loop-less
+    loop-again
+    returns)

@@ -1,0 +1,73 @@
+-- Each place takes log of what stood there; the places from n on stay. Assumes nothing.
+use mathlib.Core.Path.{_≡_, refl, sym, ap, _∙_, subst}
+use Prim.Native.Nat.{_-_, _≤_}
+use native.Mathlib.Nat.{le-antisymm}
+use native.Mathlib.Omega.{arith}
+use lib.ListN.{length, length-set}
+use Rattle.arithmetic.specs.Logarithm.{logOf}
+use Rattle.arithmetic.specs.Digits.{Normal}
+use Rattle.arithmetic.specs.Tables.{at, Filled, upTo}
+use Rattle.arithmetic.proofs.TableLaws.{upto-none, upto-more, upto-next}
+use Rattle.arithmetic.proofs.logarithm.each_easy.Statement.{statement}
+use Rattle.arithmetic.proofs.logarithm.each_easy.Tie as tie
+
+abbrev Inv-loop : tie.InvT-loop
+Inv-loop a₀ n k₀ a k = (k ≤ n) × (length a ≡ length a₀) × Filled (upTo k (λ j. logOf (at a₀ j)) (at a₀)) (length a₀) a
+
+abbrev μ-loop : tie.MeasureT-loop
+μ-loop a₀ n k₀ a k = n - k
+
+loop-holds : tie.Need-loop-holds Inv-loop μ-loop
+loop-holds c = (omega arith, refl, upto-none _ _ _)
+
+mul-easy-log : tie.Need-mul-easy-log Inv-loop μ-loop
+mul-easy-log c = omega arith
+
+slice-read-easy-log : tie.Need-slice-read-easy-log Inv-loop μ-loop
+slice-read-easy-log c = omega arith
+
+easy-log-requires : tie.Need-easy-log-requires Inv-loop μ-loop
+easy-log-requires c κs =
+    let top = c .before .before in
+    subst Normal (sym (upto-next _ _ _ _ (omega arith) (top .loop .inv .2))) (top .before .before .pre .1 (top .loop .k) (omega arith))
+
+mul-a : tie.Need-mul-a Inv-loop μ-loop
+mul-a c = omega arith
+
+slice-write-a : tie.Need-slice-write-a Inv-loop μ-loop
+slice-write-a c = omega arith
+
+add-k : tie.Need-add-k Inv-loop μ-loop
+add-k c = omega arith
+
+loop-less : tie.Need-loop-less Inv-loop μ-loop
+loop-less c = omega arith
+
+loop-again : tie.Need-loop-again Inv-loop μ-loop
+loop-again c =
+    let top = c .before .before .before in
+    (omega arith, simp length-set (top .loop .inv .1), upto-more _ _ _ _ (omega arith) (c .easy-log .ensures ∙ ap logOf (upto-next _ _ _ _ (omega arith) (top .loop .inv .2))) (top .loop .inv .2))
+
+same-length : tie.Need-same-length Inv-loop μ-loop
+same-length c = c .before .loop .inv .1
+
+returns : tie.Need-returns Inv-loop μ-loop
+returns c = rw (← le-antisymm (c .before .loop .inv .0) (c .loop-test .left)) (c .before .loop .inv .2)
+
+pub each-easy-spec : {M : Type 1} → statement M
+each-easy-spec =
+    tie.close
+    (tie.spec
+    Inv-loop
+    μ-loop
+    loop-holds
+    mul-easy-log
+    slice-read-easy-log
+    easy-log-requires
+    mul-a
+    slice-write-a
+    add-k
+    loop-less
+    loop-again
+    same-length
+    returns)
