@@ -40,7 +40,12 @@ add-from-digits-2 c = let a = x-is c in let h = parts c .near in record { fits =
 from-digits-requires : tie.Need-from-digits-requires
 from-digits-requires c κs =
     let r = parts c in
-    rw (q-is c, x-is c) (Q-low (r .m) (r .z) (r .E) (r .o) (r .lo) (r .hi) (r .Z), Q-high (r .m) (r .z) (r .E) (r .o) (r .lo) (r .hi) (r .Z), r .near)
+    let q = q-is c in
+    let x = x-is c in
+    let l = Q-low (r .m) (r .z) (r .E) (r .o) (r .lo) (r .hi) (r .Z) in
+    let h = Q-high (r .m) (r .z) (r .E) (r .o) (r .lo) (r .hi) (r .Z) in
+    let n = r .near in
+    (omega arith, omega arith, omega arith)
 
 returns : tie.Need-returns
 unfolding ofBits one dec round
