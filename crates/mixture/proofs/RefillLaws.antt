@@ -4,7 +4,7 @@ use mathlib.Core.Bool.{Bool, true, false, not, _&&_, cond, and-false}
 use mathlib.Core.List.{List, [], _∷_, _++_, append-nil}
 use mathlib.Core.Logic.{_⊎_, inl, inr}
 use Prim.Native.Nat.{ℕ, zero, suc, _+_, _*_, _-_, _/_, _%_, _<_, _≤_}
-use native.Mathlib.Nat.{ne-of-lt, ne-of-gt, add-zero, zero-mul, le-antisymm}
+use native.Mathlib.Nat.{ne-of-lt, ne-of-gt, add-zero, zero-mul, le-antisymm, mul-le-mul-right}
 use native.Mathlib.Numerals.{add-one}
 use native.Mathlib.Omega.{arith}
 use borrow.Rule.Slice.PartMut.{putMid}
@@ -267,6 +267,27 @@ module _ (k : Model) (w i : ℕ) (f : ℕ → Float) (cells : List Float) (marks
 pub row-cells : (k : Model) (w stride : ℕ) (table tau : List Float) (T L : Float) (i j : ℕ) → j < w → rowCell k (from (i * stride) table) (from (i * stride) tau) T L i j
     ≡ rowCell k (from ((i * w + j) / w * stride) table) (from ((i * w + j) / w * stride) tau) T L ((i * w + j) / w) ((i * w + j) % w)
 row-cells k w stride table tau T L i j b = rw (cell-row w i j b, cell-column w i j b)
+
+-- a turn of the loop over the rows: row i, lent as parts, lies within them, and once worked out it joins those above
+module _ (k : Model) (w stride i : ℕ) (table tau : List Float) (T L : Float) (cells : List Float) (marks : List ℕ) (b : i < w)
+    (hc : w * w ≤ length cells) (hm : w * w ≤ length marks) {c : List Float} {l : List ℕ} {r : ℕ}
+    (above : Refilled (i * w) (λ c. staleCell k (getD marks c 0) (c / w) (c % w))
+    (λ c. rowCell k (from (c / w * stride) table) (from (c / w * stride) tau) T L (c / w) (c % w)) cells marks c l r) where
+  pub turn-lent : (w - 1) * stride + w * 5 ≤ length table → (w - 1) * stride + w ≤ length tau
+      → (i < w) × (w * 5 ≤ length (from (i * stride) table)) × (w ≤ length (from (i * stride) tau)) × (w ≤ length (from (i * w) c)) × (w ≤ length (from (i * w) l))
+  turn-lent ht hu =
+      let kept = refilled-length _ _ cells marks (i * w) above in
+      let e : i * stride ≤ (w - 1) * stride = mul-le-mul-right stride (omega arith) in
+      let d = row-end w w i b in
+      (b, omega (arith, from-length (i * stride) table), omega (arith, from-length (i * stride) tau), omega (arith, from-length (i * w) c), omega (arith, from-length (i * w) l))
+
+  pub turn-more : {ys : List Float} {zs : List ℕ} {s : ℕ}
+      → Refilled w (λ j. staleCell k (getD (from (i * w) l) j 0) i j) (rowCell k (from (i * stride) table) (from (i * stride) tau) T L i) (from (i * w) c) (from (i * w) l) ys zs s
+      → (i + 1 ≤ w) × Refilled ((i + 1) * w) (λ c. staleCell k (getD marks c 0) (c / w) (c % w))
+      (λ c. rowCell k (from (c / w * stride) table) (from (c / w * stride) tau) T L (c / w) (c % w)) cells marks
+      (putMid (i * w) (length c - i * w) c ys) (putMid (i * w) (length l - i * w) l zs) (r + s)
+  turn-more row =
+      let d = row-end w w i b in (omega arith, refilled-row k w i _ cells marks (omega arith) (omega arith) _ above row (λ j b. row-cells k w stride table tau T L i j b))
 
 -- a loop that counts i to w has all of them at its end
 pub refilled-done : (i w : ℕ) {p : ℕ → Bool} {f : ℕ → Float} {cells : List Float} {marks : List ℕ} {c : List Float} {l : List ℕ} {r : ℕ}

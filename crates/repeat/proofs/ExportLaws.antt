@@ -1,13 +1,12 @@
 -- The steps of the exported call, over plain variables: a call after another, one more turn, all turns. Assumes nothing.
 use mathlib.Core.Path.{_≡_, refl, sym, ap, _∙_}
 use mathlib.Core.List.{List}
-use Prim.Native.Nat.{ℕ, _+_, _*_, _/_, _<_, _≤_}
+use Prim.Native.Nat.{ℕ, _+_, _*_, _/_, _≤_}
 use native.Mathlib.Nat.{le-antisymm}
 use native.Mathlib.Numerals.{add-one}
-use native.Mathlib.Omega.{arith}
 use lib.ListN.{length, replicate}
 use lib.Ieee.{Float, binary64, ofBits}
-use borrow.Author.Tests.{eq-eqb, ne-eqb, lt-ltb, le-ltb}
+use borrow.Author.Tests.{eq-eqb, ne-eqb, le-ltb}
 use Rattle.arithmetic.specs.Bytes.{floats, floatsAt, floatAt}
 use Rattle.arithmetic.specs.Floats.{+0}
 use Rattle.models.specs.declared.answers.Quantity.{Quantity}

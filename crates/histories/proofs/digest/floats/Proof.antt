@@ -23,10 +23,10 @@ shared-slice-read-bits-of : tie.Need-shared-slice-read-bits-of Inv-loop μ-loop
 shared-slice-read-bits-of c = omega arith
 
 bits-of-requires : tie.Need-bits-of-requires Inv-loop μ-loop
-bits-of-requires c κs = search needs
+bits-of-requires c κs = tt
 
 word-requires : tie.Need-word-requires Inv-loop μ-loop
-word-requires c κs = search needs
+word-requires c κs = tt
 
 add-k : tie.Need-add-k Inv-loop μ-loop
 add-k c = omega arith

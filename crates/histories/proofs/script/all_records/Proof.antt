@@ -14,7 +14,7 @@ abbrev μ-loop : tie.MeasureT-loop
 μ-loop fd values₀ cells₀ marks₀ head₀ counter₀ values cells marks head counter = 1000000 - counter
 
 no-head-requires : tie.Need-no-head-requires Inv-loop μ-loop
-no-head-requires c κs = search needs
+no-head-requires c κs = tt
 
 loop-holds : tie.Need-loop-holds Inv-loop μ-loop
 loop-holds c = (omega arith, refl, refl, refl)

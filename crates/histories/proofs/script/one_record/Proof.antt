@@ -13,13 +13,13 @@ returns : tie.Need-returns
 returns c = search needs
 
 broken-requires : tie.Need-broken-requires
-broken-requires c κs = search needs
+broken-requires c κs = tt
 
 returns-2 : tie.Need-returns-2
 returns-2 c = search needs
 
 begun-by-requires : tie.Need-begun-by-requires
-begun-by-requires c κs = search needs
+begun-by-requires c κs = tt
 
 has-room-requires : tie.Need-has-room-requires
 has-room-requires c κs = search needs
@@ -40,7 +40,7 @@ returns-3 : tie.Need-returns-3
 returns-3 c = search needs
 
 broken-requires-2 : tie.Need-broken-requires-2
-broken-requires-2 c κs = search needs
+broken-requires-2 c κs = tt
 
 returns-4 : tie.Need-returns-4
 returns-4 c = search needs

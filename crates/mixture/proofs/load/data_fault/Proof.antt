@@ -11,7 +11,7 @@ enum-told : tie.Need-enum-told
 enum-told c = search needs
 
 size-requires : tie.Need-size-requires
-size-requires c κs = search needs
+size-requires c κs = tt
 
 shape-fault-requires : tie.Need-shape-fault-requires
 shape-fault-requires c κs = tt

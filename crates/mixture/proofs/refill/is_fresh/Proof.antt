@@ -1,12 +1,11 @@
 -- As long as nothing counts, each mark passed is 1, but for the diagonal's. Assumes nothing.
 use mathlib.Core.Path.{_≡_, refl, sym, _∙_}
-use mathlib.Core.Bool.{true, false}
 use Prim.Native.Nat.{ℕ, _-_, _<_, _≤_}
 use native.Mathlib.Omega.{arith}
 use borrow.Author.Needs.{needs}
 use borrow.Author.Tests.{eqb-true}
 use denote.Ref.{now}
-use lib.ListN.{length, getD}
+use lib.ListN.{getD}
 use Rattle.mixture.proofs.ListLaws.{never}
 use Rattle.mixture.proofs.RefillLaws.{both-none, look-more, row-fresh}
 use Rattle.mixture.proofs.refill.is_fresh.Statement.{statement}
@@ -29,7 +28,7 @@ shared-slice-read-look : tie.Need-shared-slice-read-look Inv-loop μ-loop
 shared-slice-read-look c = omega arith
 
 look-requires : tie.Need-look-requires Inv-loop μ-loop
-look-requires c κs = search needs
+look-requires c κs = tt
 
 add-others : tie.Need-add-others Inv-loop μ-loop
 add-others c = omega (arith, c .look .ensures .0)
@@ -54,7 +53,7 @@ shared-slice-read-is-stale : tie.Need-shared-slice-read-is-stale Inv-loop μ-loo
 shared-slice-read-is-stale c = omega arith
 
 is-stale-requires : tie.Need-is-stale-requires Inv-loop μ-loop
-is-stale-requires c κs = search needs
+is-stale-requires c κs = tt
 
 returns : tie.Need-returns Inv-loop μ-loop
 returns c = λ e. never (sym e)

@@ -1,5 +1,4 @@
 -- Nothing to do where all marks are fresh; else row by row. Assumes nothing.
-use mathlib.Core.Path.{_≡_, refl}
 use borrow.Author.Needs.{needs}
 use Rattle.mixture.proofs.RefillLaws.{refilled-fresh}
 use Rattle.mixture.proofs.refill.refill.Statement.{statement}

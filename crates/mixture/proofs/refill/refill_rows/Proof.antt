@@ -6,9 +6,9 @@ use lib.ListN.{length, getD}
 use native.Mathlib.Nat.{zero-mul, mul-le-mul, mul-le-mul-right}
 use denote.Ref.{now}
 use Rattle.arithmetic.specs.Tables.{from}
-use Rattle.arithmetic.proofs.TableLaws.{row-end, from-length}
+use Rattle.arithmetic.proofs.TableLaws.{row-end}
 use Rattle.mixture.specs.Refills.{rowCell, staleCell, Refilled}
-use Rattle.mixture.proofs.RefillLaws.{refilled-none, refilled-length, refilled-count, refilled-row, refilled-done, row-cells}
+use Rattle.mixture.proofs.RefillLaws.{refilled-none, refilled-length, refilled-count, refilled-done, turn-lent, turn-more}
 use Rattle.mixture.proofs.refill.refill_rows.Statement.{statement}
 use Rattle.mixture.proofs.refill.refill_rows.Tie as tie
 
@@ -89,14 +89,8 @@ refill-row-requires : tie.Need-refill-row-requires Inv-loop μ-loop
 refill-row-requires c κs =
     let turn = c .before .before .before .before in
     let a = entry turn .args in
-    let i = turn .before .loop .i in
-    let r = room turn in (
-      turn .loop-test .taken,
-      omega (arith, r, from-length (i * a .stride) (now (a .table))),
-      omega (arith, r, from-length (i * a .stride) (now (a .tau))),
-      omega (arith, r, from-length (i * a .w) (turn .before .loop .cells)),
-      omega (arith, r, from-length (i * a .w) (turn .before .loop .marks)),
-    )
+    let p = entry turn .pre in
+    turn-lent (a .model) (a .w) (a .stride) (turn .before .loop .i) (now (a .table)) (now (a .tau)) (a .t) (a .ln) (now (a .cells)) (now (a .marks)) (turn .loop-test .taken) (p .3) (p .4) (turn .before .loop .inv .1) (p .1) (p .2)
 
 add-count : tie.Need-add-count Inv-loop μ-loop
 add-count c =
@@ -113,12 +107,8 @@ loop-again : tie.Need-loop-again Inv-loop μ-loop
 loop-again c =
     let turn = c .before .before .before .before .before .before .before .before .before in
     let a = entry turn .args in
-    let i = turn .before .loop .i in
-    let r = room turn in (
-      omega arith,
-      refilled-row (a .model) (a .w) i _ _ _ (omega (arith, r)) (omega (arith, r)) _ (turn .before .loop .inv .1) (c .before .before .before .before .refill-row .ensures)
-          (λ j b. row-cells (a .model) (a .w) (a .stride) (now (a .table)) (now (a .tau)) (a .t) (a .ln) i j b),
-    )
+    let p = entry turn .pre in
+    turn-more (a .model) (a .w) (a .stride) (turn .before .loop .i) (now (a .table)) (now (a .tau)) (a .t) (a .ln) (now (a .cells)) (now (a .marks)) (turn .loop-test .taken) (p .3) (p .4) (turn .before .loop .inv .1) (c .before .before .before .before .refill-row .ensures)
 
 same-length : tie.Need-same-length Inv-loop μ-loop
 same-length c = refilled-length _ _ _ _ _ (c .before .loop .inv .1) .0

@@ -1,18 +1,15 @@
 -- T and fractions after a load, by the calls' own definitions. Assumes nothing.
-use mathlib.Core.Path.{_≡_, refl, sym, ap, _∙_}
-use Prim.Native.Nat.{ℕ, zero, suc, _+_, _*_, _-_, _<_, _≤_}
-use native.Mathlib.Omega.{arith}
+use Prim.Native.Nat.{_-_}
 use borrow.Author.Needs.{needs}
-use lib.ListN.{length, getD}
 use Rattle.repeat.proofs.ExportLaws.{begun-is}
 use Rattle.repeat.proofs.exports.begin.Statement.{statement}
 use Rattle.repeat.proofs.exports.begin.Tie as tie
 
 set-requires : tie.Need-set-requires
-set-requires c κs = search needs
+set-requires c κs = tt
 
 fractions-requires : tie.Need-fractions-requires
-fractions-requires c κs = search needs
+fractions-requires c κs = tt
 
 same-length : tie.Need-same-length
 same-length c = search needs

@@ -1,9 +1,6 @@
 -- The calls one after another are the definition's. Assumes nothing.
-use mathlib.Core.Path.{_≡_, refl, sym, ap, _∙_}
-use Prim.Native.Nat.{ℕ, zero, suc, _+_, _*_, _-_, _<_, _≤_}
-use native.Mathlib.Omega.{arith}
+use Prim.Native.Nat.{_*_, _-_}
 use borrow.Author.Needs.{needs}
-use lib.ListN.{length, getD}
 use denote.Ref.{now}
 use Rattle.arithmetic.specs.Bytes.{floatAt}
 use Rattle.repeat.proofs.ExportLaws.{kept-is}
@@ -11,7 +8,7 @@ use Rattle.repeat.proofs.exports.kept.Statement.{statement}
 use Rattle.repeat.proofs.exports.kept.Tie as tie
 
 bare-head-requires : tie.Need-bare-head-requires
-bare-head-requires c κs = search needs
+bare-head-requires c κs = tt
 
 slice-aggregate-load-anew : tie.Need-slice-aggregate-load-anew
 slice-aggregate-load-anew c = search needs
@@ -23,7 +20,7 @@ slice-aggregate-load-anew-3 : tie.Need-slice-aggregate-load-anew-3
 slice-aggregate-load-anew-3 c = search needs
 
 load-anew-requires : tie.Need-load-anew-requires
-load-anew-requires c κs = search needs
+load-anew-requires c κs = tt
 
 float-at-requires : tie.Need-float-at-requires
 float-at-requires c κs = search needs
@@ -38,7 +35,7 @@ slice-aggregate-begin-3 : tie.Need-slice-aggregate-begin-3
 slice-aggregate-begin-3 c = search needs
 
 begin-requires : tie.Need-begin-requires
-begin-requires c κs = search needs
+begin-requires c κs = tt
 
 slice-aggregate-keep : tie.Need-slice-aggregate-keep
 slice-aggregate-keep c = search needs
@@ -50,7 +47,7 @@ slice-aggregate-keep-3 : tie.Need-slice-aggregate-keep-3
 slice-aggregate-keep-3 c = search needs
 
 keep-requires : tie.Need-keep-requires
-keep-requires c κs = search needs
+keep-requires c κs = tt
 
 returns : tie.Need-returns
 returns c = kept-is _ _ _ _ _ (λ k. floatAt (now (c .before .before .before .before .before .before .before .before .before .before .before .before .before .before .before .before .before .before .before .before .before .before .before .before .before .before .args .temperatures)) (8 * k)) _ _ (c .before .before .before .before .before .before .before .before .before .before .before .before .before .before .before .before .before .before .before .before .bare-head .ensures) (c .before .before .before .before .before .before .before .before .before .before .before .before .before .before .before .before .load-anew .ensures) (c .before .before .before .before .before .before .before .before .before .begin .ensures) (c .before .before .before .before .before .before .before .before .before .before .before .before .before .float-at .ensures) (c .before .before .before .keep .ensures)

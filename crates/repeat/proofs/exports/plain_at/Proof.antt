@@ -1,9 +1,7 @@
 -- Each model's plain call. Assumes nothing.
-use mathlib.Core.Path.{_≡_, refl, sym, ap, _∙_}
-use Prim.Native.Nat.{ℕ, zero, suc, _+_, _*_, _-_, _<_, _≤_}
-use native.Mathlib.Omega.{arith}
+use mathlib.Core.Path.{ap, _∙_}
+use Prim.Native.Nat.{_-_}
 use borrow.Author.Needs.{needs}
-use lib.ListN.{length, getD}
 use Rattle.mixture.specs.Plain.{plainCall}
 use Rattle.repeat.specs.Exports.{plainValue}
 use Rattle.repeat.proofs.exports.plain_at.Statement.{statement}
@@ -13,37 +11,37 @@ enum-told : tie.Need-enum-told
 enum-told c = search needs
 
 plain-requires : tie.Need-plain-requires
-plain-requires c κs = search needs
+plain-requires c κs = tt
 
 plain-value-requires : tie.Need-plain-value-requires
-plain-value-requires c κs = search needs
+plain-value-requires c κs = tt
 
 enum-told-2 : tie.Need-enum-told-2
 enum-told-2 c = search needs
 
 plain-requires-2 : tie.Need-plain-requires-2
-plain-requires-2 c κs = search needs
+plain-requires-2 c κs = tt
 
 plain-value-requires-2 : tie.Need-plain-value-requires-2
-plain-value-requires-2 c κs = search needs
+plain-value-requires-2 c κs = tt
 
 enum-told-3 : tie.Need-enum-told-3
 enum-told-3 c = search needs
 
 plain-requires-3 : tie.Need-plain-requires-3
-plain-requires-3 c κs = search needs
+plain-requires-3 c κs = tt
 
 plain-value-requires-3 : tie.Need-plain-value-requires-3
-plain-value-requires-3 c κs = search needs
+plain-value-requires-3 c κs = tt
 
 enum-told-4 : tie.Need-enum-told-4
 enum-told-4 c = search needs
 
 plain-requires-4 : tie.Need-plain-requires-4
-plain-requires-4 c κs = search needs
+plain-requires-4 c κs = tt
 
 plain-value-requires-4 : tie.Need-plain-value-requires-4
-plain-value-requires-4 c κs = search needs
+plain-value-requires-4 c κs = tt
 
 returns : tie.Need-returns
 unfolding plainCall

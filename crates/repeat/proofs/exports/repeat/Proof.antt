@@ -1,15 +1,12 @@
 -- The plain calls, or the mixture. Assumes nothing.
-use mathlib.Core.Path.{_≡_, refl, sym, ap, _∙_}
-use Prim.Native.Nat.{ℕ, zero, suc, _+_, _*_, _-_, _<_, _≤_}
-use native.Mathlib.Omega.{arith}
+use Prim.Native.Nat.{_-_}
 use borrow.Author.Needs.{needs}
-use lib.ListN.{length, getD}
 use Rattle.repeat.proofs.ExportLaws.{repeated-plain, repeated-kept}
 use Rattle.repeat.proofs.exports.repeat.Statement.{statement}
 use Rattle.repeat.proofs.exports.repeat.Tie as tie
 
 plain-each-requires : tie.Need-plain-each-requires
-plain-each-requires c κs = search needs
+plain-each-requires c κs = tt
 
 returns : tie.Need-returns
 returns c = repeated-plain _ _ _ _ _ _ _ (c .before .if1 .taken) (c .plain-each .ensures)

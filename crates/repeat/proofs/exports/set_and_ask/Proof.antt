@@ -1,18 +1,15 @@
 -- A setting and then a query, by the calls' own definitions. Assumes nothing.
-use mathlib.Core.Path.{_≡_, refl, sym, ap, _∙_}
-use Prim.Native.Nat.{ℕ, zero, suc, _+_, _*_, _-_, _<_, _≤_}
-use native.Mathlib.Omega.{arith}
+use Prim.Native.Nat.{_-_}
 use borrow.Author.Needs.{needs}
-use lib.ListN.{length, getD}
 use Rattle.repeat.proofs.ExportLaws.{set-asked}
 use Rattle.repeat.proofs.exports.set_and_ask.Statement.{statement}
 use Rattle.repeat.proofs.exports.set_and_ask.Tie as tie
 
 set-requires : tie.Need-set-requires
-set-requires c κs = search needs
+set-requires c κs = tt
 
 query-requires : tie.Need-query-requires
-query-requires c κs = search needs
+query-requires c κs = tt
 
 same-length : tie.Need-same-length
 same-length c = search needs

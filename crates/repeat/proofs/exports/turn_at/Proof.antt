@@ -1,15 +1,12 @@
 -- A query alone, or after a setting. Assumes nothing.
-use mathlib.Core.Path.{_≡_, refl, sym, ap, _∙_}
-use Prim.Native.Nat.{ℕ, zero, suc, _+_, _*_, _-_, _<_, _≤_}
-use native.Mathlib.Omega.{arith}
+use Prim.Native.Nat.{_-_}
 use borrow.Author.Needs.{needs}
-use lib.ListN.{length, getD}
 use Rattle.repeat.proofs.ExportLaws.{turn-none, turn-set}
 use Rattle.repeat.proofs.exports.turn_at.Statement.{statement}
 use Rattle.repeat.proofs.exports.turn_at.Tie as tie
 
 query-requires : tie.Need-query-requires
-query-requires c κs = search needs
+query-requires c κs = tt
 
 same-length : tie.Need-same-length
 same-length c = search needs
@@ -24,7 +21,7 @@ returns : tie.Need-returns
 returns c = λ k v t e. turn-none _ k v _ t _ _ (c .before .before .before .before .before .before .before .before .if1 .taken) (c .before .before .before .before .query .ensures)
 
 set-and-ask-requires : tie.Need-set-and-ask-requires
-set-and-ask-requires c κs = search needs
+set-and-ask-requires c κs = tt
 
 same-length-4 : tie.Need-same-length-4
 same-length-4 c = search needs
