@@ -12,6 +12,7 @@ pub mod Plain
 pub mod WrittenBack
 pub mod CountLaws
 pub mod RefillLaws
+pub mod FreshLaws
 pub mod SolvedLaws
 pub mod CopyLaws
 pub mod CallLaws

@@ -30,6 +30,10 @@ rowCell k row tau T L i j =
 unfoldable pub staleCell : Model → ℕ → ℕ → ℕ → Bool
 staleCell k mark i j = byModel k (not (eqb i j)) (not (eqb i j)) (not (eqb i j)) true && not (eqb mark 1)
 
+-- the mark at c is other than 1
+abbrev pub unmarked : List ℕ → ℕ → Bool
+unmarked marks c = not (eqb (getD marks c 0) 1)
+
 -- of the first n places those that pass are worked out and marked fresh, and r is their number
 pub record Refilled (n : ℕ) (p : ℕ → Bool) (f : ℕ → Float) (cells : List Float) (marks : List ℕ) (cells′ : List Float) (marks′ : List ℕ) (r : ℕ) : Type 0 where
   pub worked : cells′ ≡ written (λ c. ltb c n && p c) f cells

@@ -1,11 +1,11 @@
 // A query's stale cells: each is worked out from T and its inputs, and marked 1.
 ghost use mathlib.Core.Path.{_≡_};
 ghost use mathlib.Core.Bool.{true, false};
-ghost use mathlib.Core.Logic.{_⊎_};
 ghost use Prim.Native.Nat.{ℕ, _+_, _*_, _-_, _/_, _%_, _≤_, _<_};
 ghost use lib.ListN.{length, getD};
 ghost use Rattle.arithmetic.specs.Tables.{from};
-ghost use Rattle.mixture.specs.Refills.{rowCell, staleCell, Refilled};
+ghost use Rattle.mixture.specs.Lists.{howMany};
+ghost use Rattle.mixture.specs.Refills.{rowCell, staleCell, unmarked, Refilled};
 use crate::head::Model;
 
 // Entry j of row i. `row` starts at the row's energies, α or td entries; `tau` at its τ at T, which only NRTL reads; ln is
@@ -40,36 +40,6 @@ fn is_stale(model: Model, mark: u8, i: usize, j: usize) -> bool
     }
 }
 
-// 0 where a mark is 1 or stands at the place to be passed over, else 1.
-fn look(mark: u8, place: u8, own: u8) -> u8
-    ensures { λ r. ⌜ (r ≤ 1) × (r ≡ 0 → (mark ≡ 1) ⊎ (place ≡ own)) ⌝ }
-{
-    if mark != 1 {
-        if place != own {
-            return 1;
-        }
-    }
-    0
-}
-
-// Whether row i, whose marks these are, has no stale cell: they are looked at side by side, a byte a lane, the diagonal's apart.
-fn is_fresh(model: Model, w: usize, i: usize, marks: &[u8]) -> bool
-    requires { ⌜ (i < w) × (w ≤ 32) × (w ≤ length (now marks)) ⌝ }
-    ensures { λ r. ⌜ (r ≡ true → (j : ℕ) → j < w → staleCell model (getD (now (marks .entry)) j 0) i j ≡ false) ⌝ }
-{
-    let own = i as u8;
-    let mut place: u8 = 0;
-    let mut others: u8 = 0;
-    for j in 0..w {
-        others += look(marks[j], place, own);
-        place += 1;
-    }
-    if is_stale(model, marks[i], i, i) {
-        return false;
-    }
-    others == 0
-}
-
 // Works out the stale cells of row i, and counts them. All four slices start at that row.
 fn refill_row(
     model: Model,
@@ -96,18 +66,46 @@ fn refill_row(
     count
 }
 
-// Whether no cell is stale; it stops at the first row that has one.
+// How many of the first n marks are other than 1.
+fn count_unmarked(marks: &[u8], n: usize) -> u16
+    requires { ⌜ (n ≤ 1024) × (n ≤ length (now marks)) ⌝ }
+    ensures { λ r. ⌜ r ≡ howMany n (λ c. unmarked (now (marks .entry)) c) ⌝ }
+{
+    let mut count: u16 = 0;
+    for c in 0..n {
+        if marks[c] != 1 {
+            count += 1;
+        }
+    }
+    count
+}
+
+// How many marks on the diagonal of w rows are other than 1.
+fn count_diagonal(marks: &[u8], w: usize) -> u16
+    requires { ⌜ (w ≤ 32) × (w * w ≤ length (now marks)) ⌝ }
+    ensures { λ r. ⌜ r ≡ howMany w (λ i. unmarked (now (marks .entry)) (i * w + i)) ⌝ }
+{
+    let mut count: u16 = 0;
+    for i in 0..w {
+        if marks[i * w + i] != 1 {
+            count += 1;
+        }
+    }
+    count
+}
+
+// Whether no cell is stale: the marks are counted side by side; those of the diagonal, where it has no cells, are apart.
 fn all_fresh(model: Model, w: usize, marks: &[u8]) -> bool
     requires { ⌜ (w ≤ 32) × (w * w ≤ length (now marks)) ⌝ }
     ensures { λ r. ⌜ (r ≡ true → (c : ℕ) → c < w * w → staleCell model (getD (now (marks .entry)) c 0) (c / w) (c % w) ≡ false) ⌝ }
 {
-    for i in 0..w {
-        let place = i * w;
-        if !is_fresh(model, w, i, &marks[place..]) {
-            return false;
-        }
+    let count = count_unmarked(marks, w * w);
+    match model {
+        Model::Wilson => count == count_diagonal(marks, w),
+        Model::Uniquac => count == count_diagonal(marks, w),
+        Model::Nrtl => count == count_diagonal(marks, w),
+        Model::Unifac => count == 0,
     }
-    true
 }
 
 // Works out every stale cell, row by row, and counts them. Row i of `table` and of `tau` starts at i·stride.
