@@ -8,7 +8,7 @@ use native.Mathlib.Omega.{arith}
 use lib.Dec.{eqb}
 use lib.ListN.{length, set}
 use borrow.Author.Tests.{eq-eqb, ne-eqb, eqb-false}
-use lib.Ieee.{Float}
+use lib.Ieee.{Float, neg}
 use Rattle.arithmetic.specs.Exponential.{expOf}
 use Rattle.arithmetic.specs.Floats.{_⊕_, _⊖_, _⊗_, _⊘_, +0, one}
 use Rattle.arithmetic.specs.Sums.{sum}
@@ -16,14 +16,13 @@ use Rattle.arithmetic.specs.Parameters.{tdAt}
 use Rattle.arithmetic.specs.Tables.{at, grid, from, Filled, upTo}
 use Rattle.arithmetic.proofs.Differences.{either}
 use Rattle.arithmetic.proofs.SumLaws.{sum-same}
-use Rattle.arithmetic.proofs.TableLaws.{from-at, cell-lt, upto-below}
+use Rattle.arithmetic.proofs.TableLaws.{from-at, cell-lt}
 use Rattle.models.specs.declared.answers.Quantity.{Quantity}
 use Rattle.models.specs.declared.answers.Quantity.the-variants.{LnGamma, Gamma, ExcessGibbs}
 use Rattle.models.specs.Answers.{indexFault}
 use Rattle.models.specs.Columns.{unitAt, unitDiagonal, columnSum}
 use Rattle.models.specs.Exponentials.{nonrandomness}
 use Rattle.models.specs.Nrtl.{tauAt, tau, numerator, lnGamma, excess, nrtl, nrtlAt}
-use Rattle.models.specs.Rows.{OffDiagonal}
 use Rattle.models.specs.Values.{fiveAt, tdGrid, taus, alphas}
 use Rattle.models.proofs.AnswerLaws.{index-ln, index-gamma, quantity-ln, quantity-gamma, quantity-excess, quantity-same}
 use Rattle.models.proofs.ColumnLaws.{unit-row, unit-same, column-same, unit-on, unit-off, row-added}
@@ -130,14 +129,14 @@ module _ (n : ℕ) (τ σ G H : ℕ → ℕ → Float) (x y : ℕ → Float)
   unfolding nrtl
   nrtl-same q z = quantity-same n q _ _ _ _ z ln-same excess-same
 
--- what `value_at` puts together: τ at T in the table tl, and G off the diagonal in gl
-pub nrtl-from : (n : ℕ) (l : List Float) (T : Float) (x old : ℕ → Float) {p : ℕ} {tl gl : List Float} → n * n * 5 + n * n ≤ length l → n * n ≤ p →
-    Filled (upTo (n * n) (λ k. tdAt (fiveAt l (k * 5)) T) old) p tl → OffDiagonal n n (nonrandomness (grid n (from (n * n * 5) l)) (grid n tl)) gl →
+-- what `value_at` puts together: τ at T in the table tl, and G in gl
+pub nrtl-from : (n : ℕ) (l : List Float) (T : Float) (x : ℕ → Float) {tl gl : List Float} → n * n * 5 + n * n ≤ length l →
+    Filled (λ k. tdAt (fiveAt l (k * 5)) T) (n * n) tl → Filled (λ k. expOf (neg (at (from (n * n * 5) l) k) ⊗ at tl k)) (n * n) gl →
     (q : Quantity) → indexFault n q ≡ 0 → nrtl n (grid n tl) (grid n gl) x q ≡ nrtlAt n (taus n l) (alphas n l) T x q
-unfolding nrtlAt taus alphas tdGrid
-nrtl-from n l T x old {p} {tl} {gl} h k ts gs q z =
+unfolding nrtlAt taus alphas tdGrid nonrandomness
+nrtl-from n l T x {tl} {gl} h ts gs q z =
     nrtl-same n _ _ _ _ x x (λ i j b c ne. entry i j b c)
-    (λ i j b c ne. gs .entry i j b c ne ∙ nonrandomness-same _ _ _ _ i j (from-at l (n * n * 5) (i * n + j) (omega (arith, cell-lt n n i j b c))) (entry i j b c)) (λ i b. refl) q z
+    (λ i j b c ne. gs .each (i * n + j) (cell-lt n n i j b c) ∙ rw (from-at l (n * n * 5) (i * n + j) (omega (arith, cell-lt n n i j b c)), entry i j b c)) (λ i b. refl) q z
   where
     entry : (i j : ℕ) → i < n → j < n → grid n tl i j ≡ tdAt (fiveAt l ((i * n + j) * 5)) T
-    entry i j b c = ts .each (i * n + j) (omega (arith, cell-lt n n i j b c)) ∙ upto-below (n * n) _ old (i * n + j) (cell-lt n n i j b c)
+    entry i j b c = ts .each (i * n + j) (cell-lt n n i j b c)

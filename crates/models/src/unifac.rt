@@ -5,7 +5,7 @@ ghost use lib.ListN.{length};
 ghost use Rattle.arithmetic.specs.Floats.{_⊕_, _⊗_, _⊘_};
 ghost use Rattle.arithmetic.specs.Sums.{sum};
 ghost use Rattle.arithmetic.specs.Parameters.{tdAt};
-ghost use Rattle.arithmetic.specs.Tables.{at, grid, flat, from, Filled, upTo};
+ghost use Rattle.arithmetic.specs.Tables.{at, grid, flat, from, Filled};
 ghost use Rattle.models.specs.Answers.{indexFault};
 ghost use Rattle.models.specs.Columns.{columnSum};
 ghost use Rattle.models.specs.Exponentials.{groupEnergy};
@@ -28,27 +28,18 @@ pub fn psi(row: &[f64], t: f64, ln: f64, k: usize) -> f64
     arithmetic::exp(-a.value_by(t, ln) / t)
 }
 
-// Writes a row of Ψ to the first ng places of out.
-pub fn fill_psi(row: &[f64], t: f64, ln: f64, ng: usize, out: &mut [f64])
-    requires { ⌜ (ng * 5 ≤ length (now row)) × (ng ≤ length (now out)) ⌝ }
-    ensures { λ _. ⌜ Filled (upTo ng (psiBy (now (row .entry)) t ln) (at (now (out .entry)))) (length (now (out .entry))) (now (out .exit)) ⌝ }
-{
-    for k in 0..ng {
-        out[k] = psi(row, t, ln, k);
-    }
-}
-
-// Writes Ψ by full rows of ng, each through the part of the table that starts there.
+// Writes Ψ by full rows of ng: a at T, then every argument, then exp of them all at once.
 fn fill_table(values: &[f64], t: f64, ng: usize, table: &mut [f64])
     requires { ⌜ (ng ≤ 32) × (countsAt ng ≤ length (now values)) × (ng * ng ≤ length (now table)) ⌝ }
     ensures { λ _. ⌜ Filled (flat ng (groupEnergy (λ m k. tdAt (groupAs ng (now (values .entry)) m k) t) t)) (ng * ng) (now (table .exit)) ⌝ }
 {
-    let ln = arithmetic::log(t);
-    for m in 0..ng {
-        let place = m * ng;
-        let five = ng + ng + place * 5;
-        fill_psi(&values[five..], t, ln, ng, &mut table[place..]);
+    let five = ng + ng;
+    let count = ng * ng;
+    crate::parameters::fill_values(&values[five..], count, t, table);
+    for k in 0..count {
+        table[k] = -table[k] / t;
     }
+    arithmetic::exp_each(table, count);
 }
 
 // Θ of each group from the group fractions.

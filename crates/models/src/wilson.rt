@@ -106,7 +106,8 @@ pub fn value_at(n: usize, values: &[f64], t: f64, x: &[f64], q: Quantity) -> f64
     requires { ⌜ (n ≤ 12) × (wilsonSize n ≤ length (now values)) × (n ≤ length (now x)) × (indexFault n q ≡ 0) ⌝ }
     ensures { λ r. ⌜ r ≡ wilsonAt n (volumes n (now (values .entry))) (energies n (now (values .entry))) t (at (now (x .entry))) q ⌝ }
 {
-    let e = crate::exponentials::energy_table(values, t, n);
+    let mut e = [0.0; 144];
+    crate::exponentials::fill_energies(values, t, n, &mut e[..]);
     let at = n * n;
     value_over(n, &values[at..], &e[..], x, q)
 }
