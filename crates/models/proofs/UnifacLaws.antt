@@ -1,6 +1,6 @@
 -- UNIFAC: what an exponential reads, rows lent as parts, sums worked out once, and equal inputs give equal values.
 -- Assumes nothing.
-use mathlib.Core.Path.{_≡_, refl, sym, ap, _∙_}
+use mathlib.Core.Path.{_≡_, refl, ap, _∙_}
 use mathlib.Core.Bool.{cond}
 use mathlib.Core.List.{List}
 use Prim.Native.Nat.{ℕ, _+_, _*_, _/_, _%_, _<_, _≤_}
@@ -15,7 +15,6 @@ use Rattle.arithmetic.specs.Logarithm.{logOf}
 use Rattle.arithmetic.specs.Parameters.{tdAt}
 use Rattle.arithmetic.specs.Sums.{fold, sum}
 use Rattle.arithmetic.specs.Tables.{at, grid, from, flat, Filled, upTo}
-use Rattle.arithmetic.specs.declared.parameters.TdParam.{TdParam}
 use Rattle.arithmetic.proofs.SumLaws.{fold-same, sum-same}
 use Rattle.arithmetic.proofs.TableLaws.{row-end, filled-cell, from-at}
 use Rattle.models.specs.declared.answers.Quantity.{Quantity}

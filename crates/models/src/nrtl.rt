@@ -8,7 +8,7 @@ ghost use Rattle.arithmetic.specs.Parameters.{tdAt};
 ghost use Rattle.arithmetic.specs.Floats.{_⊕_, _⊖_, _⊗_, _⊘_};
 ghost use Rattle.arithmetic.specs.Tables.{at, grid, Filled, upTo};
 ghost use Rattle.models.specs.Answers.{indexFault};
-ghost use Rattle.models.specs.Columns.{unitAt, unitDiagonal, columnSum};
+ghost use Rattle.models.specs.Columns.{unitAt, unitDiagonal};
 ghost use Rattle.models.specs.Nrtl.{tauAt, numerator, nrtl, nrtlAt};
 ghost use Rattle.models.specs.Plain.{nrtlPlain};
 ghost use Rattle.models.specs.Values.{fiveAt, nrtlSize, taus, alphas};
@@ -101,7 +101,7 @@ fn second(n: usize, tau: &[f64], g: &[f64], u: &[f64], d: &[f64], x: &[f64], i: 
         terms[j] = x[j] * g[j] / d[j] * (tau[j] - u[j] / d[j]);
     }
     terms[i] = x[i] * 1.0 / d[i] * (0.0 - u[i] / d[i]);
-    columns::sum_to(&terms[..], n)
+    arithmetic::sum(&terms[..n])
 }
 
 // ln γ_i, u being the numerators and d the denominators.

@@ -1,8 +1,8 @@
 // UNIFAC: A. Fredenslund, R. L. Jones, J. M. Prausnitz, AIChE J. 21 (1975) 1086.
 ghost use mathlib.Core.Path.{_≡_};
-ghost use Prim.Native.Nat.{ℕ, _+_, _*_, _≤_, _<_};
+ghost use Prim.Native.Nat.{_+_, _*_, _≤_, _<_};
 ghost use lib.ListN.{length};
-ghost use Rattle.arithmetic.specs.Floats.{_⊕_, _⊗_, _⊘_};
+ghost use Rattle.arithmetic.specs.Floats.{_⊗_, _⊘_};
 ghost use Rattle.arithmetic.specs.Sums.{sum};
 ghost use Rattle.arithmetic.specs.Parameters.{tdAt};
 ghost use Rattle.arithmetic.specs.Tables.{at, grid, flat, from, Filled};
@@ -77,20 +77,22 @@ fn row_sum(theta: &[f64], row: &[f64], denom: &[f64], ng: usize) -> f64
     for m in 0..ng {
         terms[m] = theta[m] * row[m] / denom[m];
     }
-    columns::sum_to(&terms[..], ng)
+    arithmetic::sum(&terms[..ng])
 }
 
-// ln Γ of each group; the column sums that every one divides by are worked out once.
+// ln Γ of each group; the column sums that every one divides by, and their logs, are worked out once.
 fn gamma_k(q: &[f64], theta: &[f64], psi: &[f64], ng: usize) -> [f64; 32]
     requires { ⌜ (ng ≤ 32) × (ng ≤ length (now q)) × (ng ≤ length (now theta)) × (ng * ng ≤ length (now psi)) ⌝ }
     ensures { λ r. ⌜ Filled (lnGroup ng (at (now (q .entry))) (grid ng (now (psi .entry))) (at (now (theta .entry)))) ng r ⌝ }
 {
     let denom = column_sums(theta, psi, ng);
+    let mut logs = denom;
+    arithmetic::log_each(&mut logs[..], ng);
     let mut gamma = [0.0; 32];
     for k in 0..ng {
         let place = k * ng;
         let s = row_sum(theta, &psi[place..], &denom[..], ng);
-        gamma[k] = q[k] * (1.0 - arithmetic::log(denom[k]) - s);
+        gamma[k] = q[k] * (1.0 - logs[k] - s);
     }
     gamma
 }

@@ -79,7 +79,7 @@ fn residual(n: usize, q: f64, row: &[f64], theta: &[f64], sums: &[f64], i: usize
         terms[j] = theta[j] * row[j] / sums[j];
     }
     terms[i] = theta[i] * 1.0 / sums[i];
-    let s = crate::columns::sum_to(&terms[..], n);
+    let s = arithmetic::sum(&terms[..n]);
     q * (1.0 - arithmetic::log(sums[i]) - s)
 }
 

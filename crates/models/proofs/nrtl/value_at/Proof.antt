@@ -1,5 +1,4 @@
 -- τ at T fills its table, and G its own: equal entries, equal answers. Assumes nothing.
-use mathlib.Core.Path.{_∙_}
 use Prim.Native.Nat.{_+_, _*_, _≤_}
 use native.Mathlib.Nat.{mul-le-mul}
 use native.Mathlib.Omega.{arith}
@@ -70,7 +69,7 @@ value-over-requires c κs =
 returns : tie.Need-returns
 returns c =
     let start = c .before .before .before .before .before .before .before .before .before .before .before .before .before in
-    c .value-over .ensures ∙ nrtl-from (start .args .n) (now (start .args .values)) (start .args .t) _ (fits start .0) (c .before .before .before .before .before .before .before .before .before .fill-taus .ensures) (c .before .before .before .before .fill-exponentials .ensures) _ (start .pre .3)
+    nrtl-from (start .args .n) (now (start .args .values)) _ _ _ _ _ (fits start .0) (start .pre .3) (c .before .before .before .before .before .before .before .before .before .fill-taus .ensures) (c .before .before .before .before .fill-exponentials .ensures) (c .value-over .ensures)
 
 pub value-at-spec : {M : Type 1} → statement M
 value-at-spec =

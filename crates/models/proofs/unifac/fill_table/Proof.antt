@@ -10,7 +10,7 @@ use lib.ListN.{length, length-set}
 use Rattle.arithmetic.specs.Floats.{_⊘_}
 use Rattle.arithmetic.specs.Parameters.{tdAt}
 use Rattle.arithmetic.specs.Tables.{from, Filled, upTo}
-use Rattle.arithmetic.proofs.TableLaws.{from-length, filled-as, filled-less, upto-above, upto-below, upto-more, upto-next}
+use Rattle.arithmetic.proofs.TableLaws.{from-length, filled-as, upto-above, upto-below, upto-more, upto-next}
 use Rattle.models.specs.Values.{countsAt, fiveAt}
 use Rattle.models.proofs.UnifacLaws.{table-filled}
 use Rattle.models.proofs.unifac.fill_table.Statement.{statement}

@@ -1,15 +1,13 @@
 -- The table holds the exponentials, the part from n·n on the r's, and n places further the q's: equal entries, equal answers. Assumes nothing.
-use mathlib.Core.Path.{refl, _∙_}
 use Prim.Native.Nat.{_+_, _*_, _≤_}
 use native.Mathlib.Nat.{mul-le-mul}
 use native.Mathlib.Omega.{arith}
 use denote.Ref.{now}
 use borrow.Author.Needs.{needs}
 use lib.ListN.{length}
-use Rattle.arithmetic.proofs.TableLaws.{from-at, from-length, filled-cell}
-use Rattle.models.specs.Values.{uniquacSize, rs, qs}
-use Rattle.models.specs.Uniquac.{uniquacAt}
-use Rattle.models.proofs.UniquacLaws.{uniquac-same}
+use Rattle.arithmetic.proofs.TableLaws.{from-length}
+use Rattle.models.specs.Values.{uniquacSize}
+use Rattle.models.proofs.UniquacLaws.{uniquac-from}
 use Rattle.models.proofs.uniquac.value_at.Statement.{statement}
 use Rattle.models.proofs.uniquac.value_at.Tie as tie
 
@@ -66,14 +64,9 @@ value-over-requires c κs =
     (start .pre .0, omega (arith, r-part, fits start), omega (arith, q-part, fits start), omega (arith, c .before .before .before .before .fill-energies .kept .1 .1 .1 .0, fits start), start .pre .2, start .pre .3)
 
 returns : tie.Need-returns
-unfolding uniquacAt rs qs
 returns c =
     let start = c .before .before .before .before .before .before .before .before .before in
-    let n = start .args .n in
-    let l = now (start .args .values) in
-    c .value-over .ensures
-    ∙ uniquac-same n _ _ _ _ _ _ (λ i b. from-at l (n * n) i (omega (arith, fits start))) (λ i b. from-at l (n * n + n) i (omega (arith, fits start))) (λ i b. refl)
-    _ _ (λ i j b d ne. filled-cell n n _ (c .before .before .before .before .before .fill-energies .ensures) i j b d) _ (start .pre .3)
+    uniquac-from (start .args .n) (now (start .args .values)) _ _ _ _ (fits start .0) (start .pre .3) (c .before .before .before .before .before .fill-energies .ensures) (c .value-over .ensures)
 
 pub value-at-spec : {M : Type 1} → statement M
 value-at-spec =

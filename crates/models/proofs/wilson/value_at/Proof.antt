@@ -1,15 +1,13 @@
 -- The table holds the exponentials, and the part from n·n on the volumes: equal entries, equal answers. Assumes nothing.
-use mathlib.Core.Path.{refl, _∙_}
 use Prim.Native.Nat.{_+_, _*_, _≤_}
 use native.Mathlib.Nat.{mul-le-mul}
 use native.Mathlib.Omega.{arith}
 use denote.Ref.{now}
 use borrow.Author.Needs.{needs}
 use lib.ListN.{length}
-use Rattle.arithmetic.proofs.TableLaws.{from-at, from-length, filled-cell}
-use Rattle.models.specs.Values.{wilsonSize, volumes}
-use Rattle.models.specs.Wilson.{wilsonAt}
-use Rattle.models.proofs.WilsonLaws.{wilson-same}
+use Rattle.arithmetic.proofs.TableLaws.{from-length}
+use Rattle.models.specs.Values.{wilsonSize}
+use Rattle.models.proofs.WilsonLaws.{wilson-from}
 use Rattle.models.proofs.wilson.value_at.Statement.{statement}
 use Rattle.models.proofs.wilson.value_at.Tie as tie
 
@@ -49,13 +47,9 @@ value-over-requires c κs =
     (start .pre .0, omega (arith, from-length (n * n) (now (start .args .values)), fits start), omega (arith, c .before .before .before .fill-energies .kept .1 .1 .1 .0, fits start), start .pre .2, start .pre .3)
 
 returns : tie.Need-returns
-unfolding wilsonAt volumes
 returns c =
     let start = c .before .before .before .before .before .before .before .before in
-    let n = start .args .n in
-    c .value-over .ensures
-    ∙ wilson-same n _ _ _ _ _ _ (λ i b. from-at (now (start .args .values)) (n * n) i (omega (arith, fits start))) (λ i b. refl)
-    (λ i j b d ne. filled-cell n n _ (c .before .before .before .before .fill-energies .ensures) i j b d) _ (start .pre .3)
+    wilson-from (start .args .n) (now (start .args .values)) _ _ _ _ (fits start .0) (start .pre .3) (c .before .before .before .before .fill-energies .ensures) (c .value-over .ensures)
 
 pub value-at-spec : {M : Type 1} → statement M
 value-at-spec =
