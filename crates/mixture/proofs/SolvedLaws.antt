@@ -11,9 +11,9 @@ use lib.ListN.{length, getD}
 use lib.Ieee.{Float}
 use Rattle.arithmetic.specs.Logarithm.{logOf}
 use Rattle.arithmetic.specs.Parameters.{tdAt}
-use Rattle.arithmetic.specs.Tables.{at, grid, from, Filled, upTo}
+use Rattle.arithmetic.specs.Tables.{at, grid, from, Filled}
 use Rattle.arithmetic.specs.declared.parameters.TdParam.{TdParam}
-use Rattle.arithmetic.proofs.TableLaws.{cell-lt, row-end, from-at, from-length, upto-below}
+use Rattle.arithmetic.proofs.TableLaws.{cell-lt, row-end, from-at, from-length}
 use Rattle.models.specs.declared.answers.Quantity.{Quantity}
 use Rattle.models.specs.Answers.{indexFault}
 use Rattle.models.specs.Exponentials.{energy, nonrandomness, groupEnergy}
@@ -86,11 +86,10 @@ module _ (n : ℕ) (v : List Float) (T L : Float) (x : ℕ → Float) (q : Quant
       }
 
   -- ---- NRTL, with τ at T in the table tl
-  module _ (old : ℕ → Float) {s : ℕ} {tl : List Float} (h : n * n * 5 + n * n ≤ length v) (g : n * n ≤ s) (k : n * n ≤ length tl)
-      (ts : Filled (upTo (n * n) (λ k. tdAt (fiveAt v (k * 5)) T) old) s tl) where
+  module _ {tl : List Float} (h : n * n * 5 + n * n ≤ length v) (k : n * n ≤ length tl) (ts : Filled (λ k. tdAt (fiveAt v (k * 5)) T) (n * n) tl) where
     tau-entry : (i j : ℕ) → i < n → j < n → grid n tl i j ≡ tdAt (taus n v i j) T
     unfolding taus tdGrid
-    tau-entry i j b d = ts .each (i * n + j) (omega (arith, cell-lt n n i j b d)) ∙ upto-below (n * n) _ old (i * n + j) (cell-lt n n i j b d)
+    tau-entry i j b d = ts .each (i * n + j) (cell-lt n n i j b d)
 
     row-g : (i j : ℕ) → i < n → j < n → nonrandomness (λ _. at (from (i * n) (from (n * n * 5) v))) (λ _. at (from (i * n) tl)) i j ≡ nonrandomness (alphas n v) (λ i j. tdAt (taus n v i j) T) i j
     unfolding alphas

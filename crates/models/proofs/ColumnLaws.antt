@@ -1,21 +1,20 @@
 -- Column sums that grow row by row: none, one more row, all rows, and equal entries. Assumes nothing.
 use mathlib.Core.Path.{_≡_, refl, sym, ap, _∙_}
 use mathlib.Core.List.{List}
-use mathlib.Core.Bool.{Bool, true, false}
-use mathlib.Core.Logic.{_⊎_, inl, inr}
+use mathlib.Core.Logic.{inl, inr}
 use Prim.Native.Nat.{ℕ, _+_, _*_, _<_, _≤_}
 use native.Mathlib.Nat.{le-antisymm, ne-of-lt, ne-of-gt}
 use native.Mathlib.Omega.{arith}
 use lib.Dec.{eqb}
 use borrow.Author.Tests.{eq-eqb, ne-eqb, eqb-false}
-use lib.ListN.{length, getD, set, replicate, getD-replicate}
-use lib.Seq.{getD-set-same, getD-set-other}
+use lib.ListN.{length, set, take, replicate, getD-replicate, length-set}
+use lib.Seq.{getD-set-same, getD-set-other, getD-take, length-take-le}
 use lib.Ieee.{Float, nan, binary64, ofBits}
 use Rattle.arithmetic.specs.Floats.{_⊕_, _⊗_, one}
-use Rattle.arithmetic.specs.Sums.{sum}
+use Rattle.arithmetic.specs.Sums.{sum, total}
 use Rattle.arithmetic.specs.Tables.{at, grid, from, Filled, upTo}
 use Rattle.arithmetic.proofs.SumLaws.{sum-none, sum-more, sum-same}
-use Rattle.arithmetic.proofs.TableLaws.{upto-below, from-at, by-place}
+use Rattle.arithmetic.proofs.TableLaws.{upto-below, from-at, by-place, filled-less}
 use Rattle.arithmetic.proofs.Differences.{either}
 use Rattle.models.specs.Columns.{unitAt, unitDiagonal, columnSum}
 
@@ -36,10 +35,6 @@ module _ (F : ℕ → ℕ → Float) where
 
 -- ---- terms kept side by side, that of the diagonal put right, then folded
 
--- the sum of an array's first n places
-pub filled-sum : (n : ℕ) (F : ℕ → Float) (g : List Float) → Filled F n g → sum n (at g) ≡ sum n F
-filled-sum n F g all = sum-same n _ _ (all .each)
-
 -- a store at i, where F and G may differ
 pub filled-put : {F G : ℕ → Float} {g : List Float} (n i : ℕ) {v : Float} → i < length g → ((k : ℕ) → k < n → (i ≡ k → ⊥) → F k ≡ G k) → v ≡ G i → Filled F n g → Filled G n (set g i v)
 filled-put {F} {G} {g} n i {v} h e w all = record {
@@ -49,6 +44,18 @@ filled-put {F} {G} {g} n i {v} h e w all = record {
       (λ q. rw (← q) (getD-set-same g i v nan h ∙ w))
       (λ d. getD-set-other g i k v nan (ne-of-gt d) ∙ all .each k b ∙ e k b (λ q. absurd (omega arith)));
 }
+
+-- the sum of an array's first n places, once a loop has filled them
+pub terms-sum : (n p : ℕ) (F : ℕ → Float) (g : List Float) {r : Float} → n ≤ length g → n ≤ p → Filled F p g → r ≡ total (take n g) → r ≡ sum n F
+unfolding total
+terms-sum n p F g h le all e =
+    e ∙ (ap (λ (m : ℕ). sum m (at (take n g))) (length-take-le n g h) ∙ sum-same n _ _ (λ k b. getD-take n g k nan b ∙ all .each k (omega arith)))
+
+-- the same with place i put right, where alone F and G may differ
+pub terms-put : (n p i : ℕ) (F G : ℕ → Float) (g : List Float) {v r : Float} → i < n → n ≤ length g → n ≤ p → ((k : ℕ) → k < n → (i ≡ k → ⊥) → F k ≡ G k) → v ≡ G i →
+    Filled F p g → r ≡ total (take n (set g i v)) → r ≡ sum n G
+terms-put n p i F G g {v} b h le off own all e =
+    terms-sum n n G (set g i v) (simp length-set h) (omega arith) (filled-put n i (omega arith) off own (filled-less le all)) e
 
 pub unit-on : (i : ℕ) (row : ℕ → Float) → unitAt i row i ≡ one
 unfolding unitAt

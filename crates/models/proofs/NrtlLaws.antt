@@ -1,32 +1,30 @@
 -- NRTL: rows lent as parts, sums worked out once, and equal entries give equal values. Assumes nothing.
-use mathlib.Core.Path.{_≡_, refl, sym, ap, _∙_}
+use mathlib.Core.Path.{_≡_, refl, _∙_}
 use mathlib.Core.List.{List}
-use mathlib.Core.Bool.{Bool, true, false}
-use mathlib.Core.Logic.{_⊎_, inl, inr}
+use mathlib.Core.Logic.{inl, inr}
 use Prim.Native.Nat.{ℕ, _+_, _*_, _<_, _≤_}
 use native.Mathlib.Omega.{arith}
 use lib.Dec.{eqb}
-use lib.ListN.{length, set}
+use lib.ListN.{length, set, take}
 use borrow.Author.Tests.{eq-eqb, ne-eqb, eqb-false}
-use lib.Ieee.{Float}
+use lib.Ieee.{Float, neg}
 use Rattle.arithmetic.specs.Exponential.{expOf}
 use Rattle.arithmetic.specs.Floats.{_⊕_, _⊖_, _⊗_, _⊘_, +0, one}
-use Rattle.arithmetic.specs.Sums.{sum}
+use Rattle.arithmetic.specs.Sums.{sum, total}
 use Rattle.arithmetic.specs.Parameters.{tdAt}
 use Rattle.arithmetic.specs.Tables.{at, grid, from, Filled, upTo}
 use Rattle.arithmetic.proofs.Differences.{either}
 use Rattle.arithmetic.proofs.SumLaws.{sum-same}
-use Rattle.arithmetic.proofs.TableLaws.{from-at, cell-lt, upto-below}
+use Rattle.arithmetic.proofs.TableLaws.{from-at, cell-lt}
 use Rattle.models.specs.declared.answers.Quantity.{Quantity}
 use Rattle.models.specs.declared.answers.Quantity.the-variants.{LnGamma, Gamma, ExcessGibbs}
 use Rattle.models.specs.Answers.{indexFault}
 use Rattle.models.specs.Columns.{unitAt, unitDiagonal, columnSum}
 use Rattle.models.specs.Exponentials.{nonrandomness}
 use Rattle.models.specs.Nrtl.{tauAt, tau, numerator, lnGamma, excess, nrtl, nrtlAt}
-use Rattle.models.specs.Rows.{OffDiagonal}
 use Rattle.models.specs.Values.{fiveAt, tdGrid, taus, alphas}
 use Rattle.models.proofs.AnswerLaws.{index-ln, index-gamma, quantity-ln, quantity-gamma, quantity-excess, quantity-same}
-use Rattle.models.proofs.ColumnLaws.{unit-row, unit-same, column-same, unit-on, unit-off, row-added}
+use Rattle.models.proofs.ColumnLaws.{unit-row, unit-same, column-same, unit-on, unit-off, row-added, terms-put}
 
 -- ---- the diagonal, where G is 1 and τ is 0, put right after a whole row
 
@@ -43,12 +41,12 @@ pub terms-added : (n i : ℕ) (x : Float) (g t : ℕ → Float) (s s′ : List F
 terms-added n i x g t s s′ b h own all same =
     row-added n i _ _ s s′ b h (λ k d. rw (unit-off i k g d, tau-off i k t d)) (own ∙ rw (unit-on i g, tau-on i t)) all same
 
+-- the terms of the second sum, that of the diagonal put right
 module _ (x g d u t : ℕ → Float) (i : ℕ) where
-  pub second-off : (k : ℕ) → (i ≡ k → ⊥) → x k ⊗ g k ⊘ d k ⊗ (t k ⊖ u k ⊘ d k) ≡ x k ⊗ unitAt i g k ⊘ d k ⊗ (tauAt i t k ⊖ u k ⊘ d k)
-  second-off k ne = rw (unit-off i k g ne, tau-off i k t ne)
-
-  pub second-on : x i ⊗ one ⊘ d i ⊗ (+0 ⊖ u i ⊘ d i) ≡ x i ⊗ unitAt i g i ⊘ d i ⊗ (tauAt i t i ⊖ u i ⊘ d i)
-  second-on = rw (unit-on i g, tau-on i t)
+  pub second-folded : (n p : ℕ) (l : List Float) {w r : Float} → i < n → n ≤ length l → n ≤ p → Filled (λ j. x j ⊗ g j ⊘ d j ⊗ (t j ⊖ u j ⊘ d j)) p l →
+      w ≡ x i ⊗ one ⊘ d i ⊗ (+0 ⊖ u i ⊘ d i) → r ≡ total (take n (set l i w)) → r ≡ sum n (λ j. x j ⊗ unitAt i g j ⊘ d j ⊗ (tauAt i t j ⊖ u j ⊘ d j))
+  second-folded n p l b h le terms own e =
+      terms-put n p i _ _ l b h le (λ k c ne. rw (unit-off i k g ne, tau-off i k t ne)) (own ∙ rw (unit-on i g, tau-on i t)) terms e
 
 -- the row lent as a part gives the table's entry
 pub tau-row : (n : ℕ) (l : List Float) (i j : ℕ) → i * n + n ≤ length l → j < n → tauAt i (at (from (i * n) l)) j ≡ tau (grid n l) i j
@@ -130,14 +128,14 @@ module _ (n : ℕ) (τ σ G H : ℕ → ℕ → Float) (x y : ℕ → Float)
   unfolding nrtl
   nrtl-same q z = quantity-same n q _ _ _ _ z ln-same excess-same
 
--- what `value_at` puts together: τ at T in the table tl, and G off the diagonal in gl
-pub nrtl-from : (n : ℕ) (l : List Float) (T : Float) (x old : ℕ → Float) {p : ℕ} {tl gl : List Float} → n * n * 5 + n * n ≤ length l → n * n ≤ p →
-    Filled (upTo (n * n) (λ k. tdAt (fiveAt l (k * 5)) T) old) p tl → OffDiagonal n n (nonrandomness (grid n (from (n * n * 5) l)) (grid n tl)) gl →
-    (q : Quantity) → indexFault n q ≡ 0 → nrtl n (grid n tl) (grid n gl) x q ≡ nrtlAt n (taus n l) (alphas n l) T x q
-unfolding nrtlAt taus alphas tdGrid
-nrtl-from n l T x old {p} {tl} {gl} h k ts gs q z =
-    nrtl-same n _ _ _ _ x x (λ i j b c ne. entry i j b c)
-    (λ i j b c ne. gs .entry i j b c ne ∙ nonrandomness-same _ _ _ _ i j (from-at l (n * n * 5) (i * n + j) (omega (arith, cell-lt n n i j b c))) (entry i j b c)) (λ i b. refl) q z
+-- what `value_at` puts together: τ at T in the table tl, and G in gl
+pub nrtl-from : (n : ℕ) (l tl gl : List Float) (T : Float) (x : ℕ → Float) (q : Quantity) {v : Float} → n * n * 5 + n * n ≤ length l → indexFault n q ≡ 0 →
+    Filled (λ k. tdAt (fiveAt l (k * 5)) T) (n * n) tl → Filled (λ k. expOf (neg (at (from (n * n * 5) l) k) ⊗ at tl k)) (n * n) gl →
+    v ≡ nrtl n (grid n tl) (grid n gl) x q → v ≡ nrtlAt n (taus n l) (alphas n l) T x q
+unfolding nrtlAt taus alphas tdGrid nonrandomness
+nrtl-from n l tl gl T x q h z ts gs p =
+    p ∙ nrtl-same n _ _ _ _ x x (λ i j b c ne. entry i j b c)
+    (λ i j b c ne. gs .each (i * n + j) (cell-lt n n i j b c) ∙ rw (from-at l (n * n * 5) (i * n + j) (omega (arith, cell-lt n n i j b c)), entry i j b c)) (λ i b. refl) q z
   where
     entry : (i j : ℕ) → i < n → j < n → grid n tl i j ≡ tdAt (fiveAt l ((i * n + j) * 5)) T
-    entry i j b c = ts .each (i * n + j) (omega (arith, cell-lt n n i j b c)) ∙ upto-below (n * n) _ old (i * n + j) (cell-lt n n i j b c)
+    entry i j b c = ts .each (i * n + j) (cell-lt n n i j b c)

@@ -1,22 +1,22 @@
 -- UNIFAC: what an exponential reads, rows lent as parts, sums worked out once, and equal inputs give equal values.
 -- Assumes nothing.
-use mathlib.Core.Path.{_≡_, refl, sym, ap, _∙_}
+use mathlib.Core.Path.{_≡_, refl, ap, _∙_}
 use mathlib.Core.Bool.{cond}
-use mathlib.Core.List.{List, _++_}
-use Prim.Native.Nat.{ℕ, _+_, _-_, _*_, _<_, _≤_}
+use mathlib.Core.List.{List}
+use Prim.Native.Nat.{ℕ, _+_, _*_, _/_, _%_, _<_, _≤_}
+use native.Mathlib.Nat.{div-add-mod'}
 use native.Mathlib.Omega.{arith}
 use lib.Dec.{eqb}
-use lib.ListN.{getD, length, take}
-use lib.Ieee.{Float}
+use lib.ListN.{getD, length}
+use lib.Ieee.{Float, neg}
 use Rattle.arithmetic.specs.Floats.{_⊕_, _⊖_, _⊗_, _⊘_, +0, one}
 use Rattle.arithmetic.specs.Exponential.{expOf}
 use Rattle.arithmetic.specs.Logarithm.{logOf}
 use Rattle.arithmetic.specs.Parameters.{tdAt}
 use Rattle.arithmetic.specs.Sums.{fold, sum}
 use Rattle.arithmetic.specs.Tables.{at, grid, from, flat, Filled, upTo}
-use Rattle.arithmetic.specs.declared.parameters.TdParam.{TdParam}
 use Rattle.arithmetic.proofs.SumLaws.{fold-same, sum-same}
-use Rattle.arithmetic.proofs.TableLaws.{row-end, row-next, flat-cell, filled-cell, from-at, from-length, upto-below, back-before, back-within, by-place}
+use Rattle.arithmetic.proofs.TableLaws.{row-end, filled-cell, from-at}
 use Rattle.models.specs.declared.answers.Quantity.{Quantity}
 use Rattle.models.specs.declared.answers.Quantity.the-variants.{LnGamma, Gamma, ExcessGibbs}
 use Rattle.models.specs.declared.unifac.Shared.{Shared}
@@ -28,6 +28,7 @@ use Rattle.models.specs.Unifac.{Groups, size, sizeSum, combinatorialBy, 
 use Rattle.models.specs.UnifacSteps.{psiBy, Shares, lnFrom}
 use Rattle.models.specs.Values.{start, fiveAt, countsAt, groupRs, groupQs, groupAs, lists}
 use Rattle.models.proofs.AnswerLaws.{quantity-ln, quantity-gamma, quantity-excess, quantity-same}
+use Rattle.models.proofs.ExponentialLaws.{each-filled}
 use Rattle.models.proofs.ListLaws.{start-same, list-place, listed-less, list-group}
 
 -- ---- an exponential
@@ -51,40 +52,16 @@ five-from l s k h =
     next : (d : ℕ) → d < 5 → at (from s l) (k + d) ≡ at l (s + k + d)
     next d b = from-at l s (k + d) (omega arith) ∙ ap (at l) (omega arith)
 
--- the part that starts at row m gives the table's entry
-pub psi-row : (ng : ℕ) (values : List Float) (T : Float) {L : Float} (m k : ℕ) → countsAt ng ≤ length values → L ≡ logOf T → m < ng → k < ng →
-    psiBy (from (ng + ng + m * ng * 5) values) T L k ≡ groupEnergy (λ m k. tdAt (groupAs ng values m k) T) T m k
-unfolding groupAs countsAt
-psi-row ng values T m k h ln b c =
-    let place : ng + ng + m * ng * 5 + k * 5 ≡ ng + ng + (m * ng + k) * 5 = omega arith in
-    psi-at _ T m k ln ∙ psi-same _ _ T T m k (ap (λ (p : TdParam). tdAt p T) (five-from values (ng + ng + m * ng * 5) (k * 5) (omega (arith, row-end ng ng m b)) ∙ ap (fiveAt values) place)) refl
+-- ---- the table: a at T, then the arguments, then exp of each place
 
--- ---- the table, row after row
-
--- a part from s on comes back as ys, in the middle of g
-rows-more : (F : ℕ → Float) (s n : ℕ) (g ys rest : List Float) → s ≤ length g → n ≤ length ys → Filled F s g → ((k : ℕ) → k < n → at ys k ≡ F (s + k)) → Filled F (s + n) (take s g ++ (ys ++ rest))
-rows-more F s n g ys rest h l all row = record {
-  each = λ k b.
-      by-place k s
-      (λ c. back-before s g ys rest k h c ∙ all .each k c)
-      (λ e. within k b (omega arith))
-      (λ d. within k b (omega arith));
-}
+pub table-filled : (ng : ℕ) (values : List Float) (T : Float) (old : ℕ → Float) {p : ℕ} {g g′ : List Float} → countsAt ng ≤ length values → ng * ng ≤ p →
+    Filled (λ k. neg (tdAt (fiveAt (from (ng + ng) values) (k * 5)) T) ⊘ T) (ng * ng) g → Filled (upTo (ng * ng) (λ k. expOf (at g k)) old) p g′ →
+    Filled (flat ng (groupEnergy (λ m k. tdAt (groupAs ng values m k) T) T)) (ng * ng) g′
+unfolding flat groupEnergy groupAs countsAt
+table-filled ng values T old h l args all = each-filled expOf (ng * ng) old l entry args all
   where
-    within : (k : ℕ) → k < s + n → s ≤ k → at (take s g ++ (ys ++ rest)) k ≡ F k
-    within k b c =
-        let e : k ≡ s + (k - s) = omega arith in
-        ap (at (take s g ++ (ys ++ rest))) e ∙ back-within s g ys rest (k - s) h (omega arith) ∙ row (k - s) (omega arith) ∙ ap F (sym e)
-
-pub table-more : (ng m : ℕ) (values : List Float) (T : Float) {L : Float} (g : List Float) (old : ℕ → Float) (ys rest : List Float) → countsAt ng ≤ length values → ng * ng ≤ length g → L ≡ logOf T → m < ng →
-    length ys ≡ length (from (m * ng) g) →
-    Filled (flat ng (groupEnergy (λ m k. tdAt (groupAs ng values m k) T) T)) (m * ng) g →
-    Filled (upTo ng (psiBy (from (ng + ng + m * ng * 5) values) T L) old) (length (from (m * ng) g)) ys →
-    Filled (flat ng (groupEnergy (λ m k. tdAt (groupAs ng values m k) T) T)) ((m + 1) * ng) (take (m * ng) g ++ (ys ++ rest))
-table-more ng m values T {L} g old ys rest h l ln b same all row =
-    rw (row-next ng m)
-    (rows-more _ (m * ng) ng g ys rest (omega (arith, row-end ng ng m b)) (omega (arith, from-length (m * ng) g, row-end ng ng m b)) all
-    (λ k c. row .each k (omega (arith, from-length (m * ng) g, row-end ng ng m b)) ∙ upto-below ng _ _ k c ∙ psi-row ng values T m k h ln b c ∙ sym (flat-cell ng _ m k c)))
+    entry : (k : ℕ) → k < ng * ng → expOf (neg (tdAt (fiveAt (from (ng + ng) values) (k * 5)) T) ⊘ T) ≡ expOf (neg (tdAt (fiveAt values (ng + ng + (k / ng * ng + k % ng) * 5)) T) ⊘ T)
+    entry k b = rw (five-from values (ng + ng) (k * 5) (omega arith), div-add-mod' k ng)
 
 -- ---- ln Γ
 

@@ -1,22 +1,25 @@
 -- UNIQUAC's values go by r, q and x below n and by E off the diagonal alone; what is worked out once is as in the definition. Assumes nothing.
-use mathlib.Core.Path.{_≡_, refl}
+use mathlib.Core.Path.{_≡_, refl, _∙_}
 use mathlib.Core.List.{List}
 use Prim.Native.Nat.{ℕ, _+_, _*_, _<_, _≤_}
-use lib.ListN.{length}
+use native.Mathlib.Omega.{arith}
+use lib.ListN.{length, set, take}
 use lib.Ieee.{Float}
 use Rattle.arithmetic.specs.Floats.{_⊕_, _⊖_, _⊗_, _⊘_, one, half}
 use Rattle.arithmetic.specs.Logarithm.{logOf}
-use Rattle.arithmetic.specs.Sums.{sum}
-use Rattle.arithmetic.specs.Tables.{at, grid, from, Filled}
+use Rattle.arithmetic.specs.Sums.{sum, total}
+use Rattle.arithmetic.specs.Tables.{at, grid, from, flat, Filled}
 use Rattle.arithmetic.proofs.SumLaws.{sum-same}
-use Rattle.arithmetic.proofs.TableLaws.{filled-as}
+use Rattle.arithmetic.proofs.TableLaws.{filled-as, filled-cell, from-at}
 use Rattle.models.specs.declared.answers.Quantity.{Quantity}
 use Rattle.models.specs.Answers.{indexFault}
 use Rattle.models.specs.Columns.{unitAt, columnSum}
+use Rattle.models.specs.Exponentials.{energy}
 use Rattle.models.specs.Shared.{UniquacShared}
-use Rattle.models.specs.Uniquac.{Z, tau, share, l, segmentRatio, areaRatio, combinatorial, residual, lnGamma, excess, uniquac}
+use Rattle.models.specs.Uniquac.{Z, tau, share, l, segmentRatio, areaRatio, combinatorial, residual, lnGamma, excess, uniquac, uniquacAt}
+use Rattle.models.specs.Values.{energies, rs, qs}
 use Rattle.models.proofs.AnswerLaws.{quantity-same}
-use Rattle.models.proofs.ColumnLaws.{unit-row, unit-same, column-same}
+use Rattle.models.proofs.ColumnLaws.{unit-row, unit-same, column-same, unit-on, unit-off, terms-put}
 
 -- ---- equal entries, equal answers
 
@@ -69,6 +72,14 @@ module _ (n : ℕ) (r s q p : ℕ → Float) (x y : ℕ → Float) (er : (i : �
 
 -- ---- what code works out
 
+-- the quotients of a residual part, that of the diagonal put right
+pub residual-folded : (n p : ℕ) (θ row sums : ℕ → Float) (i : ℕ) (g : List Float) (q : Float) {w l r : Float} → i < n → n ≤ length g → n ≤ p →
+    Filled (λ j. θ j ⊗ row j ⊘ sums j) p g → w ≡ θ i ⊗ one ⊘ sums i → l ≡ logOf (sums i) → r ≡ total (take n (set g i w)) →
+    q ⊗ (one ⊖ l ⊖ r) ≡ q ⊗ (one ⊖ logOf (sums i) ⊖ sum n (λ j. θ j ⊗ unitAt i row j ⊘ sums j))
+residual-folded n p θ row sums i g q {w} {l} {r} b h le terms own log t =
+    let S : r ≡ sum n (λ j. θ j ⊗ unitAt i row j ⊘ sums j) = terms-put n p i _ _ g b h le (λ k c ne. rw (unit-off i k row ne)) (own ∙ rw (unit-on i row)) terms t in
+    rw (log, S)
+
 -- column sums over weights that stand in a list
 pub columns-hoisted : (n : ℕ) (E : ℕ → ℕ → Float) (w : ℕ → Float) (theta sums : List Float) → Filled w n theta → Filled (columnSum n E (at theta)) n sums → Filled (columnSum n E w) n sums
 columns-hoisted n E w theta sums all = filled-as (λ j b. column-same n E E (at theta) w j (λ k c. refl) (all .each))
@@ -95,3 +106,12 @@ module _ (n : ℕ) (r q : ℕ → Float) (e : List Float) (x : ℕ → Float) (r
       v ≡ q i ⊗ (one ⊖ logOf (at sums i) ⊖ sum n (λ j. at theta j ⊗ unitAt i (at (from (i * n) e)) j ⊘ at sums j)) → c ⊕ v ≡ lnGamma n r q (grid n e) x i
   unfolding lnGamma
   lnGamma-hoisted h p k w = rw (combinatorial-hoisted p k, residual-hoisted h w)
+
+-- ---- what `value_at` puts together: the exponentials in el, the r's in the part from n·n on, the q's n places further
+
+pub uniquac-from : (n : ℕ) (l el : List Float) (T : Float) (x : ℕ → Float) (k : Quantity) {v : Float} → n * n + n + n ≤ length l → indexFault n k ≡ 0 →
+    Filled (flat n (energy (energies n l) T)) (n * n) el → v ≡ uniquac n (at (from (n * n) l)) (at (from (n * n + n) l)) (grid n el) x k → v ≡ uniquacAt n (rs n l) (qs n l) (energies n l) T x k
+unfolding uniquacAt rs qs
+uniquac-from n l el T x k h z all p =
+    p ∙ uniquac-same n _ _ _ _ x x (λ i b. from-at l (n * n) i (omega arith)) (λ i b. from-at l (n * n + n) i (omega arith)) (λ i b. refl)
+    _ _ (λ i j b d ne. filled-cell n n _ all i j b d) k z

@@ -1,21 +1,24 @@
 -- Wilson's values go by V and x below n and by E off the diagonal alone; sums that are worked out once are those of the definition. Assumes nothing.
-use mathlib.Core.Path.{_≡_, refl}
+use mathlib.Core.Path.{_≡_, refl, sym, _∙_}
 use mathlib.Core.List.{List}
 use Prim.Native.Nat.{ℕ, _+_, _*_, _<_, _≤_}
 use native.Mathlib.Omega.{arith}
-use lib.ListN.{length}
+use lib.ListN.{length, set, take}
 use borrow.Author.Tests.{eq-eqb, ne-eqb}
 use lib.Ieee.{Float}
 use Rattle.arithmetic.specs.Floats.{_⊖_, _⊗_, _⊘_, +0, one}
 use Rattle.arithmetic.specs.Logarithm.{logOf}
-use Rattle.arithmetic.specs.Sums.{fold}
-use Rattle.arithmetic.specs.Tables.{at, grid, from, Filled}
+use Rattle.arithmetic.specs.Sums.{fold, sum, total}
+use Rattle.arithmetic.specs.Tables.{at, grid, from, flat, Filled, upTo}
 use Rattle.arithmetic.proofs.SumLaws.{fold-same, sum-same}
-use Rattle.arithmetic.proofs.TableLaws.{from-at}
+use Rattle.arithmetic.proofs.TableLaws.{from-at, filled-cell, upto-below}
 use Rattle.models.specs.declared.answers.Quantity.{Quantity}
 use Rattle.models.specs.Answers.{indexFault}
-use Rattle.models.specs.Wilson.{lambda, rowSum, lnGamma, excess, wilson}
+use Rattle.models.specs.Exponentials.{energy}
+use Rattle.models.specs.Values.{energies, volumes}
+use Rattle.models.specs.Wilson.{lambda, rowSum, lnGamma, excess, wilson, wilsonAt}
 use Rattle.models.proofs.AnswerLaws.{quantity-same}
+use Rattle.models.proofs.ColumnLaws.{terms-put}
 use Rattle.models.proofs.ExponentialLaws.{off-diagonal}
 
 -- ---- equal entries, equal answers
@@ -66,8 +69,42 @@ pub rowSum-row : (n : ℕ) (v : ℕ → Float) (e : List Float) (x : ℕ → Flo
 unfolding rowSum
 rowSum-row n v e x i h = sum-same n _ _ (λ j b. rw (lambda-row n v e i j (omega arith)))
 
+-- the terms of a row sum, that of the diagonal put right
+pub row-folded : (n p : ℕ) (v row x : ℕ → Float) (i : ℕ) (g : List Float) {w r : Float} → i < n → n ≤ length g → n ≤ p →
+    Filled (λ j. x j ⊗ (v j ⊘ v i ⊗ row j)) p g → w ≡ x i ⊗ one → r ≡ total (take n (set g i w)) → r ≡ rowSum n v (λ _. row) x i
+unfolding rowSum
+row-folded n p v row x i g b h le terms own e =
+    terms-put n p i _ _ g b h le (λ k c ne. rw (lambda-off v (λ _. row) i k ne)) (own ∙ rw (lambda-on v (λ _. row) i)) terms e
+
+-- over row sums that stand in a list
+module _ (n : ℕ) (v : ℕ → Float) (e : List Float) (x : ℕ → Float) (sums : List Float) (all : Filled (rowSum n v (grid n e) x) n sums) (i : ℕ) (b : i < n) where
+  ln-term : (k : ℕ) → k < n → (i ≡ k → ⊥) → x k ⊗ (v i ⊘ v k ⊗ grid n e k i) ⊘ at sums k ≡ x k ⊗ lambda v (grid n e) k i ⊘ rowSum n v (grid n e) x k
+  ln-term k c ne = rw (lambda-off v (grid n e) k i (λ q. ne (sym q)), all .each k c)
+
+  -- ln γ_i, its terms as those of a row sum
+  pub ln-folded : (p : ℕ) (g : List Float) {w l r : Float} → n ≤ length g → n ≤ p → Filled (λ k. x k ⊗ (v i ⊘ v k ⊗ grid n e k i) ⊘ at sums k) p g → w ≡ x i ⊗ one ⊘ at sums i →
+      l ≡ logOf (at sums i) → r ≡ total (take n (set g i w)) → one ⊖ l ⊖ r ≡ lnGamma n v (grid n e) x i
+  unfolding lnGamma
+  ln-folded p g {w} {l} {r} h le terms own log t =
+      let S : r ≡ sum n (λ k. x k ⊗ lambda v (grid n e) k i ⊘ rowSum n v (grid n e) x k) =
+      terms-put n p i _ _ g b h le ln-term (own ∙ rw (lambda-on v (grid n e) i, all .each i b)) terms t in
+      rw (log, all .each i b, S)
+
+-- the excess energy over logs that stand in a list
+pub excess-logs : (n p : ℕ) (x old : ℕ → Float) (sums logs : List Float) {r : Float} → n ≤ p → Filled (upTo n (λ k. logOf (at sums k)) old) p logs →
+    r ≡ fold n +0 (λ i s. s ⊖ x i ⊗ at logs i) → r ≡ fold n +0 (λ i s. s ⊖ x i ⊗ logOf (at sums i))
+excess-logs n p x old sums logs h all e = e ∙ fold-same n +0 _ _ (λ i s b. rw (all .each i (omega arith), upto-below n (λ k. logOf (at sums k)) old i b))
+
 -- the excess energy over row sums that stand in a list
 pub excess-hoisted : (n : ℕ) (v : ℕ → Float) (E : ℕ → ℕ → Float) (x : ℕ → Float) (sums : List Float) → Filled (rowSum n v E x) n sums →
     fold n +0 (λ i s. s ⊖ x i ⊗ logOf (at sums i)) ≡ excess n v E x
 unfolding excess
 excess-hoisted n v E x sums all = fold-same n +0 _ _ (λ i s b. rw (all .each i b))
+
+-- ---- what `value_at` puts together: the exponentials in el, the volumes in the part from n·n on
+
+pub wilson-from : (n : ℕ) (l el : List Float) (T : Float) (x : ℕ → Float) (q : Quantity) {v : Float} → n * n + n ≤ length l → indexFault n q ≡ 0 →
+    Filled (flat n (energy (energies n l) T)) (n * n) el → v ≡ wilson n (at (from (n * n) l)) (grid n el) x q → v ≡ wilsonAt n (volumes n l) (energies n l) T x q
+unfolding wilsonAt volumes
+wilson-from n l el T x q h z all p =
+    p ∙ wilson-same n _ _ _ _ x x (λ i b. from-at l (n * n) i (omega arith)) (λ i b. refl) (λ i j b d ne. filled-cell n n _ all i j b d) q z

@@ -1,7 +1,6 @@
 pub mod Answers
 pub mod Composition
 pub mod Exponentials
-pub mod Rows
 pub mod Columns
 pub mod Wilson
 pub mod Uniquac

@@ -1,26 +1,10 @@
 // Sums down the columns of a table, row by row: each column's fold keeps its order, and the columns
 // run side by side.
-ghost use mathlib.Core.Path.{_≡_};
-ghost use mathlib.Core.Bool.{cond};
 ghost use Prim.Native.Nat.{_+_, _*_, _≤_, _<_};
-ghost use lib.Dec.{eqb};
 ghost use lib.ListN.{length};
-ghost use Rattle.arithmetic.specs.Floats.{_⊕_, _⊗_, one};
-ghost use Rattle.arithmetic.specs.Sums.{sum};
+ghost use Rattle.arithmetic.specs.Floats.{_⊕_, _⊗_};
 ghost use Rattle.arithmetic.specs.Tables.{at, grid, Filled, upTo};
 ghost use Rattle.models.specs.Columns.{unitDiagonal, columnSum, unitAt};
-
-// The sum of the first n terms.
-pub fn sum_to(terms: &[f64], n: usize) -> f64
-    requires { ⌜ n ≤ length (now terms) ⌝ }
-    ensures { λ r. ⌜ r ≡ sum n (at (now (terms .entry))) ⌝ }
-{
-    let mut s = 0.0;
-    for k in 0..n {
-        s = s + terms[k];
-    }
-    s
-}
 
 // Adds w·row[j] to sums[j] for each j below n.
 pub fn add_row(row: &[f64], w: f64, n: usize, sums: &mut [f64])

@@ -2,9 +2,10 @@
 ghost use mathlib.Core.Path.{_≡_};
 ghost use Prim.Native.Nat.{_*_, _≤_, _<_};
 ghost use lib.ListN.{length};
-ghost use Rattle.arithmetic.specs.Tables.{at, Filled};
+ghost use lib.Ieee.{neg};
+ghost use Rattle.arithmetic.specs.Floats.{_⊖_, _⊘_};
+ghost use Rattle.arithmetic.specs.Tables.{at, flat, Filled};
 ghost use Rattle.models.specs.Exponentials.{energy as E·energy};
-ghost use Rattle.models.specs.Rows.{rowFilled, OffDiagonal};
 ghost use Rattle.models.specs.Values.{energies};
 
 // E_ij, from the part of the energies that starts at row i.
@@ -15,27 +16,26 @@ pub fn energy(row: &[f64], t: f64, i: usize, j: usize) -> f64
     arithmetic::exp(-(row[j] - row[i]) / t)
 }
 
-// Writes the entries of row i, but not its diagonal, through the part of a table that starts there.
-pub fn fill_energies(row: &[f64], t: f64, n: usize, i: usize, out: &mut [f64])
+// Writes what E_ij is the exp of for each j below n, through the part of a table that starts at row i. The diagonal gets
+// one as well, so that the row runs without a test; no sum reads it.
+fn fill_arguments(row: &[f64], t: f64, n: usize, i: usize, out: &mut [f64])
     requires { ⌜ (n ≤ length (now row)) × (n ≤ length (now out)) × (i < n) ⌝ }
-    ensures { λ _. ⌜ Filled (rowFilled n i (E·energy (λ _. at (now (row .entry))) t i) (now (out .entry))) (length (now (out .entry))) (now (out .exit)) ⌝ }
+    ensures { λ _. ⌜ Filled (λ j. neg (at (now (row .entry)) j ⊖ at (now (row .entry)) i) ⊘ t) n (now (out .exit)) ⌝ }
 {
+    let own = row[i];
     for j in 0..n {
-        if j != i {
-            out[j] = energy(row, t, i, j);
-        }
+        out[j] = -(row[j] - own) / t;
     }
 }
 
-// The table of a model whose values begin with its energies.
-pub fn energy_table(values: &[f64], t: f64, n: usize) -> [f64; 144]
-    requires { ⌜ (n ≤ 12) × (n * n ≤ length (now values)) ⌝ }
-    ensures { λ r. ⌜ OffDiagonal n n (E·energy (energies n (now (values .entry))) t) r ⌝ }
+// Writes the table of a model whose values begin with its energies: every argument first, then exp of them all at once.
+pub fn fill_energies(values: &[f64], t: f64, n: usize, out: &mut [f64])
+    requires { ⌜ (n ≤ 12) × (n * n ≤ length (now values)) × (n * n ≤ length (now out)) ⌝ }
+    ensures { λ _. ⌜ Filled (flat n (E·energy (energies n (now (values .entry))) t)) (n * n) (now (out .exit)) ⌝ }
 {
-    let mut e = [0.0; 144];
     for i in 0..n {
         let at = i * n;
-        fill_energies(&values[at..], t, n, i, &mut e[at..]);
+        fill_arguments(&values[at..], t, n, i, &mut out[at..]);
     }
-    e
+    arithmetic::exp_each(out, n * n);
 }

@@ -8,11 +8,9 @@ ghost use Rattle.arithmetic.specs.Parameters.{tdAt};
 ghost use Rattle.arithmetic.specs.Floats.{_⊕_, _⊖_, _⊗_, _⊘_};
 ghost use Rattle.arithmetic.specs.Tables.{at, grid, Filled, upTo};
 ghost use Rattle.models.specs.Answers.{indexFault};
-ghost use Rattle.models.specs.Columns.{unitAt, unitDiagonal, columnSum};
+ghost use Rattle.models.specs.Columns.{unitAt, unitDiagonal};
 ghost use Rattle.models.specs.Nrtl.{tauAt, numerator, nrtl, nrtlAt};
-ghost use Rattle.models.specs.Exponentials.{nonrandomness};
 ghost use Rattle.models.specs.Plain.{nrtlPlain};
-ghost use Rattle.models.specs.Rows.{rowFilled, OffDiagonal};
 ghost use Rattle.models.specs.Values.{fiveAt, nrtlSize, taus, alphas};
 ghost use Rattle.models.specs.Nrtl.{tau as Nrtl·tau};
 ghost use Rattle.arithmetic.specs.Sums.{sum};
@@ -35,12 +33,9 @@ pub fn size(n: usize) -> usize
 // τ at T, by rows of n: the five of entry k stand from place 5·k on.
 pub fn fill_taus(n: usize, values: &[f64], t: f64, out: &mut [f64])
     requires { ⌜ (n ≤ 12) × (nrtlSize n ≤ length (now values)) × (n * n ≤ length (now out)) ⌝ }
-    ensures { λ _. ⌜ Filled (upTo (n * n) (λ k. tdAt (fiveAt (now (values .entry)) (k * 5)) t) (at (now (out .entry)))) (length (now (out .entry))) (now (out .exit)) ⌝ }
+    ensures { λ _. ⌜ Filled (λ k. tdAt (fiveAt (now (values .entry)) (k * 5)) t) (n * n) (now (out .exit)) ⌝ }
 {
-    let ln = arithmetic::log(t);
-    for k in 0..n * n {
-        out[k] = parameters::five_at(values, k * 5).value_by(t, ln);
-    }
+    parameters::fill_values(values, n * n, t, out);
 }
 
 // G_ij, from α_ij and τ_ij at T.
@@ -50,30 +45,15 @@ pub fn exponential(alpha: f64, tau: f64) -> f64
     arithmetic::exp(-alpha * tau)
 }
 
-// Writes the entries of row i of G, but not its diagonal, through the part of a table that starts
-// there; alpha and tau are row i of their tables.
-pub fn fill_exponentials(alpha: &[f64], tau: &[f64], n: usize, i: usize, out: &mut [f64])
-    requires { ⌜ (n ≤ length (now alpha)) × (n ≤ length (now tau)) × (n ≤ length (now out)) × (i < n) ⌝ }
-    ensures { λ _. ⌜ Filled (rowFilled n i (nonrandomness (λ _. at (now (alpha .entry))) (λ _. at (now (tau .entry))) i) (now (out .entry))) (length (now (out .entry))) (now (out .exit)) ⌝ }
+// Writes the first count entries of G, those of the diagonal as well, which no sum reads: every argument first, then exp of them all at once.
+fn fill_exponentials(alpha: &[f64], tau: &[f64], count: usize, out: &mut [f64])
+    requires { ⌜ (count ≤ length (now alpha)) × (count ≤ length (now tau)) × (count ≤ length (now out)) ⌝ }
+    ensures { λ _. ⌜ Filled (λ k. expOf (neg (at (now (alpha .entry)) k) ⊗ at (now (tau .entry)) k)) count (now (out .exit)) ⌝ }
 {
-    for j in 0..n {
-        if j != i {
-            out[j] = exponential(alpha[j], tau[j]);
-        }
+    for k in 0..count {
+        out[k] = -alpha[k] * tau[k];
     }
-}
-
-// The table of G.
-fn exponential_table(alpha: &[f64], tau: &[f64], n: usize) -> [f64; 144]
-    requires { ⌜ (n ≤ 12) × (n * n ≤ length (now alpha)) × (n * n ≤ length (now tau)) ⌝ }
-    ensures { λ r. ⌜ OffDiagonal n n (nonrandomness (grid n (now (alpha .entry))) (grid n (now (tau .entry)))) r ⌝ }
-{
-    let mut g = [0.0; 144];
-    for i in 0..n {
-        let at = i * n;
-        fill_exponentials(&alpha[at..], &tau[at..], n, i, &mut g[at..]);
-    }
-    g
+    arithmetic::exp_each(out, count);
 }
 
 // Adds x·g[j]·tau[j] to sums[j] for each j below n.
@@ -121,7 +101,7 @@ fn second(n: usize, tau: &[f64], g: &[f64], u: &[f64], d: &[f64], x: &[f64], i: 
         terms[j] = x[j] * g[j] / d[j] * (tau[j] - u[j] / d[j]);
     }
     terms[i] = x[i] * 1.0 / d[i] * (0.0 - u[i] / d[i]);
-    columns::sum_to(&terms[..], n)
+    arithmetic::sum(&terms[..n])
 }
 
 // ln γ_i, u being the numerators and d the denominators.
@@ -168,7 +148,8 @@ pub fn value_at(n: usize, values: &[f64], t: f64, x: &[f64], q: Quantity) -> f64
     let mut tau = [0.0; 144];
     fill_taus(n, values, t, &mut tau[..]);
     let at = n * n * 5;
-    let g = exponential_table(&values[at..], &tau[..], n);
+    let mut g = [0.0; 144];
+    fill_exponentials(&values[at..], &tau[..], n * n, &mut g[..]);
     value_over(n, &tau[..], &g[..], x, q)
 }
 

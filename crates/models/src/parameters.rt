@@ -1,7 +1,9 @@
 // Td parameters, read off the values.
 ghost use mathlib.Core.Path.{_≡_};
-ghost use Prim.Native.Nat.{_+_, _≤_};
+ghost use Prim.Native.Nat.{_+_, _*_, _≤_};
 ghost use lib.ListN.{length};
+ghost use Rattle.arithmetic.specs.Parameters.{tdAt};
+ghost use Rattle.arithmetic.specs.Tables.{Filled};
 ghost use Rattle.models.specs.Values.{fiveAt};
 use arithmetic::TdParam;
 
@@ -16,5 +18,16 @@ pub fn five_at(l: &[f64], s: usize) -> TdParam
         c: l[s + 2],
         d: l[s + 3],
         e: l[s + 4],
+    }
+}
+
+// The values at T of the first count entries of five, which stand from place 5·k on.
+pub fn fill_values(fives: &[f64], count: usize, t: f64, out: &mut [f64])
+    requires { ⌜ (count * 5 ≤ length (now fives)) × (count ≤ length (now out)) × (count ≤ 1024) ⌝ }
+    ensures { λ _. ⌜ Filled (λ k. tdAt (fiveAt (now (fives .entry)) (k * 5)) t) count (now (out .exit)) ⌝ }
+{
+    let ln = arithmetic::log(t);
+    for k in 0..count {
+        out[k] = five_at(fives, k * 5).value_by(t, ln);
     }
 }

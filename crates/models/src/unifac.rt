@@ -1,11 +1,11 @@
 // UNIFAC: A. Fredenslund, R. L. Jones, J. M. Prausnitz, AIChE J. 21 (1975) 1086.
 ghost use mathlib.Core.Path.{_≡_};
-ghost use Prim.Native.Nat.{ℕ, _+_, _*_, _≤_, _<_};
+ghost use Prim.Native.Nat.{_+_, _*_, _≤_, _<_};
 ghost use lib.ListN.{length};
-ghost use Rattle.arithmetic.specs.Floats.{_⊕_, _⊗_, _⊘_};
+ghost use Rattle.arithmetic.specs.Floats.{_⊗_, _⊘_};
 ghost use Rattle.arithmetic.specs.Sums.{sum};
 ghost use Rattle.arithmetic.specs.Parameters.{tdAt};
-ghost use Rattle.arithmetic.specs.Tables.{at, grid, flat, from, Filled, upTo};
+ghost use Rattle.arithmetic.specs.Tables.{at, grid, flat, from, Filled};
 ghost use Rattle.models.specs.Answers.{indexFault};
 ghost use Rattle.models.specs.Columns.{columnSum};
 ghost use Rattle.models.specs.Exponentials.{groupEnergy};
@@ -28,27 +28,18 @@ pub fn psi(row: &[f64], t: f64, ln: f64, k: usize) -> f64
     arithmetic::exp(-a.value_by(t, ln) / t)
 }
 
-// Writes a row of Ψ to the first ng places of out.
-pub fn fill_psi(row: &[f64], t: f64, ln: f64, ng: usize, out: &mut [f64])
-    requires { ⌜ (ng * 5 ≤ length (now row)) × (ng ≤ length (now out)) ⌝ }
-    ensures { λ _. ⌜ Filled (upTo ng (psiBy (now (row .entry)) t ln) (at (now (out .entry)))) (length (now (out .entry))) (now (out .exit)) ⌝ }
-{
-    for k in 0..ng {
-        out[k] = psi(row, t, ln, k);
-    }
-}
-
-// Writes Ψ by full rows of ng, each through the part of the table that starts there.
+// Writes Ψ by full rows of ng: a at T, then every argument, then exp of them all at once.
 fn fill_table(values: &[f64], t: f64, ng: usize, table: &mut [f64])
     requires { ⌜ (ng ≤ 32) × (countsAt ng ≤ length (now values)) × (ng * ng ≤ length (now table)) ⌝ }
     ensures { λ _. ⌜ Filled (flat ng (groupEnergy (λ m k. tdAt (groupAs ng (now (values .entry)) m k) t) t)) (ng * ng) (now (table .exit)) ⌝ }
 {
-    let ln = arithmetic::log(t);
-    for m in 0..ng {
-        let place = m * ng;
-        let five = ng + ng + place * 5;
-        fill_psi(&values[five..], t, ln, ng, &mut table[place..]);
+    let five = ng + ng;
+    let count = ng * ng;
+    crate::parameters::fill_values(&values[five..], count, t, table);
+    for k in 0..count {
+        table[k] = -table[k] / t;
     }
+    arithmetic::exp_each(table, count);
 }
 
 // Θ of each group from the group fractions.
@@ -86,20 +77,22 @@ fn row_sum(theta: &[f64], row: &[f64], denom: &[f64], ng: usize) -> f64
     for m in 0..ng {
         terms[m] = theta[m] * row[m] / denom[m];
     }
-    columns::sum_to(&terms[..], ng)
+    arithmetic::sum(&terms[..ng])
 }
 
-// ln Γ of each group; the column sums that every one divides by are worked out once.
+// ln Γ of each group; the column sums that every one divides by, and their logs, are worked out once.
 fn gamma_k(q: &[f64], theta: &[f64], psi: &[f64], ng: usize) -> [f64; 32]
     requires { ⌜ (ng ≤ 32) × (ng ≤ length (now q)) × (ng ≤ length (now theta)) × (ng * ng ≤ length (now psi)) ⌝ }
     ensures { λ r. ⌜ Filled (lnGroup ng (at (now (q .entry))) (grid ng (now (psi .entry))) (at (now (theta .entry)))) ng r ⌝ }
 {
     let denom = column_sums(theta, psi, ng);
+    let mut logs = denom;
+    arithmetic::log_each(&mut logs[..], ng);
     let mut gamma = [0.0; 32];
     for k in 0..ng {
         let place = k * ng;
         let s = row_sum(theta, &psi[place..], &denom[..], ng);
-        gamma[k] = q[k] * (1.0 - arithmetic::log(denom[k]) - s);
+        gamma[k] = q[k] * (1.0 - logs[k] - s);
     }
     gamma
 }

@@ -79,7 +79,7 @@ fn residual(n: usize, q: f64, row: &[f64], theta: &[f64], sums: &[f64], i: usize
         terms[j] = theta[j] * row[j] / sums[j];
     }
     terms[i] = theta[i] * 1.0 / sums[i];
-    let s = crate::columns::sum_to(&terms[..], n);
+    let s = arithmetic::sum(&terms[..n]);
     q * (1.0 - arithmetic::log(sums[i]) - s)
 }
 
@@ -159,7 +159,8 @@ pub fn value_at(n: usize, values: &[f64], t: f64, x: &[f64], k: Quantity) -> f64
     requires { ⌜ (n ≤ 12) × (uniquacSize n ≤ length (now values)) × (n ≤ length (now x)) × (indexFault n k ≡ 0) ⌝ }
     ensures { λ v. ⌜ v ≡ uniquacAt n (rs n (now (values .entry))) (qs n (now (values .entry))) (energies n (now (values .entry))) t (at (now (x .entry))) k ⌝ }
 {
-    let e = crate::exponentials::energy_table(values, t, n);
+    let mut e = [0.0; 144];
+    crate::exponentials::fill_energies(values, t, n, &mut e[..]);
     let at = n * n;
     let qs_at = at + n;
     value_over(n, &values[at..], &values[qs_at..], &e[..], x, k)

@@ -2,7 +2,7 @@
 ghost use mathlib.Core.Path.{_≡_};
 ghost use Prim.Native.Nat.{_*_, _≤_, _<_};
 ghost use lib.ListN.{length};
-ghost use Rattle.arithmetic.specs.Floats.{_⊖_, _⊗_, +0};
+ghost use Rattle.arithmetic.specs.Floats.{_⊖_, _⊗_, _⊘_, +0};
 ghost use Rattle.arithmetic.specs.Logarithm.{logOf};
 ghost use Rattle.arithmetic.specs.Sums.{fold};
 ghost use Rattle.arithmetic.specs.Tables.{at, grid, Filled};
@@ -10,7 +10,7 @@ ghost use Rattle.models.specs.Answers.{indexFault};
 ghost use Rattle.models.specs.Plain.{wilsonPlain};
 ghost use Rattle.models.specs.Values.{wilsonSize, energies, volumes};
 ghost use Rattle.models.specs.Wilson.{rowSum, lnGamma, wilsonAt};
-ghost use Rattle.models.specs.Wilson.{lambda as W·lambda, wilson as W·wilson};
+ghost use Rattle.models.specs.Wilson.{wilson as W·wilson};
 use crate::answers::Answer;
 use crate::answers::Quantity;
 
@@ -22,17 +22,6 @@ pub fn size(n: usize) -> usize
         return 0;
     }
     n * n + n
-}
-
-// Λ_ij, from the part of the table that starts at row i.
-fn lambda(v: &[f64], row: &[f64], i: usize, j: usize) -> f64
-    requires { ⌜ (i < length (now v)) × (j < length (now v)) × (j < length (now row)) ⌝ }
-    ensures { λ r. ⌜ r ≡ W·lambda (at (now (v .entry))) (λ _. at (now (row .entry))) i j ⌝ }
-{
-    if i == j {
-        return 1.0;
-    }
-    v[j] / v[i] * row[j]
 }
 
 // Σ_j x_j Λ_ij, from the part of the table that starts at row i. The terms run without a test for the diagonal, then its own
@@ -47,7 +36,7 @@ fn row_sum(n: usize, v: &[f64], row: &[f64], x: &[f64], i: usize) -> f64
         terms[j] = x[j] * (v[j] / own * row[j]);
     }
     terms[i] = x[i] * 1.0;
-    crate::columns::sum_to(&terms[..], n)
+    arithmetic::sum(&terms[..n])
 }
 
 // What all components share: the sum of each row.
@@ -63,27 +52,36 @@ fn row_sums(n: usize, v: &[f64], e: &[f64], x: &[f64]) -> [f64; 12]
     sums
 }
 
-// ln γ_i, from the row sums.
-fn ln_gamma(n: usize, v: &[f64], e: &[f64], x: &[f64], sums: &[f64], i: usize) -> f64
-    requires { ⌜ (n ≤ length (now v)) × (n * n ≤ length (now e)) × (n ≤ length (now x)) × (n ≤ length (now sums)) × (i < n) × Filled (rowSum n (at (now v)) (grid n (now e)) (at (now x))) n (now sums) ⌝ }
-    ensures { λ r. ⌜ r ≡ lnGamma n (at (now (v .entry))) (grid n (now (e .entry))) (at (now (x .entry))) i ⌝ }
+// Λ_ij off the diagonal.
+fn lambda(n: usize, v: &[f64], e: &[f64], i: usize, j: usize) -> f64
+    requires { ⌜ (n ≤ 12) × (n ≤ length (now v)) × (n * n ≤ length (now e)) × (i < n) × (j < n) ⌝ }
+    ensures { λ r. ⌜ r ≡ at (now (v .entry)) j ⊘ at (now (v .entry)) i ⊗ grid n (now (e .entry)) i j ⌝ }
 {
-    let mut s = 0.0;
-    for k in 0..n {
-        let at = k * n;
-        s = s + x[k] * lambda(v, &e[at..], k, i) / sums[k];
-    }
-    1.0 - arithmetic::log(sums[i]) - s
+    v[j] / v[i] * e[i * n + j]
 }
 
-// The excess energy, from the row sums.
-fn excess_gibbs(n: usize, x: &[f64], sums: &[f64]) -> f64
+// ln γ_i, from the row sums. The terms run without a test for the diagonal, then its own is put right.
+fn ln_gamma(n: usize, v: &[f64], e: &[f64], x: &[f64], sums: &[f64], i: usize) -> f64
+    requires { ⌜ (n ≤ length (now v)) × (n * n ≤ length (now e)) × (n ≤ length (now x)) × (n ≤ length (now sums)) × (i < n) × (n ≤ 12) × Filled (rowSum n (at (now v)) (grid n (now e)) (at (now x))) n (now sums) ⌝ }
+    ensures { λ r. ⌜ r ≡ lnGamma n (at (now (v .entry))) (grid n (now (e .entry))) (at (now (x .entry))) i ⌝ }
+{
+    let mut terms = [0.0; 12];
+    for k in 0..n {
+        terms[k] = x[k] * lambda(n, v, e, k, i) / sums[k];
+    }
+    terms[i] = x[i] * 1.0 / sums[i];
+    1.0 - arithmetic::log(sums[i]) - arithmetic::sum(&terms[..n])
+}
+
+// The excess energy, from the row sums, which take their logs first.
+fn excess_gibbs(n: usize, x: &[f64], sums: &mut [f64]) -> f64
     requires { ⌜ (n ≤ length (now x)) × (n ≤ length (now sums)) ⌝ }
     ensures { λ r. ⌜ r ≡ fold n +0 (λ i s. s ⊖ at (now (x .entry)) i ⊗ logOf (at (now (sums .entry)) i)) ⌝ }
 {
+    arithmetic::log_each(sums, n);
     let mut s = 0.0;
     for i in 0..n {
-        s = s - x[i] * arithmetic::log(sums[i]);
+        s = s - x[i] * sums[i];
     }
     s
 }
@@ -93,11 +91,11 @@ pub fn value_over(n: usize, v: &[f64], e: &[f64], x: &[f64], q: Quantity) -> f64
     requires { ⌜ (n ≤ 12) × (n ≤ length (now v)) × (n * n ≤ length (now e)) × (n ≤ length (now x)) × (indexFault n q ≡ 0) ⌝ }
     ensures { λ r. ⌜ r ≡ W·wilson n (at (now (v .entry))) (grid n (now (e .entry))) (at (now (x .entry))) q ⌝ }
 {
-    let sums = row_sums(n, v, e, x);
+    let mut sums = row_sums(n, v, e, x);
     match q {
         Quantity::LnGamma(i) => ln_gamma(n, v, e, x, &sums[..], i),
         Quantity::Gamma(i) => arithmetic::exp(ln_gamma(n, v, e, x, &sums[..], i)),
-        Quantity::ExcessGibbs => excess_gibbs(n, x, &sums[..]),
+        Quantity::ExcessGibbs => excess_gibbs(n, x, &mut sums[..]),
     }
 }
 
@@ -106,7 +104,8 @@ pub fn value_at(n: usize, values: &[f64], t: f64, x: &[f64], q: Quantity) -> f64
     requires { ⌜ (n ≤ 12) × (wilsonSize n ≤ length (now values)) × (n ≤ length (now x)) × (indexFault n q ≡ 0) ⌝ }
     ensures { λ r. ⌜ r ≡ wilsonAt n (volumes n (now (values .entry))) (energies n (now (values .entry))) t (at (now (x .entry))) q ⌝ }
 {
-    let e = crate::exponentials::energy_table(values, t, n);
+    let mut e = [0.0; 144];
+    crate::exponentials::fill_energies(values, t, n, &mut e[..]);
     let at = n * n;
     value_over(n, &values[at..], &e[..], x, q)
 }

@@ -93,7 +93,7 @@ unfolding leastValues leastCells leastMarks
 returns c =
     let start = c .before .before .before .before .before .before .before .before .before .before .before .before .before .before .before .before .before .before .before in
     let w = small start in
-    nrtl-solved (start .args .n) (now (start .args .values)) (start .args .t) _ _ _ (start .pre .1) _ (omega (arith, w, start .pre .2)) (omega (arith, w)) (omega (arith, c .before .before .before .before .before .before .before .before .before .before .before .before .before .before .fill-taus .kept, w))
+    nrtl-solved (start .args .n) (now (start .args .values)) (start .args .t) _ _ _ (start .pre .1) (omega (arith, w, start .pre .2)) (omega (arith, c .before .before .before .before .before .before .before .before .before .before .before .before .before .before .fill-taus .kept, w))
     (c .before .before .before .before .before .before .before .before .before .before .before .before .before .before .fill-taus .ensures) (c .before .before .before .before .before .before .before .before .refill .ensures) (c .value-over .ensures)
 
 pub nrtl-spec : {M : Type 1} → statement M

@@ -1,57 +1,106 @@
--- The loop has written the entries below j but i; at its end these are the row's. Assumes nothing.
-use mathlib.Core.Logic.{⊎-elim}
-use mathlib.Core.Path.{_≡_, refl, ap, _∙_}
-use Prim.Native.Nat.{_-_, _≤_}
-use native.Mathlib.Nat.{le-antisymm}
+-- The loop has written the arguments of the rows above i; a row comes back in the middle of the table, and each place takes its exp. Assumes nothing.
+use mathlib.Core.Path.{_≡_, refl, _∙_}
+use Prim.Native.Nat.{_+_, _*_, _-_, _≤_}
+use native.Mathlib.Nat.{mul-le-mul, mul-le-mul-right}
 use native.Mathlib.Omega.{arith}
-use lib.ListN.{length-set, length}
-use borrow.Author.Needs.{needs}
-use Rattle.arithmetic.specs.Tables.{at, Filled}
-use Rattle.arithmetic.proofs.TableLaws.{filled-is}
-use Rattle.models.specs.Exponentials.{energy}
-use Rattle.models.specs.Rows.{rowFilled}
-use Rattle.models.proofs.ExponentialLaws.{row-none, row-skip, row-write}
+use denote.Ref.{now}
+use lib.Ieee.{neg}
+use lib.ListN.{length}
+use borrow.Rule.Slice.PartMut.{same-len-mid}
+use Rattle.arithmetic.specs.Floats.{_⊖_, _⊘_}
+use Rattle.arithmetic.specs.Tables.{grid, flat, Filled}
+use Rattle.arithmetic.proofs.TableLaws.{row-end, from-length, filled-none}
+use Rattle.models.proofs.ExponentialLaws.{arguments-more, energies-filled}
 use Rattle.models.proofs.exponentials.fill_energies.Statement.{statement}
 use Rattle.models.proofs.exponentials.fill_energies.Tie as tie
 
 abbrev Inv-loop : tie.InvT-loop
-Inv-loop row t n i out₀ j₀ out j = (j ≤ n) × (length out ≡ length out₀) × Filled (rowFilled j i (energy (λ _. at row) t i) out₀) (length out₀) out
+Inv-loop values t n out₀ i₀ out i = (i ≤ n) × (length out ≡ length out₀) × Filled (flat n (λ i j. neg (grid n values i j ⊖ grid n values i i) ⊘ t)) (i * n) out
 
 abbrev μ-loop : tie.MeasureT-loop
-μ-loop row t n i out₀ j₀ out j = n - j
+μ-loop values t n out₀ i₀ out i = n - i
+
+abbrev entry : tie.In-loop Inv-loop μ-loop → tie.Start Inv-loop μ-loop
+entry c = c .before .before .before .before
+
+-- row i ends within the tables, and these within 144 places
+ends : (c : tie.In-loop Inv-loop μ-loop) → let n = entry c .args .n in (c .before .loop .i * n + n ≤ n * n) × (n * n ≤ 144)
+ends c = (row-end _ (entry c .args .n) _ (c .loop-test .taken), mul-le-mul (entry c .pre .0) (entry c .pre .0))
 
 loop-holds : tie.Need-loop-holds Inv-loop μ-loop
-loop-holds c = (omega arith, refl, row-none _ _ _ _)
+loop-holds c = (omega arith, refl, filled-none (omega arith))
 
-energy-requires : tie.Need-energy-requires Inv-loop μ-loop
-energy-requires c κs = search needs
+mul-at : tie.Need-mul-at Inv-loop μ-loop
+mul-at c = omega (arith, ends c)
 
-mul-out : tie.Need-mul-out Inv-loop μ-loop
-mul-out c = omega arith
+mul-fill-arguments : tie.Need-mul-fill-arguments Inv-loop μ-loop
+mul-fill-arguments c = omega (arith, ends c)
 
-slice-write-out : tie.Need-slice-write-out Inv-loop μ-loop
-slice-write-out c = omega arith
+sub-fill-arguments : tie.Need-sub-fill-arguments Inv-loop μ-loop
+sub-fill-arguments c = omega (arith, ends c)
 
-add-j : tie.Need-add-j Inv-loop μ-loop
-add-j c = omega arith
+part-fill-arguments-start : tie.Need-part-fill-arguments-start Inv-loop μ-loop
+part-fill-arguments-start c = omega (arith, ends c)
+
+part-fill-arguments-end : tie.Need-part-fill-arguments-end Inv-loop μ-loop
+part-fill-arguments-end c = omega arith
+
+mul-fill-arguments-2 : tie.Need-mul-fill-arguments-2 Inv-loop μ-loop
+mul-fill-arguments-2 c = omega (arith, ends (c .before))
+
+sub-fill-arguments-2 : tie.Need-sub-fill-arguments-2 Inv-loop μ-loop
+sub-fill-arguments-2 c = omega (arith, ends (c .before))
+
+part-fill-arguments-start-2 : tie.Need-part-fill-arguments-start-2 Inv-loop μ-loop
+part-fill-arguments-start-2 c = omega (arith, ends (c .before))
+
+part-fill-arguments-end-2 : tie.Need-part-fill-arguments-end-2 Inv-loop μ-loop
+part-fill-arguments-end-2 c = omega arith
+
+fill-arguments-requires : tie.Need-fill-arguments-requires Inv-loop μ-loop
+fill-arguments-requires c κs =
+    let turn = c .before .before in
+    let s = turn .before .loop .i * entry turn .args .n in (
+      omega (arith, from-length s (now (entry turn .args .values)), ends turn),
+      omega (arith, from-length s (turn .before .loop .out), ends turn),
+      turn .loop-test .taken,
+    )
+
+add-i : tie.Need-add-i Inv-loop μ-loop
+add-i c = omega arith
 
 loop-less : tie.Need-loop-less Inv-loop μ-loop
 loop-less c = omega arith
 
 loop-again : tie.Need-loop-again Inv-loop μ-loop
 loop-again c =
-    let at-loop = c .before .before in (
+    let turn = c .before .before .before .before .before in
+    let start = entry turn in
+    let n = start .args .n in
+    let i = turn .before .loop .i in
+    let out = turn .before .loop .out in
+    let fill = c .before .before .fill-arguments in
+    let long = fill .kept .1 .1 .1 .1 .0 in (
       omega arith,
-      ⊎-elim (λ w. ap length (w .2) ∙ simp length-set (at-loop .loop .inv .1)) (λ w. ap length (w .1) ∙ at-loop .loop .inv .1) (c .if1 .came),
-      ⊎-elim (λ w. filled-is (w .2) (row-write _ _ _ _ _ (w .0 .taken) (omega arith) (w .1 .ensures) (at-loop .loop .inv .2)))
-          (λ w. filled-is (w .1) (row-skip _ _ _ _ _ (w .0 .left) (at-loop .loop .inv .2))) (c .if1 .came),
+      same-len-mid (i * n) (length out - i * n) out (fill .last .1 .1 .1 .1 .0) long ∙ turn .before .loop .inv .1,
+      arguments-more n i (now (start .args .values)) _ out _ _ (omega (arith, ends turn)) (turn .loop-test .taken) (omega (arith, ends turn))
+          (omega (arith, long, from-length (i * n) out, ends turn)) (fill .ensures) (turn .before .loop .inv .2),
     )
 
+mul-exp-each : tie.Need-mul-exp-each Inv-loop μ-loop
+mul-exp-each c = let start = c .before .before .before .before .before in omega (arith, mul-le-mul (start .pre .0) (start .pre .0))
+
+exp-each-requires : tie.Need-exp-each-requires Inv-loop μ-loop
+exp-each-requires c κs = omega arith
+
 same-length : tie.Need-same-length Inv-loop μ-loop
-same-length c = c .before .loop .inv .1
+same-length c = c .before .before .exp-each .kept .0 ∙ c .before .before .before .before .before .loop .inv .1
 
 returns : tie.Need-returns Inv-loop μ-loop
-returns c = rw (← le-antisymm (c .before .loop .inv .0) (c .loop-test .left)) (c .before .loop .inv .2)
+returns c =
+    let each = c .before .before in
+    let done = each .before .before in
+    energies-filled _ _ _ _ (omega arith) (mul-le-mul-right _ (done .loop-test .left)) (done .before .loop .inv .2) (each .exp-each .ensures)
 
 pub fill-energies-spec : {M : Type 1} → statement M
 fill-energies-spec =
@@ -60,11 +109,20 @@ fill-energies-spec =
     Inv-loop
     μ-loop
     loop-holds
-    energy-requires
-    mul-out
-    slice-write-out
-    add-j
+    mul-at
+    mul-fill-arguments
+    sub-fill-arguments
+    part-fill-arguments-start
+    part-fill-arguments-end
+    mul-fill-arguments-2
+    sub-fill-arguments-2
+    part-fill-arguments-start-2
+    part-fill-arguments-end-2
+    fill-arguments-requires
+    add-i
     loop-less
     loop-again
+    mul-exp-each
+    exp-each-requires
     same-length
     returns)

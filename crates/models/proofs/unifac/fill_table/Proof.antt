@@ -1,115 +1,108 @@
--- Ψ by full rows, each written through the part of the table that starts there; log(T) is worked out once.
-use mathlib.Core.Path.{_≡_, refl, _∙_}
-use Prim.Native.Nat.{_+_, _*_, _-_, _≤_}
-use native.Mathlib.Nat.{mul-le-mul, mul-le-mul-right}
+-- The table takes a at T, then each place its argument, then its exp. Assumes nothing.
+use mathlib.Core.Path.{_≡_, refl, sym, ap, _∙_}
+use mathlib.Core.List.{List}
+use Prim.Native.Nat.{ℕ, _+_, _*_, _-_, _≤_}
+use native.Mathlib.Nat.{mul-le-mul}
 use native.Mathlib.Omega.{arith}
 use denote.Ref.{now}
-use lib.ListN.{length}
-use borrow.Rule.Slice.PartMut.{same-len-mid}
-use Rattle.arithmetic.specs.Tables.{flat, Filled}
+use lib.Ieee.{Float, neg}
+use lib.ListN.{length, length-set}
+use Rattle.arithmetic.specs.Floats.{_⊘_}
 use Rattle.arithmetic.specs.Parameters.{tdAt}
-use Rattle.arithmetic.proofs.TableLaws.{row-end, from-length, filled-none, filled-less}
-use Rattle.models.specs.Values.{countsAt, groupAs}
-use Rattle.models.specs.Exponentials.{groupEnergy}
-use Rattle.models.proofs.UnifacLaws.{table-more}
+use Rattle.arithmetic.specs.Tables.{from, Filled, upTo}
+use Rattle.arithmetic.proofs.TableLaws.{from-length, filled-as, upto-above, upto-below, upto-more, upto-next}
+use Rattle.models.specs.Values.{countsAt, fiveAt}
+use Rattle.models.proofs.UnifacLaws.{table-filled}
 use Rattle.models.proofs.unifac.fill_table.Statement.{statement}
 use Rattle.models.proofs.unifac.fill_table.Tie as tie
 
+-- a of entry k at T, five each from place s on
+abbrev a : List Float → ℕ → Float → ℕ → Float
+a values s t k = tdAt (fiveAt (from s values) (k * 5)) t
+
 abbrev Inv-loop : tie.InvT-loop
-Inv-loop values t ng table₀ ln m₀ table m = (m ≤ ng) × (length table ≡ length table₀) × Filled (flat ng (groupEnergy (λ m k. tdAt (groupAs ng values m k) t) t)) (m * ng) table
+Inv-loop values t ng table₀ five count k₀ table k = (k ≤ count) × (length table ≡ length table₀) × (ng * ng ≤ length table₀) × (ng * ng ≤ 1024) × Filled (upTo k (λ k. neg (a values (ng + ng) t k) ⊘ t) (a values (ng + ng) t)) (ng * ng) table
 
 abbrev μ-loop : tie.MeasureT-loop
-μ-loop values t ng table₀ ln m₀ table m = ng - m
-
-abbrev entry : tie.In-loop Inv-loop μ-loop → tie.Start Inv-loop μ-loop
-entry c = c .before .before .before .before .before
-
--- row m ends within the table, which has at most 1,024 places, and its entries within the values
-ends : (c : tie.In-loop Inv-loop μ-loop) → let n = entry c .args .ng in
-    (c .before .loop .m * n + n ≤ n * n) × (n * n ≤ 1024) × (n + n + c .before .loop .m * n * 5 + n * 5 ≤ length (now (entry c .args .values)))
-unfolding countsAt
-ends c =
-    let row = row-end _ (entry c .args .ng) _ (c .loop-test .taken) in
-    (row, mul-le-mul (entry c .pre .0) (entry c .pre .0), omega (arith, row, entry c .pre .1))
-
-log-requires : tie.Need-log-requires Inv-loop μ-loop
-log-requires c κs = tt
-
-loop-holds : tie.Need-loop-holds Inv-loop μ-loop
-loop-holds c = (omega arith, refl, filled-none (omega arith))
-
-mul-place : tie.Need-mul-place Inv-loop μ-loop
-mul-place c = omega (arith, ends c)
+μ-loop values t ng table₀ five count k₀ table k = count - k
 
 add-five : tie.Need-add-five Inv-loop μ-loop
-add-five c = omega (arith, ends c)
+add-five c = omega arith
 
-mul-five : tie.Need-mul-five Inv-loop μ-loop
-mul-five c = omega (arith, ends c)
+mul-count : tie.Need-mul-count Inv-loop μ-loop
+mul-count c = omega (arith, mul-le-mul (c .before .before .pre .0) (c .before .before .pre .0))
 
-add-five-2 : tie.Need-add-five-2 Inv-loop μ-loop
-add-five-2 c = omega (arith, ends c)
+mul-fill-values : tie.Need-mul-fill-values Inv-loop μ-loop
+mul-fill-values c = omega arith
 
-mul-fill-psi : tie.Need-mul-fill-psi Inv-loop μ-loop
-mul-fill-psi c = omega (arith, ends c)
+sub-fill-values : tie.Need-sub-fill-values Inv-loop μ-loop
+unfolding countsAt
+sub-fill-values c = omega (arith, c .before .before .pre .1)
 
-sub-fill-psi : tie.Need-sub-fill-psi Inv-loop μ-loop
-sub-fill-psi c = omega (arith, ends c)
+part-fill-values-start : tie.Need-part-fill-values-start Inv-loop μ-loop
+unfolding countsAt
+part-fill-values-start c = omega (arith, c .before .before .pre .1)
 
-part-fill-psi-start : tie.Need-part-fill-psi-start Inv-loop μ-loop
-part-fill-psi-start c = omega (arith, ends c)
+part-fill-values-end : tie.Need-part-fill-values-end Inv-loop μ-loop
+part-fill-values-end c = omega arith
 
-part-fill-psi-end : tie.Need-part-fill-psi-end Inv-loop μ-loop
-part-fill-psi-end c = omega arith
-
-mul-fill-psi-2 : tie.Need-mul-fill-psi-2 Inv-loop μ-loop
-mul-fill-psi-2 c = omega (arith, ends (c .before))
-
-sub-fill-psi-2 : tie.Need-sub-fill-psi-2 Inv-loop μ-loop
-sub-fill-psi-2 c = omega (arith, ends (c .before))
-
-part-fill-psi-start-2 : tie.Need-part-fill-psi-start-2 Inv-loop μ-loop
-part-fill-psi-start-2 c = omega (arith, ends (c .before))
-
-part-fill-psi-end-2 : tie.Need-part-fill-psi-end-2 Inv-loop μ-loop
-part-fill-psi-end-2 c = omega arith
-
-fill-psi-requires : tie.Need-fill-psi-requires Inv-loop μ-loop
-fill-psi-requires c κs =
-    let turn = c .before .before in
-    let start = entry turn in
+fill-values-requires : tie.Need-fill-values-requires Inv-loop μ-loop
+unfolding countsAt
+fill-values-requires c κs =
+    let start = c .before .before .before .before in
     let n = start .args .ng in
-    let m = turn .before .loop .m in (
-      omega (arith, from-length (n + n + m * n * 5) (now (start .args .values)), ends turn),
-      omega (arith, from-length (m * n) (turn .before .loop .table), ends turn),
-    )
+    let small = mul-le-mul (start .pre .0) (start .pre .0) in
+    (omega (arith, from-length (n + n) (now (start .args .values)), start .pre .1), start .pre .2, omega (arith, small))
 
-add-m : tie.Need-add-m Inv-loop μ-loop
-add-m c = omega arith
+loop-holds : tie.Need-loop-holds Inv-loop μ-loop
+loop-holds c =
+    let start = c .before .before .before .before .before .before .before in
+    let fill = c .before .before .fill-values in
+    (omega arith, refl, omega (arith, start .pre .2, fill .kept .1 .1 .1 .0), mul-le-mul (start .pre .0) (start .pre .0), filled-as (λ k b. sym (upto-above 0 _ _ k (omega arith))) (fill .ensures))
+
+mul-table : tie.Need-mul-table Inv-loop μ-loop
+mul-table c = omega arith
+
+slice-read-table : tie.Need-slice-read-table Inv-loop μ-loop
+slice-read-table c = omega arith
+
+mul-table-2 : tie.Need-mul-table-2 Inv-loop μ-loop
+mul-table-2 c = omega arith
+
+slice-write-table : tie.Need-slice-write-table Inv-loop μ-loop
+slice-write-table c = omega arith
+
+add-k : tie.Need-add-k Inv-loop μ-loop
+add-k c = omega arith
 
 loop-less : tie.Need-loop-less Inv-loop μ-loop
 loop-less c = omega arith
 
 loop-again : tie.Need-loop-again Inv-loop μ-loop
 loop-again c =
-    let turn = c .before .before .before .before .before in
-    let start = entry turn in
-    let n = start .args .ng in
-    let m = turn .before .loop .m in
-    let table = turn .before .loop .table in
-    let fill = c .before .before .fill-psi in
-    let long = fill .kept .1 .1 .1 .1 .0 in (
+    let top = c .before .before in
+    let t = top .before .before .before .before .before .before .before .before .args .t in
+    let inv = top .loop .inv in (
       omega arith,
-      same-len-mid (m * n) (length table - m * n) table (fill .last .1 .1 .1 .1 .0) long ∙ turn .before .loop .inv .1,
-      table-more n m (now (start .args .values)) _ table _ _ _ (start .pre .1) (omega (arith, start .pre .2, turn .before .loop .inv .1)) (turn .before .before .log .ensures) (turn .loop-test .taken) long
-          (turn .before .loop .inv .2) (fill .ensures),
+      simp length-set (inv .1),
+      inv .2,
+      inv .3,
+      upto-more _ _ _ _ (omega arith) (ap (λ (v : Float). neg v ⊘ t) (upto-next _ _ _ _ (omega arith) (inv .4))) (inv .4),
     )
 
+exp-each-requires : tie.Need-exp-each-requires Inv-loop μ-loop
+exp-each-requires c κs = omega arith
+
 same-length : tie.Need-same-length Inv-loop μ-loop
-same-length c = c .before .loop .inv .1
+same-length c = let done = c .before .before .before .before .before in c .before .before .exp-each .kept .0 ∙ (done .loop .inv .1 ∙ done .before .before .before .fill-values .kept .1 .1 .1 .0)
 
 returns : tie.Need-returns Inv-loop μ-loop
-returns c = filled-less (mul-le-mul-right _ (c .loop-test .left)) (c .before .loop .inv .2)
+returns c =
+    let each = c .before .before in
+    let done = each .before .before in
+    let inv = done .before .loop .inv in
+    table-filled _ _ _ _ (done .before .before .before .before .before .before .before .before .before .pre .1) (omega arith)
+    (filled-as (λ k b. upto-below _ _ _ k (omega (arith, done .loop-test .left))) (inv .4)) (each .exp-each .ensures)
 
 pub fill-table-spec : {M : Type 1} → statement M
 fill-table-spec =
@@ -117,23 +110,21 @@ fill-table-spec =
     (tie.spec
     Inv-loop
     μ-loop
-    log-requires
-    loop-holds
-    mul-place
     add-five
-    mul-five
-    add-five-2
-    mul-fill-psi
-    sub-fill-psi
-    part-fill-psi-start
-    part-fill-psi-end
-    mul-fill-psi-2
-    sub-fill-psi-2
-    part-fill-psi-start-2
-    part-fill-psi-end-2
-    fill-psi-requires
-    add-m
+    mul-count
+    mul-fill-values
+    sub-fill-values
+    part-fill-values-start
+    part-fill-values-end
+    fill-values-requires
+    loop-holds
+    mul-table
+    slice-read-table
+    mul-table-2
+    slice-write-table
+    add-k
     loop-less
     loop-again
+    exp-each-requires
     same-length
     returns)

@@ -1,14 +1,13 @@
 -- The quotients are filled in place by place; the sum is their fold. Assumes nothing.
-use mathlib.Core.Path.{_≡_, refl, _∙_}
+use mathlib.Core.Path.{_≡_, refl, sym}
 use Prim.Native.Nat.{_-_, _≤_}
 use native.Mathlib.Omega.{arith}
-use borrow.Author.Needs.{needs}
-use lib.ListN.{length}
-use lib.ListN.{length-set}
-use Rattle.arithmetic.specs.Tables.{at, Filled}
-use Rattle.arithmetic.proofs.TableLaws.{filled-none, filled-more, filled-less}
+use lib.ListN.{length, length-set}
+use lib.Seq.{length-take-le}
 use Rattle.arithmetic.specs.Floats.{_⊗_, _⊘_}
-use Rattle.models.proofs.ColumnLaws.{filled-sum}
+use Rattle.arithmetic.specs.Tables.{at, Filled}
+use Rattle.arithmetic.proofs.TableLaws.{filled-none, filled-more}
+use Rattle.models.proofs.ColumnLaws.{terms-sum}
 use Rattle.models.proofs.unifac.row_sum.Statement.{statement}
 use Rattle.models.proofs.unifac.row_sum.Tie as tie
 
@@ -56,14 +55,19 @@ loop-again c =
     let top = c .before .before .before .before in
     (omega arith, simp length-set (top .loop .inv .1), filled-more (omega arith) (omega arith) (top .loop .inv .2) refl)
 
-slice-aggregate-sum-to : tie.Need-slice-aggregate-sum-to Inv-loop μ-loop
-slice-aggregate-sum-to c = search needs
+array-share-prefix-terms : tie.Need-array-share-prefix-terms Inv-loop μ-loop
+array-share-prefix-terms c = omega arith
 
-sum-to-requires : tie.Need-sum-to-requires Inv-loop μ-loop
-sum-to-requires c κs = omega (arith, c .before .before .loop .inv .1, c .before .before .before .before .before .before .pre .3)
+slice-aggregate-sum : tie.Need-slice-aggregate-sum Inv-loop μ-loop
+slice-aggregate-sum c = sym (length-take-le _ _ (omega arith))
+
+sum-requires : tie.Need-sum-requires Inv-loop μ-loop
+sum-requires c κs = tt
 
 returns : tie.Need-returns Inv-loop μ-loop
-returns c = c .sum-to .ensures ∙ filled-sum _ _ _ (filled-less (c .before .before .loop-test .left) (c .before .before .before .loop .inv .2))
+returns c =
+    let done = c .before .before in
+    terms-sum _ _ _ _ (omega (arith, done .before .loop .inv .1, done .before .before .before .before .before .pre .3)) (done .loop-test .left) (done .before .loop .inv .2) (c .sum .ensures)
 
 pub row-sum-spec : {M : Type 1} → statement M
 row-sum-spec =
@@ -83,6 +87,7 @@ row-sum-spec =
     add-m
     loop-less
     loop-again
-    slice-aggregate-sum-to
-    sum-to-requires
+    array-share-prefix-terms
+    slice-aggregate-sum
+    sum-requires
     returns)

@@ -1,16 +1,15 @@
 -- The quotients are the definition's off the diagonal, whose own is put right; the sum is their fold. Assumes nothing.
-use mathlib.Core.Path.{_≡_, refl, sym, ap, _∙_}
+use mathlib.Core.Path.{_≡_, refl, sym}
 use Prim.Native.Nat.{_-_, _≤_}
 use native.Mathlib.Omega.{arith}
-use borrow.Author.Needs.{needs}
-use lib.ListN.{length}
-use lib.ListN.{length-set}
-use Rattle.arithmetic.specs.Tables.{at, Filled}
-use Rattle.arithmetic.proofs.TableLaws.{filled-none, filled-more, filled-less}
 use denote.Ref.{now}
-use lib.Ieee.{Float, round, ofBits}
+use lib.Ieee.{round, ofBits}
+use lib.ListN.{length, length-set}
+use lib.Seq.{length-take-le}
 use Rattle.arithmetic.specs.Floats.{_⊗_, _⊘_, dec, one}
-use Rattle.models.proofs.ColumnLaws.{filled-sum, filled-put, unit-on, unit-off}
+use Rattle.arithmetic.specs.Tables.{at, Filled}
+use Rattle.arithmetic.proofs.TableLaws.{filled-none, filled-more}
+use Rattle.models.proofs.UniquacLaws.{residual-folded}
 use Rattle.models.proofs.uniquac.residual.Statement.{statement}
 use Rattle.models.proofs.uniquac.residual.Tie as tie
 
@@ -74,13 +73,16 @@ mul-terms-7 : tie.Need-mul-terms-7 Inv-loop μ-loop
 mul-terms-7 c = omega arith
 
 array-write-terms-2 : tie.Need-array-write-terms-2 Inv-loop μ-loop
-array-write-terms-2 c = omega (arith, c .before .before .before .loop .inv .1, c .before .before .before .before .before .before .before .pre .4, c .before .before .before .before .before .before .before .pre .3)
+array-write-terms-2 c = omega (arith, c .before .before .before .loop .inv .1, c .before .before .before .before .before .before .before .pre .3, c .before .before .before .before .before .before .before .pre .4)
 
-slice-aggregate-sum-to : tie.Need-slice-aggregate-sum-to Inv-loop μ-loop
-slice-aggregate-sum-to c = search needs
+array-share-prefix-terms : tie.Need-array-share-prefix-terms Inv-loop μ-loop
+array-share-prefix-terms c = simp length-set (omega (arith, c .before .before .before .loop .inv .1, c .before .before .before .before .before .before .before .pre .4))
 
-sum-to-requires : tie.Need-sum-to-requires Inv-loop μ-loop
-sum-to-requires c κs = simp length-set (omega (arith, c .before .before .before .before .loop .inv .1, c .before .before .before .before .before .before .before .before .pre .4))
+slice-aggregate-sum : tie.Need-slice-aggregate-sum Inv-loop μ-loop
+slice-aggregate-sum c = sym (length-take-le _ _ (simp length-set (omega (arith, c .before .before .before .before .loop .inv .1, c .before .before .before .before .before .before .before .before .pre .4))))
+
+sum-requires : tie.Need-sum-requires Inv-loop μ-loop
+sum-requires c κs = tt
 
 mul-log : tie.Need-mul-log Inv-loop μ-loop
 mul-log c = omega arith
@@ -94,11 +96,11 @@ log-requires c κs = tt
 returns : tie.Need-returns Inv-loop μ-loop
 unfolding one dec round ofBits
 returns c =
-    let top = c .before .before .before .before .before .before .before in
-    let a = c .before .before .before .before .before .before .before .before .before .before .before .args in
-    let all = filled-less (c .before .before .before .before .before .before .loop-test .left) (top .loop .inv .2) in
-    let put = filled-put (a .n) (a .i) (omega (arith, top .loop .inv .1, c .before .before .before .before .before .before .before .before .before .before .before .pre .3, c .before .before .before .before .before .before .before .before .before .before .before .pre .4)) (λ k b ne. ap (λ (z : Float). at (now (a .theta)) k ⊗ z ⊘ at (now (a .sums)) k) (sym (unit-off (a .i) k (at (now (a .row))) ne))) (ap (λ (z : Float). at (now (a .theta)) (a .i) ⊗ z ⊘ at (now (a .sums)) (a .i)) (sym (unit-on (a .i) (at (now (a .row)))))) all in
-    rw (c .log .ensures, c .before .before .sum-to .ensures ∙ filled-sum _ _ _ put)
+    let done = c .before .before .before .before .before .before in
+    let start = done .before .before .before .before .before in
+    let a = start .args in
+    residual-folded (a .n) _ (at (now (a .theta))) (at (now (a .row))) (at (now (a .sums))) (a .i) _ _ (start .pre .3) (omega (arith, done .before .loop .inv .1, start .pre .4)) (done .loop-test .left)
+    (done .before .loop .inv .2) refl (c .log .ensures) (c .before .before .sum .ensures)
 
 pub residual-spec : {M : Type 1} → statement M
 residual-spec =
@@ -124,8 +126,9 @@ residual-spec =
     shared-slice-read-terms-5
     mul-terms-7
     array-write-terms-2
-    slice-aggregate-sum-to
-    sum-to-requires
+    array-share-prefix-terms
+    slice-aggregate-sum
+    sum-requires
     mul-log
     shared-slice-read-log
     log-requires

@@ -1,26 +1,31 @@
--- The loop keeps the fold of the terms passed; at its end these are all. Assumes nothing.
+-- Each row sum takes its log; the loop keeps the fold of the terms passed. Assumes nothing.
 use mathlib.Core.Path.{_≡_, refl}
 use Prim.Native.Nat.{_-_, _≤_}
 use native.Mathlib.Omega.{arith}
+use denote.Ref.{now}
 use lib.Ieee.{ofBits}
+use lib.ListN.{length}
 use borrow.Author.Needs.{needs}
 use Rattle.arithmetic.specs.Floats.{_⊖_, _⊗_, +0}
 use Rattle.arithmetic.specs.Sums.{fold}
 use Rattle.arithmetic.specs.Tables.{at}
 use Rattle.arithmetic.proofs.SumLaws.{fold-more, fold-done}
-use Rattle.arithmetic.specs.Logarithm.{logOf}
+use Rattle.models.proofs.WilsonLaws.{excess-logs}
 use Rattle.models.proofs.wilson.excess_gibbs.Statement.{statement}
 use Rattle.models.proofs.wilson.excess_gibbs.Tie as tie
 
 abbrev Inv-loop : tie.InvT-loop
-Inv-loop n x sums s₀ i₀ s i = (i ≤ n) × (s ≡ fold i +0 (λ k a. a ⊖ at x k ⊗ logOf (at sums k)))
+Inv-loop n x sums s₀ i₀ s i = (i ≤ n) × (n ≤ length sums) × (s ≡ fold i +0 (λ k a. a ⊖ at x k ⊗ at sums k))
 
 abbrev μ-loop : tie.MeasureT-loop
 μ-loop n x sums s₀ i₀ s i = n - i
 
+log-each-requires : tie.Need-log-each-requires Inv-loop μ-loop
+log-each-requires c κs = search needs
+
 loop-holds : tie.Need-loop-holds Inv-loop μ-loop
 unfolding fold ofBits
-loop-holds c = (omega arith, refl)
+loop-holds c = (omega arith, omega (arith, c .before .before .log-each .kept .0, c .before .before .before .before .before .before .pre .1), refl)
 
 mul-s : tie.Need-mul-s Inv-loop μ-loop
 mul-s c = omega arith
@@ -28,14 +33,11 @@ mul-s c = omega arith
 shared-slice-read-s : tie.Need-shared-slice-read-s Inv-loop μ-loop
 shared-slice-read-s c = omega arith
 
-mul-log : tie.Need-mul-log Inv-loop μ-loop
-mul-log c = omega arith
+mul-s-2 : tie.Need-mul-s-2 Inv-loop μ-loop
+mul-s-2 c = omega arith
 
-shared-slice-read-log : tie.Need-shared-slice-read-log Inv-loop μ-loop
-shared-slice-read-log c = omega arith
-
-log-requires : tie.Need-log-requires Inv-loop μ-loop
-log-requires c κs = tt
+slice-read-s : tie.Need-slice-read-s Inv-loop μ-loop
+slice-read-s c = omega arith
 
 add-i : tie.Need-add-i Inv-loop μ-loop
 add-i c = omega arith
@@ -44,10 +46,17 @@ loop-less : tie.Need-loop-less Inv-loop μ-loop
 loop-less c = omega arith
 
 loop-again : tie.Need-loop-again Inv-loop μ-loop
-loop-again c = (omega arith, fold-more _ _ _ (c .before .before .before .before .loop .inv .1) (rw (c .log .ensures)))
+loop-again c = let top = c .before .before .before in (omega arith, top .loop .inv .1, fold-more _ _ _ (top .loop .inv .2) refl)
+
+same-length : tie.Need-same-length Inv-loop μ-loop
+same-length c = c .before .before .before .before .log-each .kept .0
 
 returns : tie.Need-returns Inv-loop μ-loop
-returns c = search (fold-done, needs)
+returns c =
+    let inv = c .before .loop .inv in
+    let each = c .before .before .before .before .log-each in
+    let sums = now (c .before .before .before .before .before .before .before .before .args .sums) in
+    excess-logs _ _ _ (at sums) sums _ (c .before .before .before .before .before .before .before .before .pre .1) (each .ensures) (fold-done _ _ _ _ (inv .2) (inv .0) (c .loop-test .left))
 
 pub excess-gibbs-spec : {M : Type 1} → statement M
 excess-gibbs-spec =
@@ -55,13 +64,14 @@ excess-gibbs-spec =
     (tie.spec
     Inv-loop
     μ-loop
+    log-each-requires
     loop-holds
     mul-s
     shared-slice-read-s
-    mul-log
-    shared-slice-read-log
-    log-requires
+    mul-s-2
+    slice-read-s
     add-i
     loop-less
     loop-again
+    same-length
     returns)

@@ -1,47 +1,53 @@
--- 1 on the diagonal, and else the definition's own product. Assumes nothing.
-use lib.Ieee.{round, ofBits}
-use borrow.Author.Tests.{eq-eqb, ne-eqb}
-use borrow.Author.Needs.{needs}
-use Rattle.arithmetic.specs.Floats.{dec, one}
-use Rattle.models.specs.Wilson.{lambda}
+-- The ratio of the volumes times the entry of row i and column j. Assumes nothing.
+use mathlib.Core.Path.{refl}
+use Prim.Native.Nat.{_+_, _*_, _<_, _≤_}
+use native.Mathlib.Nat.{mul-le-mul}
+use native.Mathlib.Omega.{arith}
+use Rattle.arithmetic.proofs.TableLaws.{cell-lt}
 use Rattle.models.proofs.wilson.lambda.Statement.{statement}
 use Rattle.models.proofs.wilson.lambda.Tie as tie
 
-returns : tie.Need-returns
-unfolding lambda one dec round ofBits
-returns c = simp (eq-eqb _ _ (c .if1 .taken))
+-- entry i, j is within the table, and this within 144 places
+cell : (c : tie.Start) → (c .args .i * c .args .n + c .args .j < c .args .n * c .args .n) × (c .args .n * c .args .n ≤ 144)
+cell c = (cell-lt (c .args .n) (c .args .n) (c .args .i) (c .args .j) (c .pre .3) (c .pre .4), mul-le-mul (c .pre .0) (c .pre .0))
 
 mul-result : tie.Need-mul-result
-mul-result c = search needs
+mul-result c = omega arith
 
 shared-slice-read-result : tie.Need-shared-slice-read-result
-shared-slice-read-result c = search needs
+shared-slice-read-result c = omega arith
 
 mul-result-2 : tie.Need-mul-result-2
-mul-result-2 c = search needs
+mul-result-2 c = omega arith
 
 shared-slice-read-result-2 : tie.Need-shared-slice-read-result-2
-shared-slice-read-result-2 c = search needs
+shared-slice-read-result-2 c = omega arith
 
 mul-result-3 : tie.Need-mul-result-3
-mul-result-3 c = search needs
+mul-result-3 c = omega (arith, cell (c .before .before))
+
+add-result : tie.Need-add-result
+add-result c = omega (arith, cell (c .before .before))
+
+mul-result-4 : tie.Need-mul-result-4
+mul-result-4 c = omega (arith, cell (c .before .before))
 
 shared-slice-read-result-3 : tie.Need-shared-slice-read-result-3
-shared-slice-read-result-3 c = search needs
+shared-slice-read-result-3 c = omega (arith, cell (c .before .before .before))
 
-returns-2 : tie.Need-returns-2
-unfolding lambda
-returns-2 c = simp (ne-eqb _ _ (c .before .before .before .if1 .left))
+returns : tie.Need-returns
+returns c = refl
 
 pub lambda-spec : {M : Type 1} → statement M
 lambda-spec =
     tie.close
     (tie.spec
-    returns
     mul-result
     shared-slice-read-result
     mul-result-2
     shared-slice-read-result-2
     mul-result-3
+    add-result
+    mul-result-4
     shared-slice-read-result-3
-    returns-2)
+    returns)

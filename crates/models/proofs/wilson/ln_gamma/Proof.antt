@@ -1,68 +1,48 @@
--- The loop keeps the sum of x_k Λ_ki over the row sums; these are the definition's, as the caller shows. Assumes nothing.
-use mathlib.Core.Path.{_≡_, _∙_}
-use Prim.Native.Nat.{_+_, _*_, _-_, _≤_}
+-- The terms are the definition's off the diagonal, whose own is put right; the row sums are the definition's, as the caller shows. Assumes nothing.
+use mathlib.Core.Path.{_≡_, refl, sym}
+use Prim.Native.Nat.{_-_, _≤_}
 use native.Mathlib.Omega.{arith}
+use borrow.Author.Needs.{needs}
 use denote.Ref.{now}
 use lib.Ieee.{round, ofBits}
-use lib.ListN.{length}
+use lib.ListN.{length, length-set}
+use lib.Seq.{length-take-le}
 use Rattle.arithmetic.specs.Floats.{_⊗_, _⊘_, dec, one}
-use Rattle.arithmetic.specs.Sums.{sum}
-use Rattle.arithmetic.specs.Tables.{at, grid}
-use Rattle.arithmetic.proofs.SumLaws.{sum-none, sum-more, sum-done}
-use Rattle.arithmetic.proofs.TableLaws.{row-end, from-length}
-use Rattle.models.specs.Wilson.{lambda, rowSum, lnGamma}
-use Rattle.models.proofs.WilsonLaws.{lambda-row}
+use Rattle.arithmetic.specs.Tables.{at, grid, Filled}
+use Rattle.arithmetic.proofs.TableLaws.{filled-none, filled-more}
+use Rattle.models.proofs.WilsonLaws.{ln-folded}
 use Rattle.models.proofs.wilson.ln_gamma.Statement.{statement}
 use Rattle.models.proofs.wilson.ln_gamma.Tie as tie
 
 abbrev Inv-loop : tie.InvT-loop
-Inv-loop n v e x sums i s₀ k₀ s k = (k ≤ n) × (s ≡ sum k (λ m. at x m ⊗ lambda (at v) (grid n e) m i ⊘ rowSum n (at v) (grid n e) (at x) m))
+Inv-loop n v e x sums i terms₀ k₀ terms k = (k ≤ n) × (length terms ≡ 12) × Filled (λ k. at x k ⊗ (at v i ⊘ at v k ⊗ grid n e k i) ⊘ at sums k) k terms
 
 abbrev μ-loop : tie.MeasureT-loop
-μ-loop n v e x sums i s₀ k₀ s k = n - k
-
--- row k ends within the table
-ends : (c : tie.In-loop Inv-loop μ-loop) → c .before .loop .k * c .before .before .before .before .before .before .args .n + c .before .before .before .before .before .before .args .n ≤ length (now (c .before .before .before .before .before .before .args .e))
-ends c =
-    let start = c .before .before .before .before .before .before in
-    omega (arith, row-end (start .args .n) (start .args .n) (c .before .loop .k) (c .loop-test .taken))
+μ-loop n v e x sums i terms₀ k₀ terms k = n - k
 
 loop-holds : tie.Need-loop-holds Inv-loop μ-loop
-loop-holds c = (omega arith, sum-none _)
+loop-holds c = (omega arith, refl, filled-none (omega arith))
 
-mul-at : tie.Need-mul-at Inv-loop μ-loop
-mul-at c = omega (arith, ends c)
+mul-terms : tie.Need-mul-terms Inv-loop μ-loop
+mul-terms c = omega arith
 
-mul-s : tie.Need-mul-s Inv-loop μ-loop
-mul-s c = omega arith
-
-shared-slice-read-s : tie.Need-shared-slice-read-s Inv-loop μ-loop
-shared-slice-read-s c = omega arith
-
-mul-lambda : tie.Need-mul-lambda Inv-loop μ-loop
-mul-lambda c = omega (arith, ends (c .before))
-
-sub-lambda : tie.Need-sub-lambda Inv-loop μ-loop
-sub-lambda c = omega (arith, ends (c .before))
-
-part-lambda-start : tie.Need-part-lambda-start Inv-loop μ-loop
-part-lambda-start c = omega (arith, ends (c .before))
-
-part-lambda-end : tie.Need-part-lambda-end Inv-loop μ-loop
-part-lambda-end c = omega arith
+shared-slice-read-terms : tie.Need-shared-slice-read-terms Inv-loop μ-loop
+shared-slice-read-terms c = omega arith
 
 lambda-requires : tie.Need-lambda-requires Inv-loop μ-loop
-lambda-requires c κs =
-    let turn = c .before .before in
-    let start = turn .before .before .before .before .before .before in
-    let row = from-length (turn .before .loop .k * start .args .n) (now (start .args .e)) in
-    (omega arith, omega arith, omega (arith, row, ends turn))
+lambda-requires c κs = search needs
 
-mul-s-2 : tie.Need-mul-s-2 Inv-loop μ-loop
-mul-s-2 c = omega arith
+mul-terms-2 : tie.Need-mul-terms-2 Inv-loop μ-loop
+mul-terms-2 c = omega arith
 
-shared-slice-read-s-2 : tie.Need-shared-slice-read-s-2 Inv-loop μ-loop
-shared-slice-read-s-2 c = omega arith
+shared-slice-read-terms-2 : tie.Need-shared-slice-read-terms-2 Inv-loop μ-loop
+shared-slice-read-terms-2 c = omega arith
+
+mul-terms-3 : tie.Need-mul-terms-3 Inv-loop μ-loop
+mul-terms-3 c = omega arith
+
+array-write-terms : tie.Need-array-write-terms Inv-loop μ-loop
+array-write-terms c = omega arith
 
 add-k : tie.Need-add-k Inv-loop μ-loop
 add-k c = omega arith
@@ -72,11 +52,26 @@ loop-less c = omega arith
 
 loop-again : tie.Need-loop-again Inv-loop μ-loop
 loop-again c =
-    let turn = c .before .before .before .before in
-    let start = turn .before .before .before .before .before .before in
-    let k = turn .before .loop .k in
-    let entry = c .before .lambda .ensures ∙ lambda-row (start .args .n) (at (now (start .args .v))) (now (start .args .e)) k (start .args .i) (omega (arith, ends turn)) in
-    (omega arith, sum-more _ _ (turn .before .loop .inv .1) (rw (entry, start .pre .5 .each k (turn .loop-test .taken))))
+    let top = c .before .before .before .before in
+    (omega arith, simp length-set (top .loop .inv .1), filled-more (omega arith) (omega arith) (top .loop .inv .2) (rw (c .before .lambda .ensures)))
+
+mul-terms-4 : tie.Need-mul-terms-4 Inv-loop μ-loop
+mul-terms-4 c = omega arith
+
+shared-slice-read-terms-3 : tie.Need-shared-slice-read-terms-3 Inv-loop μ-loop
+shared-slice-read-terms-3 c = omega arith
+
+mul-terms-5 : tie.Need-mul-terms-5 Inv-loop μ-loop
+mul-terms-5 c = omega arith
+
+shared-slice-read-terms-4 : tie.Need-shared-slice-read-terms-4 Inv-loop μ-loop
+shared-slice-read-terms-4 c = omega arith
+
+mul-terms-6 : tie.Need-mul-terms-6 Inv-loop μ-loop
+mul-terms-6 c = omega arith
+
+array-write-terms-2 : tie.Need-array-write-terms-2 Inv-loop μ-loop
+array-write-terms-2 c = omega (arith, c .before .before .before .loop .inv .1, c .before .before .before .before .before .before .before .before .pre .4, c .before .before .before .before .before .before .before .before .pre .5)
 
 mul-log : tie.Need-mul-log Inv-loop μ-loop
 mul-log c = omega arith
@@ -87,12 +82,23 @@ shared-slice-read-log c = omega arith
 log-requires : tie.Need-log-requires Inv-loop μ-loop
 log-requires c κs = tt
 
+array-share-prefix-terms : tie.Need-array-share-prefix-terms Inv-loop μ-loop
+array-share-prefix-terms c = simp length-set (omega (arith, c .before .before .before .before .before .loop .inv .1, c .before .before .before .before .before .before .before .before .before .before .pre .5))
+
+slice-aggregate-sum : tie.Need-slice-aggregate-sum Inv-loop μ-loop
+slice-aggregate-sum c = sym (length-take-le _ _ (simp length-set (omega (arith, c .before .before .before .before .before .before .loop .inv .1, c .before .before .before .before .before .before .before .before .before .before .before .pre .5))))
+
+sum-requires : tie.Need-sum-requires Inv-loop μ-loop
+sum-requires c κs = tt
+
 returns : tie.Need-returns Inv-loop μ-loop
-unfolding lnGamma one dec round ofBits
+unfolding one dec round ofBits
 returns c =
-    let after = c .before .before in
-    let start = after .before .before .before .before .before .before in
-    rw (c .log .ensures, start .pre .5 .each _ (start .pre .4), sum-done _ _ _ (after .before .loop .inv .1) (after .before .loop .inv .0) (after .loop-test .left))
+    let done = c .before .before .before .before .before .before in
+    let start = done .before .before .before .before .before .before in
+    let a = start .args in
+    ln-folded (a .n) (at (now (a .v))) (now (a .e)) (at (now (a .x))) (now (a .sums)) (start .pre .6) (a .i) (start .pre .4) _ _ (omega (arith, done .before .loop .inv .1, start .pre .5)) (done .loop-test .left)
+    (done .before .loop .inv .2) refl (c .before .before .log .ensures) (c .sum .ensures)
 
 pub ln-gamma-spec : {M : Type 1} → statement M
 ln-gamma-spec =
@@ -101,20 +107,26 @@ ln-gamma-spec =
     Inv-loop
     μ-loop
     loop-holds
-    mul-at
-    mul-s
-    shared-slice-read-s
-    mul-lambda
-    sub-lambda
-    part-lambda-start
-    part-lambda-end
+    mul-terms
+    shared-slice-read-terms
     lambda-requires
-    mul-s-2
-    shared-slice-read-s-2
+    mul-terms-2
+    shared-slice-read-terms-2
+    mul-terms-3
+    array-write-terms
     add-k
     loop-less
     loop-again
+    mul-terms-4
+    shared-slice-read-terms-3
+    mul-terms-5
+    shared-slice-read-terms-4
+    mul-terms-6
+    array-write-terms-2
     mul-log
     shared-slice-read-log
     log-requires
+    array-share-prefix-terms
+    slice-aggregate-sum
+    sum-requires
     returns)

@@ -1,18 +1,15 @@
 -- The terms are the definition's off the diagonal, whose own is put right; the sum is their fold. Assumes nothing.
-use mathlib.Core.Path.{_≡_, refl, sym, ap, _∙_}
+use mathlib.Core.Path.{_≡_, refl, sym}
 use Prim.Native.Nat.{_-_, _≤_}
 use native.Mathlib.Omega.{arith}
-use borrow.Author.Needs.{needs}
-use lib.ListN.{length}
-use lib.ListN.{length-set}
-use Rattle.arithmetic.specs.Tables.{at, Filled}
-use Rattle.arithmetic.proofs.TableLaws.{filled-none, filled-more, filled-less}
 use denote.Ref.{now}
-use lib.Ieee.{Float, round, ofBits}
+use lib.Ieee.{round, ofBits}
+use lib.ListN.{length, length-set}
+use lib.Seq.{length-take-le}
 use Rattle.arithmetic.specs.Floats.{_⊗_, _⊘_, dec, one}
-use Rattle.models.specs.Wilson.{rowSum}
-use Rattle.models.proofs.ColumnLaws.{filled-sum, filled-put}
-use Rattle.models.proofs.WilsonLaws.{lambda-on, lambda-off}
+use Rattle.arithmetic.specs.Tables.{at, Filled}
+use Rattle.arithmetic.proofs.TableLaws.{filled-none, filled-more}
+use Rattle.models.proofs.WilsonLaws.{row-folded}
 use Rattle.models.proofs.wilson.row_sum.Statement.{statement}
 use Rattle.models.proofs.wilson.row_sum.Tie as tie
 
@@ -76,22 +73,25 @@ mul-terms-6 : tie.Need-mul-terms-6 Inv-loop μ-loop
 mul-terms-6 c = omega arith
 
 array-write-terms-2 : tie.Need-array-write-terms-2 Inv-loop μ-loop
-array-write-terms-2 c = omega (arith, c .before .before .loop .inv .1, c .before .before .before .before .before .before .before .pre .4, c .before .before .before .before .before .before .before .pre .3)
+array-write-terms-2 c = omega (arith, c .before .before .loop .inv .1, c .before .before .before .before .before .before .before .pre .3, c .before .before .before .before .before .before .before .pre .4)
 
-slice-aggregate-sum-to : tie.Need-slice-aggregate-sum-to Inv-loop μ-loop
-slice-aggregate-sum-to c = search needs
+array-share-prefix-terms : tie.Need-array-share-prefix-terms Inv-loop μ-loop
+array-share-prefix-terms c = simp length-set (omega (arith, c .before .before .loop .inv .1, c .before .before .before .before .before .before .before .pre .4))
 
-sum-to-requires : tie.Need-sum-to-requires Inv-loop μ-loop
-sum-to-requires c κs = simp length-set (omega (arith, c .before .before .before .loop .inv .1, c .before .before .before .before .before .before .before .before .pre .4))
+slice-aggregate-sum : tie.Need-slice-aggregate-sum Inv-loop μ-loop
+slice-aggregate-sum c = sym (length-take-le _ _ (simp length-set (omega (arith, c .before .before .before .loop .inv .1, c .before .before .before .before .before .before .before .before .pre .4))))
+
+sum-requires : tie.Need-sum-requires Inv-loop μ-loop
+sum-requires c κs = tt
 
 returns : tie.Need-returns Inv-loop μ-loop
-unfolding rowSum one dec round ofBits
+unfolding one dec round ofBits
 returns c =
-    let top = c .before .before .before .before in
-    let s = c .before .before .before .before .before .before .before .before .before in
-    let a = s .args in
-    let all = filled-less (c .before .before .before .loop-test .left) (top .loop .inv .2) in
-    c .sum-to .ensures ∙ filled-sum _ _ _ (filled-put (a .n) (a .i) (omega (arith, top .loop .inv .1, s .pre .3, s .pre .4)) (λ k b ne. ap (λ (z : Float). at (now (a .x)) k ⊗ z) (sym (lambda-off (at (now (a .v))) (λ _. at (now (a .row))) (a .i) k ne))) (ap (λ (z : Float). at (now (a .x)) (a .i) ⊗ z) (sym (lambda-on (at (now (a .v))) (λ _. at (now (a .row))) (a .i)))) all)
+    let done = c .before .before .before in
+    let start = done .before .before .before .before .before .before in
+    let a = start .args in
+    row-folded (a .n) _ (at (now (a .v))) (at (now (a .row))) (at (now (a .x))) (a .i) _ (start .pre .3) (omega (arith, done .before .loop .inv .1, start .pre .4)) (done .loop-test .left)
+    (done .before .loop .inv .2) refl (c .sum .ensures)
 
 pub row-sum-spec : {M : Type 1} → statement M
 row-sum-spec =
@@ -117,6 +117,7 @@ row-sum-spec =
     shared-slice-read-terms-4
     mul-terms-6
     array-write-terms-2
-    slice-aggregate-sum-to
-    sum-to-requires
+    array-share-prefix-terms
+    slice-aggregate-sum
+    sum-requires
     returns)

@@ -1,34 +1,38 @@
--- The table holds the exponentials off the diagonal, and the part from n·n on the volumes: equal entries, equal answers. Assumes nothing.
-use mathlib.Core.Path.{refl, _∙_}
-use Prim.Native.Nat.{_*_}
+-- The table holds the exponentials, and the part from n·n on the volumes: equal entries, equal answers. Assumes nothing.
+use Prim.Native.Nat.{_+_, _*_, _≤_}
 use native.Mathlib.Nat.{mul-le-mul}
 use native.Mathlib.Omega.{arith}
 use denote.Ref.{now}
 use borrow.Author.Needs.{needs}
-use Rattle.arithmetic.proofs.TableLaws.{from-at, from-length}
-use Rattle.models.specs.Values.{wilsonSize, volumes}
-use Rattle.models.specs.Wilson.{wilsonAt}
-use Rattle.models.proofs.WilsonLaws.{wilson-same}
+use lib.ListN.{length}
+use Rattle.arithmetic.proofs.TableLaws.{from-length}
+use Rattle.models.specs.Values.{wilsonSize}
+use Rattle.models.proofs.WilsonLaws.{wilson-from}
 use Rattle.models.proofs.wilson.value_at.Statement.{statement}
 use Rattle.models.proofs.wilson.value_at.Tie as tie
 
-energy-table-requires : tie.Need-energy-table-requires
+-- how long the values are, and n·n within 144 places
+fits : (c : tie.Start) → (c .args .n * c .args .n + c .args .n ≤ length (now (c .args .values))) × (c .args .n * c .args .n ≤ 144)
 unfolding wilsonSize
-energy-table-requires c κs = (c .before .before .pre .0, omega (arith, c .before .before .pre .1))
+fits c = (c .pre .1, mul-le-mul (c .pre .0) (c .pre .0))
+
+slice-aggregate-fill-energies : tie.Need-slice-aggregate-fill-energies
+slice-aggregate-fill-energies c = search needs
+
+fill-energies-requires : tie.Need-fill-energies-requires
+fill-energies-requires c κs = let start = c .before .before .before in (start .pre .0, omega (arith, fits start), omega (arith, fits start))
 
 mul-at : tie.Need-mul-at
-mul-at c = omega (arith, mul-le-mul (c .before .before .before .pre .0) (c .before .before .before .pre .0))
+mul-at c = omega (arith, fits (c .before .before .before .before .before))
 
 mul-value-over : tie.Need-mul-value-over
-mul-value-over c = omega (arith, mul-le-mul (c .before .before .before .pre .0) (c .before .before .before .pre .0))
+mul-value-over c = omega (arith, fits (c .before .before .before .before .before))
 
 sub-value-over : tie.Need-sub-value-over
-unfolding wilsonSize
-sub-value-over c = omega (arith, c .before .before .before .pre .1)
+sub-value-over c = omega (arith, fits (c .before .before .before .before .before))
 
 part-value-over-start : tie.Need-part-value-over-start
-unfolding wilsonSize
-part-value-over-start c = omega (arith, c .before .before .before .pre .1)
+part-value-over-start c = omega (arith, fits (c .before .before .before .before .before))
 
 part-value-over-end : tie.Need-part-value-over-end
 part-value-over-end c = search needs
@@ -37,27 +41,22 @@ slice-aggregate-value-over : tie.Need-slice-aggregate-value-over
 slice-aggregate-value-over c = search needs
 
 value-over-requires : tie.Need-value-over-requires
-unfolding wilsonSize
 value-over-requires c κs =
-    let table = c .before .before in
-    let start = table .before .before .before in
+    let start = c .before .before .before .before .before .before .before in
     let n = start .args .n in
-    let sizes = from-length (n * n) (now (start .args .values)) in
-    (start .pre .0, omega (arith, sizes, start .pre .1), omega (arith, table .energy-table .ok, mul-le-mul (start .pre .0) (start .pre .0)), start .pre .2, start .pre .3)
+    (start .pre .0, omega (arith, from-length (n * n) (now (start .args .values)), fits start), omega (arith, c .before .before .before .fill-energies .kept .1 .1 .1 .0, fits start), start .pre .2, start .pre .3)
 
 returns : tie.Need-returns
-unfolding wilsonSize wilsonAt volumes
 returns c =
-    let table = c .before .before .before in
-    let start = table .before .before .before in
-    let n = start .args .n in
-    c .value-over .ensures ∙ wilson-same n _ _ _ _ _ _ (λ i b. from-at (now (start .args .values)) (n * n) i (omega (arith, start .pre .1))) (λ i b. refl) (table .energy-table .ensures .entry) _ (start .pre .3)
+    let start = c .before .before .before .before .before .before .before .before in
+    wilson-from (start .args .n) (now (start .args .values)) _ _ _ _ (fits start .0) (start .pre .3) (c .before .before .before .before .fill-energies .ensures) (c .value-over .ensures)
 
 pub value-at-spec : {M : Type 1} → statement M
 value-at-spec =
     tie.close
     (tie.spec
-    energy-table-requires
+    slice-aggregate-fill-energies
+    fill-energies-requires
     mul-at
     mul-value-over
     sub-value-over
