@@ -1,12 +1,13 @@
 -- Where all the marks that are not 1 are counted on the diagonal, those off it are 1. Assumes nothing.
-use mathlib.Core.Path.{_≡_, refl, sym, _∙_}
+use mathlib.Core.Path.{_≡_, refl, sym, _∙_, subst}
 use mathlib.Core.Bool.{Bool, true, false, not, _&&_, cond, and-false}
 use mathlib.Core.List.{List}
 use mathlib.Core.Logic.{inl, inr}
 use Prim.Native.Nat.{ℕ, zero, suc, _+_, _*_, _/_, _%_, _<_, _≤_}
-use native.Mathlib.Nat.{zero-mul, suc-mul, div-add-mod', mod-lt, div-lt-iff-lt-mul}
+use native.Mathlib.Nat.{zero-mul, div-add-mod', mod-lt, div-lt-iff-lt-mul}
+use native.Mathlib.Numerals.{add-one}
 use native.Mathlib.Omega.{arith}
-use borrow.Author.Tests.{eq-eqb}
+use borrow.Author.Tests.{eq-eqb, ne-eqb, eqb-false}
 use lib.Dec.{eqb}
 use lib.ListN.{getD}
 use Rattle.arithmetic.proofs.Differences.{either}
@@ -16,7 +17,23 @@ use Rattle.mixture.specs.declared.head.Model.the-variants.{Wilson, Uniqu
 use Rattle.mixture.specs.Names.{byModel}
 use Rattle.mixture.specs.Lists.{howMany, howManyPairs}
 use Rattle.mixture.specs.Refills.{staleCell, unmarked}
-use Rattle.mixture.proofs.ListLaws.{howMany-rows}
+use Rattle.mixture.proofs.ListLaws.{never, howMany-rows}
+
+-- ---- counting
+
+pub many-none : (p : ℕ → Bool) → 0 ≡ howMany 0 p
+unfolding howMany
+many-none p = refl
+
+pub many-more : (n : ℕ) (p : ℕ → Bool) (b : Bool) → p n ≡ b → howMany n p + cond b 1 0 ≡ howMany (n + 1) p
+unfolding howMany
+many-more n p b e = rw (add-one n, e) refl
+
+pub is-unmarked : (m : ℕ) → (m ≡ 1 → ⊥) → not (eqb m 1) ≡ true
+is-unmarked m h = rw (ne-eqb m 1 h) refl
+
+pub is-marked : (m : ℕ) → m ≡ 1 → not (eqb m 1) ≡ false
+is-marked m h = rw (eq-eqb m 1 h) refl
 
 -- ---- what a number that passes adds
 
@@ -71,5 +88,20 @@ fresh-off (suc v) marks e c h =
     let place : c / w * w + c % w ≡ c = div-add-mod' c w in
     elim (either (eqb (c / w) (c % w))) [
       | inl d ↦ rw d refl
-      | inr d ↦ ?
+      | inr d ↦
+          rw d
+          (subst (λ (z : ℕ). unmarked marks z ≡ false) place
+          (only-diagonal w w (λ i j. unmarked marks (i * w + j)) (omega arith) (sym (howMany-rows w w (unmarked marks)) ∙ e) (c / w) (c % w)
+          (div-lt-iff-lt-mul {k = w} {x = c} {y = w} (omega arith) .1 h) (mod-lt c (omega arith)) (eqb-false (c / w) (c % w) d)))
     ]
+
+pub stale-none : (k : Model) (marks : List ℕ) (c i j : ℕ) → unmarked marks c ≡ false → staleCell k (getD marks c 0) i j ≡ false
+unfolding staleCell
+stale-none k marks c i j h = rw (h, and-false (byModel k (not (eqb i j)) (not (eqb i j)) (not (eqb i j)) true)) refl
+
+pub stale-apart : (k : Model) (marks : List ℕ) (c i j : ℕ) → byModel k false false false true ≡ false → not (eqb i j) && unmarked marks c ≡ false → staleCell k (getD marks c 0) i j ≡ false
+unfolding staleCell
+stale-apart Wilson marks c i j d h = h
+stale-apart Uniquac marks c i j d h = h
+stale-apart Nrtl marks c i j d h = h
+stale-apart Unifac marks c i j d h = never d

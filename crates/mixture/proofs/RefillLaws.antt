@@ -1,14 +1,13 @@
 -- Stale cells worked out place by place, row by row through parts, are `written` and `howMany` over all of them. Assumes nothing.
 use mathlib.Core.Path.{_≡_, refl, sym, ap, _∙_, subst}
-use mathlib.Core.Bool.{Bool, true, false, not, _&&_, cond, and-false}
+use mathlib.Core.Bool.{Bool, true, false, _&&_, cond, and-false}
 use mathlib.Core.List.{List, [], _∷_, _++_, append-nil}
-use mathlib.Core.Logic.{_⊎_, inl, inr}
+use mathlib.Core.Logic.{inl, inr}
 use Prim.Native.Nat.{ℕ, zero, suc, _+_, _*_, _-_, _/_, _%_, _<_, _≤_}
-use native.Mathlib.Nat.{ne-of-lt, ne-of-gt, add-zero, zero-mul, le-antisymm, mul-le-mul-right}
+use native.Mathlib.Nat.{ne-of-lt, ne-of-gt, add-zero, le-antisymm, mul-le-mul-right}
 use native.Mathlib.Numerals.{add-one}
 use native.Mathlib.Omega.{arith}
 use borrow.Rule.Slice.PartMut.{putMid}
-use borrow.Author.Count.{below-more}
 use borrow.Author.Tests.{lt-ltb, le-ltb, eq-eqb, ne-eqb}
 use lib.Dec.{ltb}
 use lib.ListN.{length, getD, set, take, drop, length-set, length-append, length-drop, drop-of-length-le, List·getD-append}
@@ -22,7 +21,7 @@ use Rattle.mixture.specs.declared.head.Model.the-variants.{Wilson, Uniqu
 use Rattle.mixture.specs.Names.{byModel}
 use Rattle.mixture.specs.Lists.{written, howMany}
 use Rattle.mixture.specs.Refills.{rowCell, staleCell, Refilled}
-use Rattle.mixture.proofs.ListLaws.{never, length-written, getD-written, getD-kept, howMany-add, howMany-same}
+use Rattle.mixture.proofs.ListLaws.{length-written, getD-written, getD-kept, howMany-add, howMany-same}
 
 -- ---- a writable part, back
 

@@ -7,6 +7,7 @@ ghost use Rattle.arithmetic.specs.Tables.{from};
 ghost use Rattle.mixture.specs.Lists.{howMany};
 ghost use Rattle.mixture.specs.Refills.{rowCell, staleCell, unmarked, Refilled};
 use crate::head::Model;
+use crate::parts::has_diagonal;
 
 // Entry j of row i. `row` starts at the row's energies, α or td entries; `tau` at its τ at T, which only NRTL reads; ln is
 // log(T), which only UNIFAC reads.
@@ -100,12 +101,10 @@ fn all_fresh(model: Model, w: usize, marks: &[u8]) -> bool
     ensures { λ r. ⌜ (r ≡ true → (c : ℕ) → c < w * w → staleCell model (getD (now (marks .entry)) c 0) (c / w) (c % w) ≡ false) ⌝ }
 {
     let count = count_unmarked(marks, w * w);
-    match model {
-        Model::Wilson => count == count_diagonal(marks, w),
-        Model::Uniquac => count == count_diagonal(marks, w),
-        Model::Nrtl => count == count_diagonal(marks, w),
-        Model::Unifac => count == 0,
+    if has_diagonal(model) {
+        return count == 0;
     }
+    count == count_diagonal(marks, w)
 }
 
 // Works out every stale cell, row by row, and counts them. Row i of `table` and of `tau` starts at i·stride.
