@@ -39,7 +39,7 @@ line (Value v count) = valueText v ++ (ascii " " ++ (decimal count ++ ascii "\n"
 abbrev pub broken : List ℕ
 broken = ascii "broken\n"
 
--- The text t stored in l from p on makes l′, and r is the place past it. What would lie past l's end isn't stored.
+-- The text t stored in l from p on makes l′, and r is its length. What would lie past l's end isn't stored.
 pub record Put (l : List ℕ) (p : ℕ) (t : List ℕ) (r : ℕ) (l′ : List ℕ) : Type 0 where
-  pub past : r ≡ p + length t
+  pub long : r ≡ length t
   pub text : l′ ≡ sets l p t

@@ -35,12 +35,12 @@ fn walk(
                 return pos;
             }
             Read::Broken => {
-                return put(out, pos, b"broken\n");
+                return pos + put(out, pos, b"broken\n");
             }
             Read::Record(r) => {
                 let o = make(s, r, values, cells, marks, h);
                 let a = o.answer;
-                pos = put_answer(out, pos, a);
+                pos += put_answer(out, pos, a);
                 h = o.head;
                 at = r.next;
             }

@@ -1,14 +1,14 @@
--- What is stored and what is left make the text. Assumes nothing.
+-- Walks from record to record: what is stored and what is left make the text. Assumes nothing.
+use Prim.Native.Nat.{_*_, _-_, _≤_}
+use native.Mathlib.Omega.{arith}
+use mathlib.Core.Path.{_≡_, refl, sym, _∙_}
+use lib.ListN.{length}
+use borrow.Author.Needs.{needs}
 use Rattle.mixture.specs.Memory.{memory}
 use Rattle.strip.specs.Text.{broken}
 use Rattle.strip.specs.Inner.{rest}
 use Rattle.strip.proofs.RecordLaws.{found, found-whole, read-done}
 use Rattle.strip.proofs.RunLaws.{Walked, walk-starts, walk-turn, walk-ends, walk-breaks}
-use mathlib.Core.Path.{_≡_, refl, sym, ap, _∙_}
-use Prim.Native.Nat.{ℕ, zero, suc, _+_, _*_, _-_, _<_, _≤_}
-use native.Mathlib.Omega.{arith}
-use borrow.Author.Needs.{needs}
-use lib.ListN.{length, getD}
 use Rattle.strip.proofs.run.walk.Statement.{statement}
 use Rattle.strip.proofs.run.walk.Tie as tie
 
@@ -53,7 +53,10 @@ slice-aggregate-put : tie.Need-slice-aggregate-put Inv-loop μ-loop
 slice-aggregate-put c = search needs
 
 put-requires : tie.Need-put-requires Inv-loop μ-loop
-put-requires c κs = search needs
+put-requires c κs = tt
+
+add-result : tie.Need-add-result Inv-loop μ-loop
+add-result c = omega (arith, c .before .before .before .before .before .before .before .before .loop .inv .0, c .before .before .before .before .before .before .before .before .loop .inv .1, c .before .before .before .before .before .before .before .before .before .before .before .before .before .before .pre, c .before .before .put .ensures .long)
 
 same-length-5 : tie.Need-same-length-5 Inv-loop μ-loop
 same-length-5 c = search needs
@@ -70,7 +73,7 @@ same-length-8 c = search needs
 returns-2 : tie.Need-returns-2 Inv-loop μ-loop
 returns-2 c =
     let l = c .before .before .before .before .before .before .before .before .loop in
-    (walk-breaks _ _ _ (l .at) _ _ _ _ (l .inv .7) (sym (c .before .before .before .before .before .before .before .read-at .ensures) ∙ c .before .before .before .before .before .enum-told2 .given .1) _ _ (c .before .before .put .ensures), omega (arith, l .inv .0, l .inv .1, c .before .before .before .before .before .before .before .before .before .before .before .before .before .before .pre, c .before .before .put .ensures .past))
+    (walk-breaks _ _ _ (l .at) _ _ _ _ (l .inv .7) (sym (c .before .before .before .before .before .before .before .read-at .ensures) ∙ c .before .before .before .before .before .enum-told2 .given .1) _ _ (c .before .before .put .ensures), omega (arith, l .inv .0, l .inv .1, c .before .before .before .before .before .before .before .before .before .before .before .before .before .before .pre, c .before .before .put .ensures .long))
 
 enum-known-r : tie.Need-enum-known-r Inv-loop μ-loop
 enum-known-r c = search needs
@@ -79,7 +82,10 @@ make-requires : tie.Need-make-requires Inv-loop μ-loop
 make-requires c κs = found-whole _ (c .before .before .before .before .before .before .before .loop .at) _ (c .before .before .before .before .before .before .before .before .before .before .before .before .before .pre) (sym (c .before .before .before .before .before .before .read-at .ensures) ∙ c .before .before .before .before .r .given .1)
 
 put-answer-requires : tie.Need-put-answer-requires Inv-loop μ-loop
-put-answer-requires c κs = search needs
+put-answer-requires c κs = tt
+
+add-pos : tie.Need-add-pos Inv-loop μ-loop
+add-pos c = omega (arith, c .before .before .before .before .before .before .before .before .before .before .before .before .before .before .before .before .before .before .loop .inv .0, c .before .before .before .before .before .before .before .before .before .before .before .before .before .before .before .before .before .before .loop .inv .1, c .before .before .before .before .before .before .before .before .before .before .before .before .before .before .before .before .before .before .before .before .before .before .before .before .pre, c .before .before .put-answer .ensures .1)
 
 loop-less : tie.Need-loop-less Inv-loop μ-loop
 loop-less c =
@@ -91,15 +97,16 @@ loop-again c =
     let l = c .before .before .before .before .before .before .before .before .before .before .before .before .before .before .before .before .before .before .before .loop in
     let e = sym (c .before .before .before .before .before .before .before .before .before .before .before .before .before .before .before .before .before .before .read-at .ensures) ∙ c .before .before .before .before .before .before .before .before .before .before .before .before .before .before .before .before .r .given .1 in
     let f = found _ (l .at) _ e in
-    let p = c .before .before .before .put-answer .ensures in (
+    let m = c .before .before .before .before .before .before .before .before .before .before .before .make in
+    let p = c .before .before .before .put-answer in (
       f .next,
-      omega (arith, f .body, f .floats, p .1),
-      c .before .before .before .before .before .before .before .before .before .before .before .make .kept .1 .1 .0 ∙ l .inv .2,
-      c .before .before .before .before .before .before .before .before .before .before .before .make .kept .1 .1 .1 .0 ∙ l .inv .3,
-      c .before .before .before .before .before .before .before .before .before .before .before .make .kept .1 .1 .1 .1 .0 ∙ l .inv .4,
-      c .before .before .before .put-answer .kept .0 ∙ l .inv .5,
+      omega (arith, f .body, f .floats, l .inv .1, p .ensures .1),
+      m .kept .1 .1 .0 ∙ l .inv .2,
+      m .kept .1 .1 .1 .0 ∙ l .inv .3,
+      m .kept .1 .1 .1 .1 .0 ∙ l .inv .4,
+      p .kept .0 ∙ l .inv .5,
       refl,
-      walk-turn _ _ _ (l .at) _ _ _ _ (l .inv .7) _ e _ (c .before .before .before .before .before .before .before .before .before .before .before .make .ensures) _ _ (p .0),
+      walk-turn _ _ _ (l .at) _ _ _ _ (l .inv .7) _ e _ (m .ensures) _ _ (p .ensures .0),
     )
 
 pub walk-spec : {M : Type 1} → statement M
@@ -119,6 +126,7 @@ walk-spec =
     enum-told-2
     slice-aggregate-put
     put-requires
+    add-result
     same-length-5
     same-length-6
     same-length-7
@@ -127,5 +135,6 @@ walk-spec =
     enum-known-r
     make-requires
     put-answer-requires
+    add-pos
     loop-less
     loop-again)
