@@ -4,8 +4,9 @@ use Prim.Native.Nat.{ℕ, zero, suc, _+_, _-_, _<_, _≤_}
 use native.Mathlib.Nat.{zero-add}
 use native.Mathlib.Omega.{arith}
 use mathlib.Core.Path.{_≡_, refl, sym, ap, _∙_}
-use mathlib.Core.Bool.{false}
+use mathlib.Core.Bool.{false, cond}
 use mathlib.Core.List.{List, [], _∷_, _++_, append-assoc}
+use lib.Dec.{ltb}
 use lib.ListN.{length, length-append}
 use lib.Seq.{sets}
 use borrow.Author.Tests.{lt-ltb, le-ltb}
@@ -24,7 +25,7 @@ use Rattle.strip.specs.Records.{readAt}
 use Rattle.strip.specs.Calls.{callOf}
 use Rattle.strip.specs.Text.{line, broken, Put}
 use Rattle.strip.specs.Run.{Script, script, scriptBy, scriptFrom, scriptOf, lines, transcript}
-use Rattle.strip.specs.Inner.{rest}
+use Rattle.strip.specs.Inner.{rest, walked}
 use Rattle.strip.proofs.TextLaws.{sets-append, put-same}
 use Rattle.strip.proofs.RecordLaws.{read-end, found, later, read-in}
 
@@ -127,19 +128,28 @@ opened : (m : Memory) (h : Head) (a : After) → a ≡ afterOpen m h → isShort
 unfolding answers afterCall tail
 opened m h a e g cs = ap (λ (z : After). answers (z .memory) (z .reply .head) cs) e ∙ ap tail (history m h cs g)
 
-rest-opened : (s : List ℕ) (m : Memory) (h : Head) (a : After) → a ≡ afterOpen m h → isShort m ≡ false → length s ≤ mostBytes → rest s 0 (a .memory) (a .reply .head) ≡ transcript s
-unfolding rest transcript scriptOf
-rest-opened s m h a e g l =
+rest-opened : (s : List ℕ) (m : Memory) (h : Head) (a : After) → a ≡ afterOpen m h → isShort m ≡ false
+    → rest s 0 (a .memory) (a .reply .head) ≡ lines (bookAnswers empty [] (scriptOf s .calls)) ++ scriptOf s .ending
+unfolding rest scriptOf
+rest-opened s m h a e g =
     let z : length s - 0 ≡ length s = omega arith in
-    rw (z, le-ltb mostBytes (length s) l, opened m h a e g (scriptFrom s (length s) 0 .calls))
+    rw (z, opened m h a e g (scriptFrom s (length s) 0 .calls))
 
-pub run-long : (s : List ℕ) {l l′ : List ℕ} {r : ℕ} → mostBytes < length s → Put l 0 broken r l′ → Put l 0 (transcript s) r l′
-unfolding transcript
-run-long s h p = put-same p (long s h)
+pub walked-long : (s : List ℕ) (m : Memory) (h : Head) {l l′ : List ℕ} {r : ℕ} → mostBytes < length s → Put l 0 broken r l′ → Put l 0 (walked s m h) r l′
+unfolding walked
+walked-long s m h n p = put-same p (long s m h n)
   where
-    long : (z : List ℕ) → mostBytes < length z → broken ≡ transcript z
-    long z g = rw (lt-ltb mostBytes (length z) g)
+    long : (s : List ℕ) (m : Memory) (h : Head) → mostBytes < length s → broken ≡ walked s m h
+    long s m h n = rw (lt-ltb mostBytes (length s) n)
 
-pub run-opened : (s : List ℕ) (m : Memory) (h : Head) (a : After) {l l′ : List ℕ} {r : ℕ} → a ≡ afterOpen m h → isShort m ≡ false → length s ≤ mostBytes
-    → Put l 0 (rest s 0 (a .memory) (a .reply .head)) r l′ → Put l 0 (transcript s) r l′
-run-opened s m h a e g n p = put-same p (rest-opened s m h a e g n)
+pub walked-short : (s : List ℕ) (m : Memory) (h : Head) {l l′ : List ℕ} {r : ℕ} → length s ≤ mostBytes → Put l 0 (rest s 0 m h) r l′ → Put l 0 (walked s m h) r l′
+unfolding walked
+walked-short s m h n p = put-same p (short s m h n)
+  where
+    short : (s : List ℕ) (m : Memory) (h : Head) → length s ≤ mostBytes → rest s 0 m h ≡ walked s m h
+    short s m h n = rw (le-ltb mostBytes (length s) n)
+
+pub run-opened : (s : List ℕ) (m : Memory) (h : Head) (a : After) {l l′ : List ℕ} {r : ℕ} → a ≡ afterOpen m h → isShort m ≡ false
+    → Put l 0 (walked s (a .memory) (a .reply .head)) r l′ → Put l 0 (transcript s) r l′
+unfolding walked transcript
+run-opened s m h a e g p = put-same p (ap (cond (ltb mostBytes (length s)) broken) (rest-opened s m h a e g))

@@ -1,8 +1,9 @@
 -- What the inner functions of a run say. No public contract speaks of it.
 use Prim.Native.Nat.{ℕ, _+_, _*_, _-_, _<_, _≤_}
 use mathlib.Core.Path.{_≡_}
-use mathlib.Core.Bool.{true}
+use mathlib.Core.Bool.{true, cond}
 use mathlib.Core.List.{List, _++_}
+use lib.Dec.{ltb}
 use lib.ListN.{length, take}
 use lib.Ieee.{Float}
 use Rattle.mixture.specs.declared.head.Head.{Head}
@@ -13,6 +14,7 @@ use Rattle.strip.specs.Words.{mostBytes}
 use Rattle.strip.specs.Lists.{Lists}
 use Rattle.strip.specs.Records.{shape, shapeOf}
 use Rattle.strip.specs.Calls.{listsOf}
+use Rattle.strip.specs.Text.{broken}
 use Rattle.strip.specs.Run.{scriptFrom, lines}
 
 -- the record lies whole within a strip that isn't over-long
@@ -33,3 +35,7 @@ pub record Listed (l : Lists) (n m k : ℕ) (lens groups : List ℕ) (a a′ : L
 -- the text from p on, by the memory and the head
 unfoldable pub rest : List ℕ → ℕ → Memory → Head → List ℕ
 rest s p m h = lines (answers m h (scriptFrom s (length s - p) p .calls)) ++ scriptFrom s (length s - p) p .ending
+
+-- the whole text, by the memory and the head
+unfoldable pub walked : List ℕ → Memory → Head → List ℕ
+walked s m h = cond (ltb mostBytes (length s)) broken (rest s 0 m h)
