@@ -3,10 +3,13 @@ use Prim.Native.Nat.{ℕ, _+_, _*_, _-_, _<_, _≤_}
 use mathlib.Core.Path.{_≡_}
 use mathlib.Core.Bool.{true, cond}
 use mathlib.Core.List.{List, _++_}
-use lib.Dec.{ltb}
+use lib.Dec.{ltb, eqb}
 use lib.ListN.{length, take}
 use lib.Ieee.{Float}
+use Rattle.arithmetic.specs.declared.parameters.TdParam.{TdParam}
 use Rattle.mixture.specs.declared.head.Head.{Head}
+use Rattle.mixture.specs.declared.setting.Setting.{Setting}
+use Rattle.mixture.specs.declared.setting.Setting.the-variants.{Temperature, Entry, TdEntry, Size, Count}
 use Rattle.mixture.specs.Memory.{Memory}
 use Rattle.mixture.specs.History.{answers}
 use Rattle.strip.specs.declared.records.Rec.{Rec}
@@ -31,6 +34,15 @@ pub record Listed (l : Lists) (n m k : ℕ) (lens groups : List ℕ) (a a′ : L
   pub lengths : take n lens ≡ l .lens
   pub members : take m groups ≡ l .groups
   pub numbers : take (k + m) a′ ≡ take k a ++ l .counts
+
+-- the setting of a kind, by its first floats
+unfoldable pub settingBy : ℕ → ℕ → ℕ → TdParam → Setting
+settingBy kind i j five =
+    cond (eqb kind 5) (Temperature (five .a))
+    (cond (eqb kind 7) (Entry i j (five .a))
+    (cond (eqb kind 8) (TdEntry i j five)
+    (cond (eqb kind 9) (Size i j (five .a))
+    (Count i j (five .a)))))
 
 -- the text from p on, by the memory and the head
 unfoldable pub rest : List ℕ → ℕ → Memory → Head → List ℕ
