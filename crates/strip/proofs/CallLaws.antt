@@ -93,9 +93,6 @@ unfolding shapeOf
 eight kind i j f l e h = floats-is (shapeOf 8 i j) (shape true f l) (rw e at h)
 
 module _ (s : List ℕ) (r : Rec) (w : Whole s r) where
-  pub whole-few : r .floats ≤ 8192
-  whole-few = omega (arith, w .floats, w .short)
-
   pub whole-lists : r .lists ≤ 255
   whole-lists = omega (arith, few-lists (r .kind) (r .i) (r .j), lists-is _ _ (w .shaped), w .i)
 

@@ -10,7 +10,7 @@ use mathlib.Core.Logic.{inl, inr}
 use lib.Dec.{T}
 use lib.ListN.{length, getD, take, drop, set, length-append}
 use lib.Seq.{sets, sets-eq, set-out, drop-cons, drop-length, take-append-le}
-use lib.Ieee.{Float, nan, inf, fin, binary64, isNan, ne, toBits, fits}
+use lib.Ieee.{Float, binary64, isNan, ne, toBits, fits}
 use lib.Ieee.Bits.{toBits-lt}
 use lib.Ieee.Compare.{differs-from-itself}
 use borrow.Author.Tests.{lt-ltb, le-ltb}

@@ -12,7 +12,7 @@ use crate::text::put_answer;
 use crate::words::MOST_BYTES;
 use mixture::Head;
 
-// A line for each record, up to the end or the first that is malformed or cut; none of an over-long strip.
+// A line for each record, and `broken` at the first that is malformed or cut; of an over-long strip only that.
 fn walk(
     s: &[u8],
     values: &mut [f64],

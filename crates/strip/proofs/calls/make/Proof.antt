@@ -1,5 +1,4 @@
 -- Makes the call of a record: each kind makes the call that the definition names, with the floats that were filled in. Assumes nothing.
-use Prim.Native.Nat.{_≤_}
 use native.Mathlib.Omega.{arith}
 use mathlib.Core.Path.{ap, _∙_}
 use borrow.Author.Needs.{needs}

@@ -1,13 +1,12 @@
--- What is filled and what is left make the lists. Assumes nothing.
+-- Puts a kind 4's lists into three buffers, word by word: what is filled and what is left make the lists. Assumes nothing.
 use lib.Seq.{length-take-le}
-use lib.ListN.{length-set}
+use lib.ListN.{length-set, length}
 use mathlib.Core.Bool.{true}
 use Rattle.strip.specs.Lists.{isWord, pairsAt, listsAt}
 use Rattle.strip.proofs.ListLaws.{scan-12, scan-13, word-in, i-is, Filling, fill-starts, fill-ends, fill-12, fill-13, has-12, has-13}
-use mathlib.Core.Path.{_≡_, refl, sym, ap, _∙_}
-use Prim.Native.Nat.{ℕ, zero, suc, _+_, _*_, _-_, _<_, _≤_}
+use mathlib.Core.Path.{_≡_, refl, sym}
+use Prim.Native.Nat.{_+_, _*_, _-_, _<_, _≤_}
 use native.Mathlib.Omega.{arith}
-use lib.ListN.{length, getD}
 use Rattle.strip.proofs.lists.fill_lists.Statement.{statement}
 use Rattle.strip.proofs.lists.fill_lists.Tie as tie
 

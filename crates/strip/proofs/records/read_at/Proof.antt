@@ -1,11 +1,7 @@
--- The tests in turn. Assumes nothing.
+-- What stands at a place: the definition's tests in turn; a byte's square is small, so that no place wraps. Assumes nothing.
 use borrow.Author.Tests.{not-true, not-false}
 use Rattle.strip.proofs.RecordLaws.{read-end, read-cut, read-rest, read-malformed, read-missing, read-long, read-record}
-use mathlib.Core.Path.{_≡_, refl, sym, ap, _∙_}
-use Prim.Native.Nat.{ℕ, zero, suc, _+_, _*_, _-_, _<_, _≤_}
-use native.Mathlib.Omega.{arith}
 use borrow.Author.Needs.{needs}
-use lib.ListN.{length, getD}
 use Rattle.strip.proofs.records.read_at.Statement.{statement}
 use Rattle.strip.proofs.records.read_at.Tie as tie
 

@@ -1,13 +1,12 @@
--- Each kind in turn. Assumes nothing.
+-- The shape of each kind in turn; i and j are bytes, so that no product wraps. Assumes nothing.
 use Rattle.strip.specs.Records.{shapeOf}
 use Rattle.models.specs.Values.{wilsonSize, uniquacSize, nrtlSize, countsAt}
 use Rattle.strip.proofs.RecordLaws.{square, shape-by, floats-is}
 use borrow.Author.Tests.{ne-eqb}
-use mathlib.Core.Path.{_≡_, refl, sym, ap, _∙_}
-use Prim.Native.Nat.{ℕ, zero, suc, _+_, _*_, _-_, _<_, _≤_}
+use mathlib.Core.Path.{refl, sym}
+use Prim.Native.Nat.{_<_}
 use native.Mathlib.Omega.{arith}
 use borrow.Author.Needs.{needs}
-use lib.ListN.{length, getD}
 use Rattle.strip.proofs.records.shape_of.Statement.{statement}
 use Rattle.strip.proofs.records.shape_of.Tie as tie
 
