@@ -1,21 +1,23 @@
 -- What a record shows of its floats and lists, and the call that it makes. Assumes nothing.
-use Prim.Native.Nat.{ℕ, _+_, _<_, _≤_}
+use Prim.Native.Nat.{ℕ, _+_, _*_, _<_, _≤_}
 use native.Mathlib.Omega.{arith}
-use mathlib.Core.Path.{_≡_, sym, ap, _∙_}
+use mathlib.Core.Path.{_≡_, refl, sym, ap, _∙_}
 use mathlib.Core.Bool.{Bool, true, false, cond}
 use mathlib.Core.List.{List}
 use lib.Dec.{eqb}
-use lib.ListN.{length, take}
-use lib.Seq.{take-all}
-use lib.Ieee.{Float}
-use borrow.Author.Tests.{lt-ltb, le-ltb, eq-eqb, ne-eqb}
-use Rattle.arithmetic.specs.Bytes.{floatsAt}
+use lib.ListN.{take}
+use lib.Seq.{getD-take}
+use lib.Ieee.{Float, nan}
+use borrow.Author.Tests.{lt-ltb, le-ltb, eq-eqb, ne-eqb, eqb-true}
+use Rattle.arithmetic.specs.Bytes.{floatAt, floatsAt}
+use Rattle.arithmetic.specs.Tables.{at}
 use Rattle.arithmetic.specs.declared.parameters.TdParam.{TdParam}
 use Rattle.models.specs.Values.{fiveAt}
 use Rattle.models.specs.declared.answers.Quantity.{Quantity}
 use Rattle.mixture.specs.declared.head.Head.{Head}
 use Rattle.mixture.specs.declared.head.Model.{Model}
 use Rattle.mixture.specs.declared.setting.Setting.{Setting}
+use Rattle.mixture.specs.declared.setting.Setting.the-variants.{Temperature, Entry, TdEntry}
 use Rattle.mixture.specs.Memory.{Memory, After}
 use Rattle.mixture.specs.Calls.{afterLoad, afterSetting, afterFractions, afterQuery}
 use Rattle.mixture.specs.History.{afterCall}
@@ -23,7 +25,8 @@ use Rattle.strip.specs.declared.records.Shape.{Shape}
 use Rattle.strip.specs.declared.records.Rec.{Rec}
 use Rattle.strip.specs.Records.{shape, shapeOf}
 use Rattle.strip.specs.Calls.{floatsOf, listsOf, modelOf, dataOf, settingOf, quantityOf, callOf}
-use Rattle.strip.specs.Inner.{Whole, Listed}
+use Rattle.strip.specs.Inner.{Whole, Listed, settingBy}
+use Rattle.arithmetic.proofs.ByteLaws.{floats-at}
 use Rattle.strip.proofs.RecordLaws.{floats-is}
 
 -- ---- floats and lists
@@ -71,35 +74,71 @@ some kind i j f l a b c =
     never : false ≡ true → 1 ≤ f
     never e = let z : _≡_ {A = ℕ} 0 1 = cc in absurd (omega arith)
 
-six : (kind i j f l : ℕ) → kind ≡ 6 → shapeOf kind i j ≡ shape true f l → i ≡ f
+-- a kind above 4 has few floats
+few-floats : (kind i j : ℕ) → 5 ≤ kind → i < 256 → shapeOf kind i j .floats ≤ 255
 unfolding shapeOf
-six kind i j f l e h = floats-is (shapeOf 6 i j) (shape true f l) (rw e at h)
+few-floats kind i j h g =
+    let P : Shape → Type 0 = λ k. k .floats ≤ 255 in
+    rw (ne-eqb kind 1 (λ (e : kind ≡ 1). omega arith), ne-eqb kind 2 (λ (e : kind ≡ 2). omega arith), ne-eqb kind 3 (λ (e : kind ≡ 3). omega arith), ne-eqb kind 4 (λ (e : kind ≡ 4). omega arith))
+    (each P (eqb kind 5) _ _ (omega arith)
+    (each P (eqb kind 6) _ _ (omega arith)
+    (each P (eqb kind 7) _ _ (omega arith)
+    (each P (eqb kind 8) _ _ (omega arith)
+    (each P (eqb kind 9) _ _ (omega arith)
+    (each P (eqb kind 10) _ _ (omega arith)
+    (each P (eqb kind 11) _ _ (omega arith) (omega arith))))))))
 
 eight : (kind i j f l : ℕ) → kind ≡ 8 → shapeOf kind i j ≡ shape true f l → _≡_ {A = ℕ} 5 f
 unfolding shapeOf
 eight kind i j f l e h = floats-is (shapeOf 8 i j) (shape true f l) (rw e at h)
 
 module _ (s : List ℕ) (r : Rec) (w : Whole s r) where
-  pub whole-few : r .floats ≤ 8192
-  whole-few = omega (arith, w .floats, w .short)
-
   pub whole-lists : r .lists ≤ 255
   whole-lists = omega (arith, few-lists (r .kind) (r .i) (r .j), lists-is _ _ (w .shaped), w .i)
 
-  pub whole-one : 5 ≤ r .kind → (r .kind ≡ 6 → ⊥) → (r .kind ≡ 11 → ⊥) → 1 ≤ r .floats
+  whole-one : 5 ≤ r .kind → (r .kind ≡ 6 → ⊥) → (r .kind ≡ 11 → ⊥) → 1 ≤ r .floats
   whole-one a b c = some (r .kind) (r .i) (r .j) (r .floats) (r .lists) a b c (w .shaped)
 
-  pub whole-mix : r .kind ≡ 6 → r .floats ≤ 255
-  whole-mix e = omega (arith, six (r .kind) (r .i) (r .j) (r .floats) (r .lists) e (w .shaped), w .i)
+  pub whole-255 : 5 ≤ r .kind → r .floats ≤ 255
+  whole-255 h = omega (arith, floats-is _ _ (w .shaped), few-floats (r .kind) (r .i) (r .j) h (w .i))
 
-  pub whole-td : r .kind ≡ 8 → _≡_ {A = ℕ} 5 (r .floats)
+  whole-td : r .kind ≡ 8 → _≡_ {A = ℕ} 5 (r .floats)
   whole-td e = eight (r .kind) (r .i) (r .j) (r .floats) (r .lists) e (w .shaped)
 
-pub five-is : (s : List ℕ) (p : ℕ) (l : List Float) (r : TdParam) → length l ≤ 5 → r ≡ fiveAt l 0 → take 5 l ≡ floatsAt s p 5 → r ≡ fiveAt (floatsAt s p 5) 0
-five-is s p l r h e f = e ∙ ap (λ (z : List Float). fiveAt z 0) (sym (take-all 5 l h) ∙ f)
+-- ---- a setting
 
-pub td-is : (s : List ℕ) (r : Rec) (p : TdParam) → Whole s r → r .kind ≡ 8 → p ≡ fiveAt (floatsAt s (r .body) 5) 0 → p ≡ fiveAt (floatsOf s r) 0
-td-is s r p w e f = f ∙ ap (λ (k : ℕ). fiveAt (floatsAt s (r .body) k) 0) (whole-td s r w e)
+-- the first float, and a td entry's five
+first-is : (s : List ℕ) (p n : ℕ) (l : List Float) → take n l ≡ floatsAt s p n → 1 ≤ n → at l 0 ≡ floatAt s p
+first-is s p n l e h =
+    let z : p + 8 * 0 ≡ p = omega arith in
+    sym (getD-take n l 0 nan h) ∙ ap (λ (z : List Float). at z 0) e ∙ floats-at s p n 0 h ∙ ap (floatAt s) z
+
+five-first : (l : List Float) → fiveAt l 0 .a ≡ at l 0
+unfolding fiveAt
+five-first l = refl
+
+five-is : (n : ℕ) (l : List Float) → n ≡ 5 → fiveAt l 0 ≡ fiveAt (take n l) 0
+unfolding fiveAt
+five-is n l e = rw (e, getD-take 5 l 0 nan (omega arith), getD-take 5 l 1 nan (omega arith), getD-take 5 l 2 nan (omega arith), getD-take 5 l 3 nan (omega arith), getD-take 5 l 4 nan (omega arith))
+
+arm : (t : Bool) (a b c : Setting) → (t ≡ true → a ≡ b) → cond t a c ≡ cond t b c
+arm true a b c e = e refl
+arm false a b c e = refl
+
+by-floats : (s : List ℕ) (r : Rec) (f : TdParam) → f .a ≡ floatAt s (r .body) → (r .kind ≡ 8 → f ≡ fiveAt (floatsOf s r) 0) → settingBy (r .kind) (r .i) (r .j) f ≡ settingOf s r
+unfolding settingBy settingOf
+by-floats s r f x y =
+    rw (← x)
+    (ap (λ (z : Setting). cond (eqb (r .kind) 5) (Temperature (f .a)) (cond (eqb (r .kind) 7) (Entry (r .i) (r .j) (f .a)) z))
+    (arm (eqb (r .kind) 8) _ _ _ (λ t. ap (TdEntry (r .i) (r .j)) (y (eqb-true (r .kind) 8 t)))))
+
+pub setting-is : (s : List ℕ) (r : Rec) (l : List Float) → Whole s r → 5 ≤ r .kind → (r .kind ≡ 6 → ⊥) → (r .kind ≡ 11 → ⊥) → take (r .floats) l ≡ floatsOf s r
+    → settingBy (r .kind) (r .i) (r .j) (fiveAt l 0) ≡ settingOf s r
+setting-is s r l w a b c e =
+    by-floats s r (fiveAt l 0) (first l e) (λ k. five-is (r .floats) l (sym (whole-td s r w k)) ∙ ap (λ (z : List Float). fiveAt z 0) e)
+  where
+    first : (l : List Float) → take (r .floats) l ≡ floatsOf s r → fiveAt l 0 .a ≡ floatAt s (r .body)
+    first l e = five-first l ∙ first-is s (r .body) (r .floats) l e (whole-one s r w a b c)
 
 -- ---- the call, by its kind
 

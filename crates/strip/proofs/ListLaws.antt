@@ -13,10 +13,22 @@ use lib.Seq.{take-suc-set, append-snoc}
 use lib.Ieee.{Float}
 use borrow.Author.Tests.{le-leb, lt-leb, leb-true, eq-eqb, ne-eqb}
 use Rattle.arithmetic.specs.Bytes.{wordAt, floatAt}
-use Rattle.arithmetic.proofs.Differences.{either}
+use Rattle.arithmetic.proofs.Differences.{either, le-or}
 use Rattle.strip.specs.Words.{kindOf, iOf, jOf, restOf}
 use Rattle.strip.specs.Lists.{Lists, isWord, pairsAt, listsAt}
 use Rattle.strip.specs.Inner.{Listed}
+
+-- ---- n bytes from p on
+
+pub has-not : (p n l : ℕ) → l < n → false ≡ leb (p + n) l
+has-not p n l h = sym (lt-leb (p + n) l (omega arith))
+
+pub has-rest : (p n l : ℕ) → n ≤ l → leb p (l - n) ≡ leb (p + n) l
+has-rest p n l h =
+    elim (le-or p (l - n)) [
+      | inl a ↦ le-leb p (l - n) a ∙ sym (le-leb (p + n) l (omega arith))
+      | inr a ↦ lt-leb p (l - n) a ∙ sym (lt-leb (p + n) l (omega arith))
+    ]
 
 -- ---- a word of a kind
 
@@ -29,23 +41,28 @@ word-in s kind n p h = leb-true (p + n) (length s) (left (leb (p + n) (length s)
     left true b e = refl
     left false b e = e
 
-pub word-cut : (s : List ℕ) (kind n p : ℕ) → length s < p + n → false ≡ isWord s kind n p
+pub word-cut : (s : List ℕ) (kind n p : ℕ) → leb (p + n) (length s) ≡ false → false ≡ isWord s kind n p
 unfolding isWord
-word-cut s kind n p h = rw (lt-leb (p + n) (length s) h)
+word-cut s kind n p h = rw h
 
-module _ (s : List ℕ) (kind n p w : ℕ) (h : p + n ≤ length s) (e : w ≡ wordAt s p) where
+-- with eight bytes after it
+pub word-pair : (s : List ℕ) (kind p : ℕ) → leb (p + 12) (length s) ≡ true → isWord s kind 4 p ≡ isWord s kind 12 p
+unfolding isWord
+word-pair s kind p h = rw (h, le-leb (p + 4) (length s) (omega (arith, leb-true (p + 12) (length s) h)))
+
+module _ (s : List ℕ) (kind n p w : ℕ) (h : leb (p + n) (length s) ≡ true) (e : w ≡ wordAt s p) where
   pub word-kind : (k : ℕ) → k ≡ kindOf w → (k ≡ kind → ⊥) → false ≡ isWord s kind n p
   unfolding isWord
-  word-kind k a b = rw (le-leb (p + n) (length s) h, ← e, ← a, ne-eqb k kind b)
+  word-kind k a b = rw (h, ← e, ← a, ne-eqb k kind b)
 
   module _ (k : ℕ) (a : k ≡ kindOf w) (b : k ≡ kind) (j : ℕ) (c : j ≡ jOf w) where
     pub word-field : (j ≡ 0 → ⊥) → false ≡ isWord s kind n p
     unfolding isWord
-    word-field d = rw (le-leb (p + n) (length s) h, ← e, ← a, eq-eqb k kind b, ← c, ne-eqb j 0 d)
+    word-field d = rw (h, ← e, ← a, eq-eqb k kind b, ← c, ne-eqb j 0 d)
 
     pub word-rest : j ≡ 0 → (r : ℕ) → r ≡ restOf w → eqb r 0 ≡ isWord s kind n p
     unfolding isWord
-    word-rest d r f = rw (le-leb (p + n) (length s) h, ← e, ← a, eq-eqb k kind b, ← c, eq-eqb j 0 d, f)
+    word-rest d r f = rw (h, ← e, ← a, eq-eqb k kind b, ← c, eq-eqb j 0 d, f)
 
 -- its field i
 pub i-is : (s : List ℕ) (p i : ℕ) {w : ℕ} → w ≡ wordAt s p → i ≡ iOf w → i ≡ iOf (wordAt s p)

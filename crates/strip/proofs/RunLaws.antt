@@ -4,8 +4,9 @@ use Prim.Native.Nat.{ℕ, zero, suc, _+_, _-_, _<_, _≤_}
 use native.Mathlib.Nat.{zero-add}
 use native.Mathlib.Omega.{arith}
 use mathlib.Core.Path.{_≡_, refl, sym, ap, _∙_}
-use mathlib.Core.Bool.{false}
+use mathlib.Core.Bool.{false, cond}
 use mathlib.Core.List.{List, [], _∷_, _++_, append-assoc}
+use lib.Dec.{ltb}
 use lib.ListN.{length, length-append}
 use lib.Seq.{sets}
 use borrow.Author.Tests.{lt-ltb, le-ltb}
@@ -24,7 +25,7 @@ use Rattle.strip.specs.Records.{readAt}
 use Rattle.strip.specs.Calls.{callOf}
 use Rattle.strip.specs.Text.{line, broken, Put}
 use Rattle.strip.specs.Run.{Script, script, scriptBy, scriptFrom, scriptOf, lines, transcript}
-use Rattle.strip.specs.Inner.{rest}
+use Rattle.strip.specs.Inner.{rest, walked}
 use Rattle.strip.proofs.TextLaws.{sets-append, put-same}
 use Rattle.strip.proofs.RecordLaws.{read-end, found, later, read-in}
 
@@ -95,25 +96,25 @@ walk-starts s out₀ m h = record { same = refl; long = zero-add _ }
 
 module _ (s out₀ text : List ℕ) (at : ℕ) (m : Memory) (h : Head) (pos : ℕ) (out : List ℕ) (w : Walked s out₀ text at m h pos out) where
   pub walk-turn : (r : Rec) → readAt s at ≡ Record r → (a : After) → a ≡ afterCall m h (callOf s r)
-      → (pos′ : ℕ) (out′ : List ℕ) → Put out pos (line (a .reply .answer)) pos′ out′ → Walked s out₀ text (r .next) (a .memory) (a .reply .head) pos′ out′
-  walk-turn r e a q pos′ out′ p =
+      → (k : ℕ) (out′ : List ℕ) → Put out pos (line (a .reply .answer)) k out′ → Walked s out₀ text (r .next) (a .memory) (a .reply .head) (pos + k) out′
+  walk-turn r e a q k out′ p =
       let t : rest s at m h ≡ told s (r .next) a = rest-record s at m h r e ∙ ap (told s (r .next)) (sym q) in
       record {
-        same = rw (p .text, p .past) (sym (sets-append out pos (line (a .reply .answer)) _) ∙ (ap (λ (z : List ℕ). sets out pos z) (sym t) ∙ w .same));
-        long = omega (arith, p .past, w .long, ap length t, length-append (line (a .reply .answer)) (rest s (r .next) (a .memory) (a .reply .head)));
+        same = rw (p .text, p .long) (sym (sets-append out pos (line (a .reply .answer)) _) ∙ (ap (λ (z : List ℕ). sets out pos z) (sym t) ∙ w .same));
+        long = omega (arith, p .long, w .long, ap length t, length-append (line (a .reply .answer)) (rest s (r .next) (a .memory) (a .reply .head)));
       }
 
   pub walk-ends : length s ≤ at → Put out₀ 0 text pos out
   walk-ends l =
       record {
-        past = omega (arith, w .long, ap length (rest-end s at m h l));
+        long = omega (arith, w .long, ap length (rest-end s at m h l));
         text = (rw (rest-end s at m h l) at (w .same));
       }
 
-  pub walk-breaks : readAt s at ≡ Broken → (pos′ : ℕ) (out′ : List ℕ) → Put out pos broken pos′ out′ → Put out₀ 0 text pos′ out′
-  walk-breaks e pos′ out′ p =
+  pub walk-breaks : readAt s at ≡ Broken → (k : ℕ) (out′ : List ℕ) → Put out pos broken k out′ → Put out₀ 0 text (pos + k) out′
+  walk-breaks e k out′ p =
       record {
-        past = omega (arith, p .past, w .long, ap length (rest-broken s at m h e));
+        long = omega (arith, p .long, w .long, ap length (rest-broken s at m h e));
         text = p .text ∙ (rw (rest-broken s at m h e) at (w .same));
       }
 
@@ -127,19 +128,28 @@ opened : (m : Memory) (h : Head) (a : After) → a ≡ afterOpen m h → isShort
 unfolding answers afterCall tail
 opened m h a e g cs = ap (λ (z : After). answers (z .memory) (z .reply .head) cs) e ∙ ap tail (history m h cs g)
 
-rest-opened : (s : List ℕ) (m : Memory) (h : Head) (a : After) → a ≡ afterOpen m h → isShort m ≡ false → length s ≤ mostBytes → rest s 0 (a .memory) (a .reply .head) ≡ transcript s
-unfolding rest transcript scriptOf
-rest-opened s m h a e g l =
+rest-opened : (s : List ℕ) (m : Memory) (h : Head) (a : After) → a ≡ afterOpen m h → isShort m ≡ false
+    → rest s 0 (a .memory) (a .reply .head) ≡ lines (bookAnswers empty [] (scriptOf s .calls)) ++ scriptOf s .ending
+unfolding rest scriptOf
+rest-opened s m h a e g =
     let z : length s - 0 ≡ length s = omega arith in
-    rw (z, le-ltb mostBytes (length s) l, opened m h a e g (scriptFrom s (length s) 0 .calls))
+    rw (z, opened m h a e g (scriptFrom s (length s) 0 .calls))
 
-pub run-long : (s : List ℕ) {l l′ : List ℕ} {r : ℕ} → mostBytes < length s → Put l 0 broken r l′ → Put l 0 (transcript s) r l′
-unfolding transcript
-run-long s h p = put-same p (long s h)
+pub walked-long : (s : List ℕ) (m : Memory) (h : Head) {l l′ : List ℕ} {r : ℕ} → mostBytes < length s → Put l 0 broken r l′ → Put l 0 (walked s m h) r l′
+unfolding walked
+walked-long s m h n p = put-same p (long s m h n)
   where
-    long : (z : List ℕ) → mostBytes < length z → broken ≡ transcript z
-    long z g = rw (lt-ltb mostBytes (length z) g)
+    long : (s : List ℕ) (m : Memory) (h : Head) → mostBytes < length s → broken ≡ walked s m h
+    long s m h n = rw (lt-ltb mostBytes (length s) n)
 
-pub run-opened : (s : List ℕ) (m : Memory) (h : Head) (a : After) {l l′ : List ℕ} {r : ℕ} → a ≡ afterOpen m h → isShort m ≡ false → length s ≤ mostBytes
-    → Put l 0 (rest s 0 (a .memory) (a .reply .head)) r l′ → Put l 0 (transcript s) r l′
-run-opened s m h a e g n p = put-same p (rest-opened s m h a e g n)
+pub walked-short : (s : List ℕ) (m : Memory) (h : Head) {l l′ : List ℕ} {r : ℕ} → length s ≤ mostBytes → Put l 0 (rest s 0 m h) r l′ → Put l 0 (walked s m h) r l′
+unfolding walked
+walked-short s m h n p = put-same p (short s m h n)
+  where
+    short : (s : List ℕ) (m : Memory) (h : Head) → length s ≤ mostBytes → rest s 0 m h ≡ walked s m h
+    short s m h n = rw (le-ltb mostBytes (length s) n)
+
+pub run-opened : (s : List ℕ) (m : Memory) (h : Head) (a : After) {l l′ : List ℕ} {r : ℕ} → a ≡ afterOpen m h → isShort m ≡ false
+    → Put l 0 (walked s (a .memory) (a .reply .head)) r l′ → Put l 0 (transcript s) r l′
+unfolding walked transcript
+run-opened s m h a e g p = put-same p (ap (cond (ltb mostBytes (length s)) broken) (rest-opened s m h a e g))

@@ -5,12 +5,12 @@ use native.Mathlib.Omega.{arith}
 use native.Mathlib.Numerals.{add-one}
 use mathlib.Core.Path.{_≡_, refl, sym, ap, _∙_, subst}
 use mathlib.Core.Bool.{Bool, true, false, cond}
-use mathlib.Core.List.{List, [], _∷_, _++_}
+use mathlib.Core.List.{List, [], _∷_, _++_, append-assoc}
 use mathlib.Core.Logic.{inl, inr}
 use lib.Dec.{T}
 use lib.ListN.{length, getD, take, drop, set, length-append}
-use lib.Seq.{sets, sets-eq, drop-cons, drop-length, take-append-le}
-use lib.Ieee.{Float, nan, inf, fin, binary64, isNan, ne, toBits, fits}
+use lib.Seq.{sets, sets-eq, set-out, drop-cons, drop-length, take-append-le}
+use lib.Ieee.{Float, binary64, isNan, ne, toBits, fits}
 use lib.Ieee.Bits.{toBits-lt}
 use lib.Ieee.Compare.{differs-from-itself}
 use borrow.Author.Tests.{lt-ltb, le-ltb}
@@ -40,12 +40,21 @@ put-again l′ l l₀ p t k h e i = rw e (sym (put-turn l p t k h) ∙ i)
 pub put-done : (l l₀ : List ℕ) (p : ℕ) (t : List ℕ) (k : ℕ) → k ≡ length t → sets l (p + k) (drop k t) ≡ sets l₀ p t → l ≡ sets l₀ p t
 put-done l l₀ p t k e i = rw (e, drop-length) at i
 
-pub put-then : {l l₁ l₂ a b : List ℕ} {p q r : ℕ} → Put l p a q l₁ → Put l₁ q b r l₂ → Put l p (a ++ b) r l₂
-put-then {l} {l₁} {l₂} {a} {b} {p} {q} {r} x y =
+-- a text at the start, and one right after it
+put-then : {l l₁ l₂ a b : List ℕ} {p q : ℕ} → Put l 0 a p l₁ → Put l₁ p b q l₂ → Put l 0 (a ++ b) (p + q) l₂
+put-then {l} {l₁} {l₂} {a} {b} {p} {q} x y =
     record {
-      past = rw (length-append a b) (omega (arith, x .past, y .past));
-      text = y .text ∙ (rw (x .text, x .past) (sym (sets-append l p a b)));
+      long = rw (length-append a b) (omega (arith, x .long, y .long));
+      text = y .text ∙ (rw (x .text, x .long) (sym (sets-append l 0 a b ∙ rw (zero-add (length a)))));
     }
+
+-- a text past the end
+sets-past : (l : List ℕ) (p : ℕ) (t : List ℕ) → length l ≤ p → sets l p t ≡ l
+sets-past l p [] h = refl
+sets-past l p (x ∷ t) h = rw (set-out l p x h) (sets-past l (suc p) t (omega arith))
+
+pub put-past : (l : List ℕ) (p : ℕ) (t : List ℕ) → length l ≤ p → Put l p t (length t) l
+put-past l p t h = record { long = refl; text = sym (sets-past l p t h) }
 
 pub put-same : {l l₁ a b : List ℕ} {p q : ℕ} → Put l p a q l₁ → a ≡ b → Put l p b q l₁
 put-same {l} {l₁} {a} {b} {p} {q} x e = subst (λ (z : List ℕ). Put l p z q l₁) e x
@@ -53,7 +62,7 @@ put-same {l} {l₁} {a} {b} {p} {q} x e = subst (λ (z : List ℕ). Put l p z q 
 -- in a buffer that is long enough the text stands whole
 pub put-whole : {l t l′ : List ℕ} {r : ℕ} → Put l 0 t r l′ → r ≤ length l → take r l′ ≡ t
 put-whole {l} {t} {l′} {r} p h =
-    let e : r ≡ length t = p .past ∙ zero-add (length t) in
+    let e : r ≡ length t = p .long in
     let s : l′ ≡ t ++ drop (length t) l = p .text ∙ (sets-eq t l 0 (rw (zero-add (length t)) (omega arith)) ∙ rw (zero-add (length t))) in
     rw (s, e, take-append-le (length t) t (drop (length t) l) (omega arith)) (all t)
   where
@@ -147,40 +156,46 @@ bits-lt v h = toBits-lt binary64 v h
 
 -- ---- what the digit writers leave, stored
 
-pub digits-fit : (a : List ℕ) (n k : ℕ) → n < 18446744073709551616 → Fewest 10 1 n k → a ≡ digits 10 k n → length a ≤ 1000
-digits-fit a n k h w e = omega (arith, ap length (e ∙ decimal-is n k h w), decimal-short n)
-
 pub put-digits : {l l₁ a : List ℕ} {p q : ℕ} (n k : ℕ) → n < 18446744073709551616 → Fewest 10 1 n k → a ≡ digits 10 k n → Put l p a q l₁
-    → Put l p (decimal n) q l₁ × (q ≤ p + 20)
+    → Put l p (decimal n) q l₁ × (q ≤ 20)
 put-digits n k h w e x =
-    (put-same x (e ∙ decimal-is n k h w), omega (arith, x .past, ap length (e ∙ decimal-is n k h w), decimal-short n))
-
-pub hex-fit : (a : List ℕ) (n k : ℕ) → n < 18446744073709551616 → Fewest 16 16 n k → a ≡ digits 16 k n → length a ≤ 1000
-hex-fit a n k h w e = omega (arith, ap length e, length-digits 16 k n, hex-places n k h w)
+    (put-same x (e ∙ decimal-is n k h w), omega (arith, x .long, ap length (e ∙ decimal-is n k h w), decimal-short n))
 
 pub put-bits : {l l₁ a : List ℕ} {p q : ℕ} (v : Float) (k : ℕ) → ne v v ≡ false → toBits binary64 v < 18446744073709551616
-    → Fewest 16 16 (toBits binary64 v) k → a ≡ digits 16 k (toBits binary64 v) → Put l p a q l₁ → Put l p (valueText v) q l₁ × (q ≤ p + 16)
+    → Fewest 16 16 (toBits binary64 v) k → a ≡ digits 16 k (toBits binary64 v) → Put l p a q l₁ → Put l p (valueText v) q l₁ × (q ≤ 16)
 put-bits v k d h w e x =
     let t = e ∙ value-bits v d k (hex-places (toBits binary64 v) k h w) in
-    (put-same x t, omega (arith, x .past, ap length t, value-short v))
+    (put-same x t, omega (arith, x .long, ap length t, value-short v))
 
-pub put-nan : {l l₁ : List ℕ} {p q : ℕ} (v : Float) → ne v v ≡ true → Put l p (ascii "nan") q l₁ → Put l p (valueText v) q l₁ × (q ≤ p + 16)
-put-nan v d x = (put-same x (value-nan v d), omega (arith, x .past))
+pub put-nan : {l l₁ : List ℕ} {p q : ℕ} (v : Float) → ne v v ≡ true → Put l p (ascii "nan") q l₁ → Put l p (valueText v) q l₁ × (q ≤ 16)
+put-nan v d x = (put-same x (value-nan v d), omega (arith, x .long))
 
 -- ---- the three kinds of line
 
-pub line-done : {l l₁ : List ℕ} {p q : ℕ} {a : Answer} → a ≡ Done → Put l p (ascii "ok\n") q l₁ → Put l p (line a) q l₁ × (q ≤ p + 40)
+pub line-done : {l l₁ : List ℕ} {q : ℕ} {a : Answer} → a ≡ Done → Put l 0 (ascii "ok\n") q l₁ → Put l 0 (line a) q l₁ × (q ≤ 40)
 unfolding line
-line-done e x = rw e (x, omega (arith, x .past))
+line-done e x = rw e (x, omega (arith, x .long))
 
-pub line-refused : {l l₁ l₂ l₃ : List ℕ} {p q r z : ℕ} {a : Answer} (k : ℕ) → a ≡ Refused k
-    → Put l p (ascii "refused ") q l₁ → Put l₁ q (decimal k) r l₂ × (r ≤ q + 20) → Put l₂ r (ascii "\n") z l₃
-    → Put l p (line a) z l₃ × (z ≤ p + 40)
+pub line-refused : {l l₁ l₂ l₃ : List ℕ} {p q r : ℕ} {a : Answer} (k : ℕ) → a ≡ Refused k
+    → Put l 0 (ascii "refused ") p l₁ → Put l₁ p (decimal k) q l₂ × (q ≤ 20) → Put l₂ (p + q) (ascii "\n") r l₃
+    → Put l 0 (line a) (p + q + r) l₃ × (p + q + r ≤ 40)
 unfolding line
-line-refused k e x y w = rw e (put-then x (put-then (y .0) w), omega (arith, x .past, w .past))
+line-refused k e x y w =
+    rw e (put-same (put-then (put-then x (y .0)) w) (append-assoc (ascii "refused ") (decimal k) (ascii "\n")), omega (arith, x .long, y .1, w .long))
 
-pub line-value : {l l₁ l₂ l₃ l₄ : List ℕ} {p q r t z : ℕ} {a : Answer} (v : Float) (n : ℕ) → a ≡ Value v n
-    → Put l p (valueText v) q l₁ × (q ≤ p + 16) → Put l₁ q (ascii " ") r l₂ → Put l₂ r (decimal n) t l₃ × (t ≤ r + 20) → Put l₃ t (ascii "\n") z l₄
-    → Put l p (line a) z l₄ × (z ≤ p + 40)
+pub line-value : {l l₁ l₂ l₃ l₄ : List ℕ} {p q r t : ℕ} {a : Answer} (v : Float) (n : ℕ) → a ≡ Value v n
+    → Put l 0 (valueText v) p l₁ × (p ≤ 16) → Put l₁ p (ascii " ") q l₂ → Put l₂ (p + q) (decimal n) r l₃ × (r ≤ 20) → Put l₃ (p + q + r) (ascii "\n") t l₄
+    → Put l 0 (line a) (p + q + r + t) l₄ × (p + q + r + t ≤ 40)
 unfolding line
-line-value v n e x b y w = rw e (put-then (x .0) (put-then b (put-then (y .0) w)), omega (arith, x .1, b .past, w .past))
+line-value v n e x b y w =
+    rw e (put-same (put-then (put-then (put-then (x .0) b) (y .0)) w) parts, omega (arith, x .1, b .long, y .1, w .long))
+  where
+    parts : ((valueText v ++ ascii " ") ++ decimal n) ++ ascii "\n" ≡ valueText v ++ (ascii " " ++ (decimal n ++ ascii "\n"))
+    parts = append-assoc (valueText v ++ ascii " ") (decimal n) (ascii "\n") ∙ append-assoc (valueText v) (ascii " ") (decimal n ++ ascii "\n")
+
+-- a line that stands at the start of a local, stored
+pub put-line : {z z′ l l₁ : List ℕ} {p q : ℕ} (a : Answer) (k : ℕ) → Put z 0 (line a) k z′ × (k ≤ 40) → k ≤ length z → Put l p (take k z′) q l₁
+    → Put l p (line a) q l₁ × (q ≤ 40)
+put-line a k x h y =
+    let e = put-whole (x .0) h in
+    (put-same y e, omega (arith, y .long, ap length e, x .0 .long, x .1))

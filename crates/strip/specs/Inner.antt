@@ -1,11 +1,15 @@
 -- What the inner functions of a run say. No public contract speaks of it.
 use Prim.Native.Nat.{ℕ, _+_, _*_, _-_, _<_, _≤_}
 use mathlib.Core.Path.{_≡_}
-use mathlib.Core.Bool.{true}
+use mathlib.Core.Bool.{true, cond}
 use mathlib.Core.List.{List, _++_}
+use lib.Dec.{ltb, eqb}
 use lib.ListN.{length, take}
 use lib.Ieee.{Float}
+use Rattle.arithmetic.specs.declared.parameters.TdParam.{TdParam}
 use Rattle.mixture.specs.declared.head.Head.{Head}
+use Rattle.mixture.specs.declared.setting.Setting.{Setting}
+use Rattle.mixture.specs.declared.setting.Setting.the-variants.{Temperature, Entry, TdEntry, Size, Count}
 use Rattle.mixture.specs.Memory.{Memory}
 use Rattle.mixture.specs.History.{answers}
 use Rattle.strip.specs.declared.records.Rec.{Rec}
@@ -13,6 +17,7 @@ use Rattle.strip.specs.Words.{mostBytes}
 use Rattle.strip.specs.Lists.{Lists}
 use Rattle.strip.specs.Records.{shape, shapeOf}
 use Rattle.strip.specs.Calls.{listsOf}
+use Rattle.strip.specs.Text.{broken}
 use Rattle.strip.specs.Run.{scriptFrom, lines}
 
 -- the record lies whole within a strip that isn't over-long
@@ -30,6 +35,19 @@ pub record Listed (l : Lists) (n m k : ℕ) (lens groups : List ℕ) (a a′ : L
   pub members : take m groups ≡ l .groups
   pub numbers : take (k + m) a′ ≡ take k a ++ l .counts
 
+-- the setting of a kind, by its first floats
+unfoldable pub settingBy : ℕ → ℕ → ℕ → TdParam → Setting
+settingBy kind i j five =
+    cond (eqb kind 5) (Temperature (five .a))
+    (cond (eqb kind 7) (Entry i j (five .a))
+    (cond (eqb kind 8) (TdEntry i j five)
+    (cond (eqb kind 9) (Size i j (five .a))
+    (Count i j (five .a)))))
+
 -- the text from p on, by the memory and the head
 unfoldable pub rest : List ℕ → ℕ → Memory → Head → List ℕ
 rest s p m h = lines (answers m h (scriptFrom s (length s - p) p .calls)) ++ scriptFrom s (length s - p) p .ending
+
+-- the whole text, by the memory and the head
+unfoldable pub walked : List ℕ → Memory → Head → List ℕ
+walked s m h = cond (ltb mostBytes (length s)) broken (rest s 0 m h)

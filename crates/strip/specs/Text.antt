@@ -1,5 +1,5 @@
 -- The line of an answer, in ASCII: document 01, "Strip and program".
-use Prim.Native.Nat.{ℕ, zero, suc, _+_, _/_}
+use Prim.Native.Nat.{ℕ, zero, suc, _/_}
 use Prim.Native.Char.{code}
 use Prim.Native.String.{String, [] as nothing, _∷_ as _then_}
 use mathlib.Core.Bool.{cond}
@@ -39,7 +39,7 @@ line (Value v count) = valueText v ++ (ascii " " ++ (decimal count ++ ascii "\n"
 abbrev pub broken : List ℕ
 broken = ascii "broken\n"
 
--- The text t stored in l from p on makes l′, and r is the place past it. What would lie past l's end isn't stored.
+-- The text t stored in l from p on makes l′, and r is its length. What would lie past l's end isn't stored.
 pub record Put (l : List ℕ) (p : ℕ) (t : List ℕ) (r : ℕ) (l′ : List ℕ) : Type 0 where
-  pub past : r ≡ p + length t
+  pub long : r ≡ length t
   pub text : l′ ≡ sets l p t

@@ -1,24 +1,20 @@
 // The call that a record makes.
 ghost use mathlib.Core.Path.{_≡_};
-ghost use Prim.Native.Nat.{_+_, _*_, _≤_};
-ghost use lib.ListN.{length};
-ghost use Rattle.arithmetic.specs.Bytes.{floatsAt};
-ghost use Rattle.models.specs.Values.{fiveAt};
 ghost use Rattle.mixture.specs.Memory.{memory, after};
-ghost use Rattle.mixture.specs.Calls.{afterLoad, afterFractions};
+ghost use Rattle.mixture.specs.Calls.{afterLoad};
 ghost use Rattle.mixture.specs.History.{afterCall};
-ghost use Rattle.strip.specs.Calls.{floatsOf, modelOf, dataOf, settingOf, quantityOf, callOf};
-ghost use Rattle.strip.specs.Inner.{Whole};
+ghost use Rattle.strip.specs.Calls.{modelOf, dataOf, quantityOf, callOf};
+ghost use Rattle.strip.specs.Inner.{Whole, settingBy};
 use crate::lists::fill_lists;
 use crate::records::Rec;
 use arithmetic::TdParam;
 use arithmetic::bytes::fill_floats;
-use arithmetic::bytes::float_at;
 use mixture::Head;
 use mixture::Model;
 use mixture::Reply;
 use mixture::Setting;
 use models::Quantity;
+use models::parameters::five_at;
 
 // The model that a kind from 1 to 4 loads.
 fn model_of(kind: usize) -> Model
@@ -32,31 +28,16 @@ fn model_of(kind: usize) -> Model
     }
 }
 
-// The five floats from a place on.
-fn td_at(s: &[u8], at: usize) -> TdParam
-    requires { ⌜ at + 40 ≤ length (now s) ⌝ }
-    ensures { λ r. ⌜ r ≡ fiveAt (floatsAt (now (s .entry)) at 5) 0 ⌝ }
+// The setting of a kind, by its first floats: a td entry takes five, another setting one.
+fn setting_of(kind: usize, i: usize, j: usize, five: TdParam) -> Setting
+    ensures { λ q. ⌜ q ≡ settingBy kind i j five ⌝ }
 {
-    let mut five = [0.0; 5];
-    fill_floats(&mut five[..], s, at, 5);
-    models::parameters::five_at(&five[..], 0)
-}
-
-fn setting_of(s: &[u8], r: Rec) -> Setting
-    requires { ⌜ (Whole (now s) r) × (1 ≤ r .floats) ⌝ }
-    ensures { λ q. ⌜ q ≡ settingOf (now (s .entry)) r ⌝ }
-{
-    let body = r.body;
-    let kind = r.kind;
-    let i = r.i;
-    let j = r.j;
-    let v = float_at(s, body);
     match kind {
-        5 => Setting::Temperature(v),
-        7 => Setting::Entry(i, j, v),
-        8 => Setting::TdEntry(i, j, td_at(s, body)),
-        9 => Setting::Size(i, j, v),
-        _ => Setting::Count(i, j, v),
+        5 => Setting::Temperature(five.a),
+        7 => Setting::Entry(i, j, five.a),
+        8 => Setting::TdEntry(i, j, five),
+        9 => Setting::Size(i, j, five.a),
+        _ => Setting::Count(i, j, five.a),
     }
 }
 
@@ -98,18 +79,7 @@ fn load(s: &[u8], r: Rec, values: &mut [f64], cells: &[f64], marks: &mut [u8], h
     )
 }
 
-fn fractions(s: &[u8], r: Rec, values: &[f64], cells: &[f64], marks: &[u8], head: Head) -> Reply
-    requires { ⌜ (Whole (now s) r) × (r .kind ≡ 6) ⌝ }
-    ensures { λ o. ⌜ after (memory (now (values .entry)) (now (cells .entry)) (now (marks .entry))) (o .head) (o .answer) ≡ afterFractions (memory (now (values .entry)) (now (cells .entry)) (now (marks .entry))) head (floatsOf (now (s .entry)) r) ⌝ }
-{
-    let body = r.body;
-    let k = r.floats;
-    let mut x = [0.0; 256];
-    fill_floats(&mut x, s, body, k);
-    mixture::fractions::fractions(values, cells, marks, head, &x[..k])
-}
-
-// Makes the record's call.
+// Makes the record's call. A kind above 4 has at most 255 floats.
 pub fn make(
     s: &[u8],
     r: Rec,
@@ -125,11 +95,22 @@ pub fn make(
     if kind < 5 {
         return load(s, r, values, &cells[..], marks, head);
     }
+    let body = r.body;
+    let k = r.floats;
+    let mut given = [0.0; 256];
+    fill_floats(&mut given, s, body, k);
     if kind == 6 {
-        return fractions(s, r, &values[..], &cells[..], &marks[..], head);
+        return mixture::fractions::fractions(
+            &values[..],
+            &cells[..],
+            &marks[..],
+            head,
+            &given[..k],
+        );
     }
     if kind == 11 {
         return mixture::query::query(&values[..], cells, marks, head, quantity_of(r.i, r.j));
     }
-    mixture::set::set(values, &cells[..], marks, head, setting_of(s, r))
+    let q = setting_of(kind, r.i, r.j, five_at(&given, 0));
+    mixture::set::set(values, &cells[..], marks, head, q)
 }

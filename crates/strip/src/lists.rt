@@ -1,6 +1,7 @@
 // The group lists of a kind 4: a kind 12 for each component, and its kinds 13, each with its count.
 ghost use mathlib.Core.Path.{_≡_};
-ghost use Prim.Native.Nat.{_+_, _*_, _≤_, _<_};
+ghost use Prim.Native.Nat.{_+_, _*_, _≤_};
+ghost use lib.Dec.{leb};
 ghost use lib.ListN.{length, take};
 ghost use Rattle.strip.specs.Words.{mostBytes};
 ghost use Rattle.strip.specs.Lists.{isWord, listsAt};
@@ -12,12 +13,21 @@ use crate::words::rest_of;
 use arithmetic::bytes::float_at;
 use arithmetic::bytes::word_at;
 
-// Whether a word of the kind stands at p with its other fields 0, and has its n bytes.
-fn is_word(s: &[u8], kind: usize, n: usize, p: usize) -> bool
-    requires { ⌜ (p ≤ 4000000) × (4 ≤ n) × (n ≤ 12) ⌝ }
-    ensures { λ r. ⌜ r ≡ isWord (now (s .entry)) kind n p ⌝ }
+// Whether n bytes stand from p on.
+fn has(s: &[u8], p: usize, n: usize) -> bool
+    ensures { λ r. ⌜ r ≡ leb (p + n) (length (now (s .entry))) ⌝ }
 {
-    if s.len() < p + n {
+    if s.len() < n {
+        return false;
+    }
+    p <= s.len() - n
+}
+
+// Whether a word of the kind stands at p, its other fields 0.
+fn is_word(s: &[u8], kind: usize, p: usize) -> bool
+    ensures { λ r. ⌜ r ≡ isWord (now (s .entry)) kind 4 p ⌝ }
+{
+    if !has(s, p, 4) {
         return false;
     }
     let w = word_at(s, p);
@@ -30,9 +40,18 @@ fn is_word(s: &[u8], kind: usize, n: usize, p: usize) -> bool
     rest_of(w) == 0
 }
 
+// Whether a kind 13 stands at p, with its count.
+fn is_pair(s: &[u8], p: usize) -> bool
+    ensures { λ r. ⌜ r ≡ isWord (now (s .entry)) 13 12 p ⌝ }
+{
+    if !has(s, p, 12) {
+        return false;
+    }
+    is_word(s, 13, p)
+}
+
 // Where the lists of n components end; 0 where a word is missing.
 pub fn lists_end(s: &[u8], at: usize, n: usize) -> usize
-    requires { ⌜ (length (now s) ≤ mostBytes) × (at ≤ 4000000) ⌝ }
     ensures { λ r. ⌜ r ≡ listsAt (now (s .entry)) n at .end ⌝ }
 {
     let mut p = at;
@@ -43,14 +62,14 @@ pub fn lists_end(s: &[u8], at: usize, n: usize) -> usize
             if left == 0 {
                 return p;
             }
-            if !is_word(s, 12, 4, p) {
+            if !is_word(s, 12, p) {
                 return 0;
             }
-            pairs = i_of(word_at(s, p));
+            pairs = i_of(word_at(s, p)) as usize;
             left -= 1;
             p += 4;
         } else {
-            if !is_word(s, 13, 12, p) {
+            if !is_pair(s, p) {
                 return 0;
             }
             pairs -= 1;
@@ -82,12 +101,13 @@ pub fn fill_lists(
             if left == 0 {
                 return filled;
             }
-            pairs = i_of(word_at(s, place));
-            lens[n - left] = pairs as u8;
+            let size = i_of(word_at(s, place));
+            lens[n - left] = size;
+            pairs = size as usize;
             left -= 1;
             place += 4;
         } else {
-            groups[filled] = i_of(word_at(s, place)) as u8;
+            groups[filled] = i_of(word_at(s, place));
             a[k + filled] = float_at(s, place + 4);
             filled += 1;
             pairs -= 1;

@@ -1,10 +1,8 @@
 // The records of a strip.
 ghost use mathlib.Core.Path.{_≡_};
 ghost use mathlib.Core.Bool.{_&&_, _||_};
-ghost use Prim.Native.Nat.{_≤_, _<_};
+ghost use Prim.Native.Nat.{_≤_};
 ghost use lib.Dec.{eqb, ltb};
-ghost use lib.ListN.{length};
-ghost use Rattle.strip.specs.Words.{mostBytes};
 ghost use Rattle.strip.specs.Records.{shape, shapeOf, readAt};
 use crate::lists::lists_end;
 use crate::words::i_of;
@@ -49,7 +47,7 @@ fn with_shape(formed: bool, floats: usize, lists: usize) -> Shape
     }
 }
 
-fn both_zero(i: usize, j: usize) -> bool
+fn both_zero(i: u8, j: u8) -> bool
     ensures { λ r. ⌜ r ≡ (eqb i 0 && eqb j 0) ⌝ }
 {
     if i != 0 {
@@ -59,7 +57,7 @@ fn both_zero(i: usize, j: usize) -> bool
 }
 
 // A query's j is at most 2, and with j = 2 it has no i.
-fn is_query(i: usize, j: usize) -> bool
+fn is_query(i: u8, j: u8) -> bool
     ensures { λ r. ⌜ r ≡ (ltb j 2 || (eqb j 2 && eqb i 0)) ⌝ }
 {
     if j < 2 {
@@ -72,19 +70,20 @@ fn is_query(i: usize, j: usize) -> bool
 }
 
 // The shape of each kind; a record begins with none but these.
-fn shape_of(kind: usize, i: usize, j: usize) -> Shape
-    requires { ⌜ (i < 256) × (j < 256) ⌝ }
+fn shape_of(kind: usize, i: u8, j: u8) -> Shape
     ensures { λ r. ⌜ (r ≡ shapeOf kind i j) × (r .floats ≤ 400000) ⌝ }
 {
-    let ii = i * i;
-    let jj = j * j;
+    let n = i as usize;
+    let m = j as usize;
+    let nn = n * n;
+    let mm = m * m;
     match kind {
-        1 => with_shape(j == 0, ii + i, 0),
-        2 => with_shape(j == 0, ii + i + i, 0),
-        3 => with_shape(j == 0, ii * 5 + ii, 0),
-        4 => with_shape(true, j + j + jj * 5, i),
+        1 => with_shape(j == 0, nn + n, 0),
+        2 => with_shape(j == 0, nn + n + n, 0),
+        3 => with_shape(j == 0, nn * 5 + nn, 0),
+        4 => with_shape(true, m + m + mm * 5, n),
         5 => with_shape(both_zero(i, j), 1, 0),
-        6 => with_shape(j == 0, i, 0),
+        6 => with_shape(j == 0, n, 0),
         7 => with_shape(true, 1, 0),
         8 => with_shape(true, 5, 0),
         9 => with_shape(true, 1, 0),
@@ -96,7 +95,6 @@ fn shape_of(kind: usize, i: usize, j: usize) -> Shape
 
 // What stands at a place.
 pub fn read_at(s: &[u8], at: usize) -> Read
-    requires { ⌜ length (now s) ≤ mostBytes ⌝ }
     ensures { λ r. ⌜ r ≡ readAt (now (s .entry)) at ⌝ }
 {
     if s.len() <= at {
@@ -126,8 +124,8 @@ pub fn read_at(s: &[u8], at: usize) -> Read
     }
     Read::Record(Rec {
         kind: kind,
-        i: i,
-        j: j,
+        i: i as usize,
+        j: j as usize,
         floats: k.floats,
         lists: k.lists,
         body: body,

@@ -1,11 +1,9 @@
 // The run of a strip: from record to record on a mixture of its own.
 ghost use Prim.Native.Nat.{_≤_};
-ghost use lib.ListN.{length};
 ghost use Rattle.mixture.specs.Memory.{memory};
-ghost use Rattle.strip.specs.Words.{mostBytes};
 ghost use Rattle.strip.specs.Text.{Put};
 ghost use Rattle.strip.specs.Run.{transcript, mostText};
-ghost use Rattle.strip.specs.Inner.{rest};
+ghost use Rattle.strip.specs.Inner.{walked};
 use crate::calls::make;
 use crate::records::Read;
 use crate::records::read_at;
@@ -14,7 +12,7 @@ use crate::text::put_answer;
 use crate::words::MOST_BYTES;
 use mixture::Head;
 
-// A line for each record, up to the end or the first that is malformed or cut.
+// A line for each record, and `broken` at the first that is malformed or cut; of an over-long strip only that.
 fn walk(
     s: &[u8],
     values: &mut [f64],
@@ -23,9 +21,11 @@ fn walk(
     head: Head,
     out: &mut [u8],
 ) -> usize
-    requires { ⌜ length (now s) ≤ mostBytes ⌝ }
-    ensures { λ r. ⌜ Put (now (out .entry)) 0 (rest (now (s .entry)) 0 (memory (now (values .entry)) (now (cells .entry)) (now (marks .entry))) head) r (now (out .exit)) × (r ≤ mostText) ⌝ }
+    ensures { λ r. ⌜ Put (now (out .entry)) 0 (walked (now (s .entry)) (memory (now (values .entry)) (now (cells .entry)) (now (marks .entry))) head) r (now (out .exit)) × (r ≤ mostText) ⌝ }
 {
+    if MOST_BYTES < s.len() {
+        return put(out, 0, b"broken\n");
+    }
     let mut h = head;
     let mut at: usize = 0;
     let mut pos: usize = 0;
@@ -35,12 +35,12 @@ fn walk(
                 return pos;
             }
             Read::Broken => {
-                return put(out, pos, b"broken\n");
+                return pos + put(out, pos, b"broken\n");
             }
             Read::Record(r) => {
                 let o = make(s, r, values, cells, marks, h);
                 let a = o.answer;
-                pos = put_answer(out, pos, a);
+                pos += put_answer(out, pos, a);
                 h = o.head;
                 at = r.next;
             }
@@ -52,9 +52,6 @@ fn walk(
 pub fn run(strip: &[u8], out: &mut [u8]) -> usize
     ensures { λ r. ⌜ Put (now (out .entry)) 0 (transcript (now (strip .entry))) r (now (out .exit)) × (r ≤ mostText) ⌝ }
 {
-    if MOST_BYTES < strip.len() {
-        return put(out, 0, b"broken\n");
-    }
     let mut values = [0.0; 5328];
     let mut cells = [0.0; 1024];
     let mut marks = [0u8; 1024];

@@ -1,25 +1,27 @@
-// Lines. Where the text runs past the end of the buffer, that part of it is not written.
-ghost use mathlib.Core.Path.{_≡_};
-ghost use Prim.Native.Nat.{_+_, _≤_};
-ghost use lib.ListN.{length};
+// Lines. Where a text runs past the end of the buffer, that part of it is not written. Each function answers how long its
+// text is.
+ghost use Prim.Native.Nat.{_≤_};
 ghost use Rattle.strip.specs.Text.{Put, decimal, valueText, line};
 use mixture::Answer;
 
 pub fn put(out: &mut [u8], at: usize, text: &[u8]) -> usize
-    requires { ⌜ (at ≤ 1000000) × (length (now text) ≤ 1000) ⌝ }
     ensures { λ r. ⌜ Put (now (out .entry)) at (now (text .entry)) r (now (out .exit)) ⌝ }
 {
-    for k in 0..text.len() {
-        if at + k < out.len() {
+    let n = text.len();
+    if out.len() <= at {
+        return n;
+    }
+    let room = out.len() - at;
+    for k in 0..n {
+        if k < room {
             out[at + k] = text[k];
         }
     }
-    at + text.len()
+    n
 }
 
 fn put_number(out: &mut [u8], at: usize, n: u64) -> usize
-    requires { ⌜ at ≤ 1000000 ⌝ }
-    ensures { λ r. ⌜ Put (now (out .entry)) at (decimal n) r (now (out .exit)) × (r ≤ at + 20) ⌝ }
+    ensures { λ r. ⌜ Put (now (out .entry)) at (decimal n) r (now (out .exit)) × (r ≤ 20) ⌝ }
 {
     let mut text = [0u8; 20];
     let k = io::decimal(n, &mut text);
@@ -27,8 +29,7 @@ fn put_number(out: &mut [u8], at: usize, n: u64) -> usize
 }
 
 fn put_value(out: &mut [u8], at: usize, v: f64) -> usize
-    requires { ⌜ at ≤ 1000000 ⌝ }
-    ensures { λ r. ⌜ Put (now (out .entry)) at (valueText v) r (now (out .exit)) × (r ≤ at + 16) ⌝ }
+    ensures { λ r. ⌜ Put (now (out .entry)) at (valueText v) r (now (out .exit)) × (r ≤ 16) ⌝ }
 {
     if v != v {
         return put(out, at, b"nan");
@@ -38,23 +39,30 @@ fn put_value(out: &mut [u8], at: usize, v: f64) -> usize
     put(out, at, &text[..k])
 }
 
-// The line of an answer.
-pub fn put_answer(out: &mut [u8], at: usize, a: Answer) -> usize
-    requires { ⌜ at ≤ 900000 ⌝ }
-    ensures { λ r. ⌜ Put (now (out .entry)) at (line a) r (now (out .exit)) × (r ≤ at + 40) ⌝ }
+// The line of an answer, at the start of a buffer.
+fn write_line(text: &mut [u8], a: Answer) -> usize
+    ensures { λ r. ⌜ Put (now (text .entry)) 0 (line a) r (now (text .exit)) × (r ≤ 40) ⌝ }
 {
     match a {
-        Answer::Done => put(out, at, b"ok\n"),
+        Answer::Done => put(text, 0, b"ok\n"),
         Answer::Refused(k) => {
-            let p = put(out, at, b"refused ");
-            let q = put_number(out, p, k as u64);
-            put(out, q, b"\n")
+            let p = put(text, 0, b"refused ");
+            let q = p + put_number(text, p, k as u64);
+            q + put(text, q, b"\n")
         }
         Answer::Value(v, count) => {
-            let p = put_value(out, at, v);
-            let q = put(out, p, b" ");
-            let e = put_number(out, q, count as u64);
-            put(out, e, b"\n")
+            let p = put_value(text, 0, v);
+            let q = p + put(text, p, b" ");
+            let e = q + put_number(text, q, count as u64);
+            e + put(text, e, b"\n")
         }
     }
+}
+
+pub fn put_answer(out: &mut [u8], at: usize, a: Answer) -> usize
+    ensures { λ r. ⌜ Put (now (out .entry)) at (line a) r (now (out .exit)) × (r ≤ 40) ⌝ }
+{
+    let mut text = [0u8; 40];
+    let k = write_line(&mut text, a);
+    put(out, at, &text[..k])
 }

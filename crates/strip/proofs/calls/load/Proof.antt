@@ -1,10 +1,7 @@
--- What the buffers hold is the load. Assumes nothing.
+-- Fills three buffers with a load's lists and floats and makes the call: what the buffers hold is the definition's load. Assumes nothing.
 use Rattle.strip.proofs.CallLaws.{whole-lists, load-is}
-use mathlib.Core.Path.{_≡_, refl, sym, ap, _∙_}
-use Prim.Native.Nat.{ℕ, zero, suc, _+_, _*_, _-_, _<_, _≤_}
 use native.Mathlib.Omega.{arith}
 use borrow.Author.Needs.{needs}
-use lib.ListN.{length, getD}
 use Rattle.strip.proofs.calls.load.Statement.{statement}
 use Rattle.strip.proofs.calls.load.Tie as tie
 

@@ -1,10 +1,9 @@
--- Each kind makes the call that the definition names. Assumes nothing.
-use Rattle.strip.proofs.CallLaws.{whole-one, by-load, by-fractions, by-query, by-setting}
-use mathlib.Core.Path.{_≡_, refl, sym, ap, _∙_}
-use Prim.Native.Nat.{ℕ, zero, suc, _+_, _*_, _-_, _<_, _≤_}
+-- Makes the call of a record: each kind makes the call that the definition names, with the floats that were filled in. Assumes nothing.
 use native.Mathlib.Omega.{arith}
+use mathlib.Core.Path.{ap, _∙_}
 use borrow.Author.Needs.{needs}
-use lib.ListN.{length, getD}
+use Rattle.strip.specs.Inner.{settingBy}
+use Rattle.strip.proofs.CallLaws.{whole-255, fractions-is, setting-is, by-load, by-fractions, by-query, by-setting}
 use Rattle.strip.proofs.calls.make.Statement.{statement}
 use Rattle.strip.proofs.calls.make.Tie as tie
 
@@ -23,8 +22,20 @@ same-length-3 c = search needs
 returns : tie.Need-returns
 returns c = by-load (c .before .before .before .before .before .before .before .before .before .before .before .before .before .args .s .now) (c .before .before .before .before .before .before .before .before .before .before .before .before .before .args .r) _ _ _ (c .before .before .before .before .before .before .before .before .if1 .taken) (c .before .before .before .before .load .ensures)
 
+slice-aggregate-fill-floats : tie.Need-slice-aggregate-fill-floats
+slice-aggregate-fill-floats c = search needs
+
+fill-floats-requires : tie.Need-fill-floats-requires
+fill-floats-requires c κs = (omega (arith, whole-255 _ _ (c .before .before .before .before .before .before .pre) (c .before .if1 .left)), c .before .before .before .before .before .before .pre .floats)
+
+array-share-prefix-given : tie.Need-array-share-prefix-given
+array-share-prefix-given c = let h = whole-255 _ _ (c .before .before .before .before .before .before .before .before .before .before .before .before .pre) (c .before .before .before .before .before .before .before .if1 .left) in search needs
+
+slice-aggregate-fractions : tie.Need-slice-aggregate-fractions
+slice-aggregate-fractions c = search needs
+
 fractions-requires : tie.Need-fractions-requires
-fractions-requires c κs = search needs
+fractions-requires c κs = tt
 
 same-length-4 : tie.Need-same-length-4
 same-length-4 c = search needs
@@ -36,7 +47,9 @@ same-length-6 : tie.Need-same-length-6
 same-length-6 c = search needs
 
 returns-2 : tie.Need-returns-2
-returns-2 c = by-fractions (c .before .before .before .before .before .before .before .before .before .before .args .s .now) (c .before .before .before .before .before .before .before .before .before .before .args .r) _ _ _ (c .before .before .before .before .before .if1 .left) (c .before .before .before .before .if2 .taken) (c .fractions .ensures)
+returns-2 c =
+    let a = c .before .before .before .before .before .before .before .before .before .before .before .before .before .before .args in
+    by-fractions (a .s .now) (a .r) _ _ _ (c .before .before .before .before .before .before .before .before .before .if1 .left) (c .before .before .before .before .before .if2 .taken) (fractions-is (a .s .now) (a .r) _ _ _ (c .fractions .ensures) (c .before .before .before .before .before .before .before .fill-floats .ensures .1))
 
 quantity-of-requires : tie.Need-quantity-of-requires
 quantity-of-requires c κs = tt
@@ -54,10 +67,16 @@ same-length-9 : tie.Need-same-length-9
 same-length-9 c = search needs
 
 returns-3 : tie.Need-returns-3
-returns-3 c = by-query (c .before .before .before .before .before .before .before .before .before .before .before .before .before .before .before .before .args .s .now) (c .before .before .before .before .before .before .before .before .before .before .before .before .before .before .before .before .args .r) _ _ _ (c .before .before .before .before .before .before .before .before .before .before .before .if1 .left) (c .before .before .before .before .before .before .before .before .before .before .if2 .left) (c .before .before .before .before .before .before .before .before .before .if3 .taken) _ (c .before .before .before .before .before .quantity-of .ensures) (c .before .before .before .before .query .ensures)
+returns-3 c = by-query (c .before .before .before .before .before .before .before .before .before .before .before .before .before .before .before .before .before .before .before .args .s .now) (c .before .before .before .before .before .before .before .before .before .before .before .before .before .before .before .before .before .before .before .args .r) _ _ _ (c .before .before .before .before .before .before .before .before .before .before .before .before .before .before .if1 .left) (c .before .before .before .before .before .before .before .before .before .before .if2 .left) (c .before .before .before .before .before .before .before .before .before .if3 .taken) _ (c .before .before .before .before .before .quantity-of .ensures) (c .before .before .before .before .query .ensures)
+
+slice-aggregate-five-at : tie.Need-slice-aggregate-five-at
+slice-aggregate-five-at c = search needs
+
+five-at-requires : tie.Need-five-at-requires
+five-at-requires c κs = omega (arith, c .before .before .before .before .fill-floats .kept .0)
 
 setting-of-requires : tie.Need-setting-of-requires
-setting-of-requires c κs = (c .before .before .before .before .before .before .before .before .before .before .pre, whole-one _ _ (c .before .before .before .before .before .before .before .before .before .before .pre) (c .before .before .before .before .before .if1 .left) (c .before .before .before .before .if2 .left) (c .before .before .before .if3 .left))
+setting-of-requires c κs = tt
 
 set-requires : tie.Need-set-requires
 set-requires c κs = tt
@@ -72,7 +91,10 @@ same-length-12 : tie.Need-same-length-12
 same-length-12 c = search needs
 
 returns-4 : tie.Need-returns-4
-returns-4 c = by-setting (c .before .before .before .before .before .before .before .before .before .before .before .before .before .before .before .before .args .s .now) (c .before .before .before .before .before .before .before .before .before .before .before .before .before .before .before .before .args .r) _ _ _ (c .before .before .before .before .before .before .before .before .before .before .before .if1 .left) (c .before .before .before .before .before .before .before .before .before .before .if2 .left) (c .before .before .before .before .before .before .before .before .before .if3 .left) _ (c .before .before .before .before .before .setting-of .ensures) (c .before .before .before .before .set .ensures)
+returns-4 c =
+    let a = c .before .before .before .before .before .before .before .before .before .before .before .before .before .before .before .before .before .before .before .before .before .args in
+    let q = c .before .before .before .before .before .before .before .before .setting-of .ensures ∙ ap (settingBy (a .r .kind) (a .r .i) (a .r .j)) (c .before .before .before .before .before .before .before .before .before .five-at .ensures) ∙ setting-is (a .s .now) (a .r) _ (c .before .before .before .before .before .before .before .before .before .before .before .before .before .before .before .before .before .before .before .before .before .pre) (c .before .before .before .before .before .before .before .before .before .before .before .before .before .before .before .before .if1 .left) (c .before .before .before .before .before .before .before .before .before .before .before .before .if2 .left) (c .before .before .before .before .before .before .before .before .before .before .before .if3 .left) (c .before .before .before .before .before .before .before .before .before .before .before .before .before .before .fill-floats .ensures .1) in
+    by-setting (a .s .now) (a .r) _ _ _ (c .before .before .before .before .before .before .before .before .before .before .before .before .before .before .before .before .if1 .left) (c .before .before .before .before .before .before .before .before .before .before .before .before .if2 .left) (c .before .before .before .before .before .before .before .before .before .before .before .if3 .left) _ q (c .before .before .before .before .set .ensures)
 
 pub make-spec : {M : Type 1} → statement M
 make-spec =
@@ -83,6 +105,10 @@ make-spec =
     same-length-2
     same-length-3
     returns
+    slice-aggregate-fill-floats
+    fill-floats-requires
+    array-share-prefix-given
+    slice-aggregate-fractions
     fractions-requires
     same-length-4
     same-length-5
@@ -94,6 +120,8 @@ make-spec =
     same-length-8
     same-length-9
     returns-3
+    slice-aggregate-five-at
+    five-at-requires
     setting-of-requires
     set-requires
     same-length-10

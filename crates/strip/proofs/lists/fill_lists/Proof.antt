@@ -1,13 +1,12 @@
--- What is filled and what is left make the lists. Assumes nothing.
+-- Puts a kind 4's lists into three buffers, word by word: what is filled and what is left make the lists. Assumes nothing.
 use lib.Seq.{length-take-le}
-use lib.ListN.{length-set}
+use lib.ListN.{length-set, length}
 use mathlib.Core.Bool.{true}
 use Rattle.strip.specs.Lists.{isWord, pairsAt, listsAt}
 use Rattle.strip.proofs.ListLaws.{scan-12, scan-13, word-in, i-is, Filling, fill-starts, fill-ends, fill-12, fill-13, has-12, has-13}
-use mathlib.Core.Path.{_≡_, refl, sym, ap, _∙_}
-use Prim.Native.Nat.{ℕ, zero, suc, _+_, _*_, _-_, _<_, _≤_}
+use mathlib.Core.Path.{_≡_, refl, sym}
+use Prim.Native.Nat.{_+_, _*_, _-_, _<_, _≤_}
 use native.Mathlib.Omega.{arith}
-use lib.ListN.{length, getD}
 use Rattle.strip.proofs.lists.fill_lists.Statement.{statement}
 use Rattle.strip.proofs.lists.fill_lists.Tie as tie
 
@@ -66,14 +65,14 @@ word-at-requires c κs = in-12 c
 i-of-requires : tie.Need-i-of-requires Inv-loop μ-loop
 i-of-requires c κs = tt
 
-cast-lens : tie.Need-cast-lens Inv-loop μ-loop
-cast-lens c = omega (arith, c .i-of .ensures .1)
-
 sub-lens : tie.Need-sub-lens Inv-loop μ-loop
 sub-lens c = omega arith
 
 slice-write-lens : tie.Need-slice-write-lens Inv-loop μ-loop
 slice-write-lens c = omega (arith, c .before .before .before .before .loop .inv .0, c .before .before .before .before .loop .inv .3, c .before .before .before .before .before .before .before .before .before .pre .1, c .before .before .if2 .left)
+
+cast-pairs : tie.Need-cast-pairs Inv-loop μ-loop
+cast-pairs c = omega arith
 
 sub-left : tie.Need-sub-left Inv-loop μ-loop
 sub-left c = omega arith
@@ -88,7 +87,7 @@ loop-again : tie.Need-loop-again Inv-loop μ-loop
 loop-again c =
     let l = c .before .before .before .before .loop in
     let h = in-12 (c .before .before) in
-    let i = i-is _ _ _ (c .before .word-at .ensures .0) (c .i-of .ensures .0) in
+    let i = i-is _ _ _ (c .before .word-at .ensures .0) (c .i-of .ensures) in
     let room : c .before .before .before .before .before .before .before .before .before .args .n - l .left < length (l .lens) = omega (arith, l .inv .0, l .inv .3, c .before .before .before .before .before .before .before .before .before .pre .1, c .before .before .if2 .left) in (
       simp length-set (l .inv .0),
       l .inv .1,
@@ -105,9 +104,6 @@ word-at-requires-2 c κs = omega (arith, in-13 c)
 
 i-of-requires-2 : tie.Need-i-of-requires-2 Inv-loop μ-loop
 i-of-requires-2 c κs = tt
-
-cast-groups : tie.Need-cast-groups Inv-loop μ-loop
-cast-groups c = omega (arith, c .i-of2 .ensures .1)
 
 slice-write-groups : tie.Need-slice-write-groups Inv-loop μ-loop
 slice-write-groups c = omega (arith, in-13 (c .before .before), c .before .before .before .loop .inv .4, c .before .before .before .loop .inv .1, c .before .before .before .before .before .before .before .before .pre .0, c .before .before .before .before .before .before .before .before .pre .2)
@@ -152,7 +148,7 @@ loop-again-2 c =
       scan-13 _ (l .left) (l .pairs) (l .place) _ (l .inv .6) (c .before .before .before .if1 .left) (is-13 (c .before .before .before)),
       fill-13 _ _ _ _ _ (l .left) (l .pairs) (l .place) _ _ _ _ (l .inv .7) (is-13 (c .before .before .before)) (c .before .before .before .if1 .left)
           (omega (arith, h, l .inv .4, l .inv .1, c .before .before .before .before .before .before .before .before .before .pre .0, c .before .before .before .before .before .before .before .before .before .pre .2)) (omega (arith, h, l .inv .4, l .inv .2, c .before .before .before .before .before .before .before .before .before .pre .0, c .before .before .before .before .before .before .before .before .before .pre .3))
-          _ (i-is _ _ _ (c .before .before .word-at2 .ensures .0) (c .before .i-of2 .ensures .0)) _ (c .float-at .ensures),
+          _ (i-is _ _ _ (c .before .before .word-at2 .ensures .0) (c .before .i-of2 .ensures)) _ (c .float-at .ensures),
     )
 
 pub fill-lists-spec : {M : Type 1} → statement M
@@ -168,16 +164,15 @@ fill-lists-spec =
     returns
     word-at-requires
     i-of-requires
-    cast-lens
     sub-lens
     slice-write-lens
+    cast-pairs
     sub-left
     add-place
     loop-less
     loop-again
     word-at-requires-2
     i-of-requires-2
-    cast-groups
     slice-write-groups
     add-float-at
     float-at-requires

@@ -1,73 +1,81 @@
--- From each place on the lists end where they end from the start. Assumes nothing.
-use borrow.Author.Tests.{not-true, not-false}
-use Rattle.strip.specs.Lists.{pairsAt, listsAt}
-use Rattle.strip.proofs.ListLaws.{scan-end, scan-12, scan-no-12, scan-13, scan-no-13, word-in, i-is}
-use mathlib.Core.Path.{_≡_, refl, sym, ap, _∙_}
-use Prim.Native.Nat.{ℕ, zero, suc, _+_, _*_, _-_, _<_, _≤_}
+-- Walks along the lists, word by word: from each place on they end where they end from the start. Assumes nothing.
+use Prim.Native.Nat.{_-_}
 use native.Mathlib.Omega.{arith}
-use borrow.Author.Needs.{needs}
-use lib.ListN.{length, getD}
+use mathlib.Core.Path.{_≡_, refl, sym, _∙_}
+use mathlib.Core.Bool.{true}
+use lib.ListN.{length}
+use borrow.Author.Tests.{not-true, not-false}
+use Rattle.strip.specs.Lists.{isWord, pairsAt, listsAt}
+use Rattle.strip.proofs.ListLaws.{scan-end, scan-12, scan-no-12, scan-13, scan-no-13, word-in, i-is}
 use Rattle.strip.proofs.lists.lists_end.Statement.{statement}
 use Rattle.strip.proofs.lists.lists_end.Tie as tie
 
 abbrev Inv-loop : tie.InvT-loop
-Inv-loop s at n p₀ left₀ pairs₀ p left pairs = (p ≤ 4000000) × (pairsAt s pairs (listsAt s left) p .end ≡ listsAt s n at .end)
+Inv-loop s at n p₀ left₀ pairs₀ p left pairs = pairsAt s pairs (listsAt s left) p .end ≡ listsAt s n at .end
 
 abbrev μ-loop : tie.MeasureT-loop
 μ-loop s at n p₀ left₀ pairs₀ p left pairs = length s - p
 
+-- the word that was tested
+is-12 : (c : tie.Else3 Inv-loop μ-loop) → isWord (c .before .before .before .before .before .before .args .s .now) 12 4 (c .before .before .before .before .loop .p) ≡ true
+is-12 c = sym (c .before .is-word .ensures) ∙ not-false _ (c .if3 .left)
+
+is-13 : (c : tie.Else4 Inv-loop μ-loop) → isWord (c .before .before .before .before .before .args .s .now) 13 12 (c .before .before .before .loop .p) ≡ true
+is-13 c = sym (c .before .is-pair .ensures) ∙ not-false _ (c .if4 .left)
+
 loop-holds : tie.Need-loop-holds Inv-loop μ-loop
 unfolding pairsAt
-loop-holds c = (omega arith, refl)
+loop-holds c = refl
 
 returns : tie.Need-returns Inv-loop μ-loop
-returns c = let l = c .before .before .loop in scan-end _ (l .left) (l .pairs) _ _ (c .before .if1 .taken) (c .if2 .taken) (l .inv .1)
+returns c = let l = c .before .before .loop in scan-end _ (l .left) (l .pairs) _ _ (c .before .if1 .taken) (c .if2 .taken) (l .inv)
 
 is-word-requires : tie.Need-is-word-requires Inv-loop μ-loop
-is-word-requires c κs = search needs
+is-word-requires c κs = tt
 
 returns-2 : tie.Need-returns-2 Inv-loop μ-loop
-returns-2 c = let l = c .before .before .before .before .loop in scan-no-12 _ (l .left) (l .pairs) _ _ (l .inv .1) (c .before .before .before .if1 .taken) (c .before .before .if2 .left) (sym (c .before .is-word .ensures) ∙ not-true _ (c .if3 .taken))
+returns-2 c = let l = c .before .before .before .before .loop in scan-no-12 _ (l .left) (l .pairs) _ _ (l .inv) (c .before .before .before .if1 .taken) (c .before .before .if2 .left) (sym (c .before .is-word .ensures) ∙ not-true _ (c .if3 .taken))
 
 word-at-requires : tie.Need-word-at-requires Inv-loop μ-loop
-word-at-requires c κs = word-in _ 12 4 (c .before .before .before .before .loop .p) (sym (c .before .is-word .ensures) ∙ not-false _ (c .if3 .left))
+word-at-requires c κs = word-in _ 12 4 (c .before .before .before .before .loop .p) (is-12 c)
 
 i-of-requires : tie.Need-i-of-requires Inv-loop μ-loop
 i-of-requires c κs = tt
+
+cast-pairs : tie.Need-cast-pairs Inv-loop μ-loop
+cast-pairs c = omega arith
 
 sub-left : tie.Need-sub-left Inv-loop μ-loop
 sub-left c = omega arith
 
 add-p : tie.Need-add-p Inv-loop μ-loop
-add-p c = omega arith
+add-p c = omega (arith, word-in _ 12 4 (c .before .before .before .before .before .before .loop .p) (is-12 (c .before .before)))
 
 loop-less : tie.Need-loop-less Inv-loop μ-loop
-loop-less c = omega (arith, word-in _ 12 4 (c .before .before .before .before .before .before .loop .p) (sym (c .before .before .before .is-word .ensures) ∙ not-false _ (c .before .before .if3 .left)))
+loop-less c = omega (arith, word-in _ 12 4 (c .before .before .before .before .before .before .loop .p) (is-12 (c .before .before)))
 
 loop-again : tie.Need-loop-again Inv-loop μ-loop
-loop-again c = let l = c .before .before .before .before .before .before .loop in
-    let t = sym (c .before .before .before .is-word .ensures) ∙ not-false _ (c .before .before .if3 .left) in
-    (omega (arith, word-in _ 12 4 (l .p) t, c .before .before .before .before .before .before .before .before .pre .0), scan-12 _ (l .left) (l .pairs) (l .p) _ (l .inv .1) (c .before .before .before .before .before .if1 .taken) (c .before .before .before .before .if2 .left) t _ (i-is _ _ _ (c .before .word-at .ensures .0) (c .i-of .ensures .0)))
+loop-again c =
+    let l = c .before .before .before .before .before .before .loop in
+    scan-12 _ (l .left) (l .pairs) (l .p) _ (l .inv) (c .before .before .before .before .before .if1 .taken) (c .before .before .before .before .if2 .left) (is-12 (c .before .before)) _ (i-is _ _ _ (c .before .word-at .ensures .0) (c .i-of .ensures))
 
-is-word-requires-2 : tie.Need-is-word-requires-2 Inv-loop μ-loop
-is-word-requires-2 c κs = search needs
+is-pair-requires : tie.Need-is-pair-requires Inv-loop μ-loop
+is-pair-requires c κs = tt
 
 returns-3 : tie.Need-returns-3 Inv-loop μ-loop
-returns-3 c = let l = c .before .before .before .loop in scan-no-13 _ (l .left) (l .pairs) _ _ (l .inv .1) (c .before .before .if1 .left) (sym (c .before .is-word2 .ensures) ∙ not-true _ (c .if4 .taken))
+returns-3 c = let l = c .before .before .before .loop in scan-no-13 _ (l .left) (l .pairs) _ _ (l .inv) (c .before .before .if1 .left) (sym (c .before .is-pair .ensures) ∙ not-true _ (c .if4 .taken))
 
 sub-pairs : tie.Need-sub-pairs Inv-loop μ-loop
 sub-pairs c = omega arith
 
 add-p-2 : tie.Need-add-p-2 Inv-loop μ-loop
-add-p-2 c = omega arith
+add-p-2 c = omega (arith, word-in _ 13 12 (c .before .before .before .loop .p) (is-13 c))
 
 loop-less-2 : tie.Need-loop-less-2 Inv-loop μ-loop
-loop-less-2 c = omega (arith, word-in _ 13 12 (c .before .before .before .loop .p) (sym (c .before .is-word2 .ensures) ∙ not-false _ (c .if4 .left)))
+loop-less-2 c = omega (arith, word-in _ 13 12 (c .before .before .before .loop .p) (is-13 c))
 
 loop-again-2 : tie.Need-loop-again-2 Inv-loop μ-loop
-loop-again-2 c = let l = c .before .before .before .loop in
-    let t = sym (c .before .is-word2 .ensures) ∙ not-false _ (c .if4 .left) in
-    (omega (arith, word-in _ 13 12 (l .p) t, c .before .before .before .before .before .pre .0), scan-13 _ (l .left) (l .pairs) (l .p) _ (l .inv .1) (c .before .before .if1 .left) t)
+loop-again-2 c = let l = c .before .before .before .loop in scan-13 _ (l .left) (l .pairs) (l .p) _ (l .inv) (c .before .before .if1 .left) (is-13 c)
 
 pub lists-end-spec : {M : Type 1} → statement M
 lists-end-spec =
@@ -81,11 +89,12 @@ lists-end-spec =
     returns-2
     word-at-requires
     i-of-requires
+    cast-pairs
     sub-left
     add-p
     loop-less
     loop-again
-    is-word-requires-2
+    is-pair-requires
     returns-3
     sub-pairs
     add-p-2

@@ -1,9 +1,5 @@
--- The tests in turn. Assumes nothing.
+-- Whether both fields are 0: the two tests in turn. Assumes nothing.
 use borrow.Author.Tests.{eq-eqb, ne-eqb}
-use mathlib.Core.Path.{_≡_, refl, sym, ap, _∙_}
-use Prim.Native.Nat.{ℕ, zero, suc, _+_, _*_, _-_, _<_, _≤_}
-use native.Mathlib.Omega.{arith}
-use lib.ListN.{length, getD}
 use Rattle.strip.proofs.records.both_zero.Statement.{statement}
 use Rattle.strip.proofs.records.both_zero.Tie as tie
 

@@ -1,9 +1,5 @@
--- The tests in turn. Assumes nothing.
+-- Whether i and j are a query's: the definition's tests in turn. Assumes nothing.
 use borrow.Author.Tests.{lt-ltb, le-ltb, eq-eqb, ne-eqb}
-use mathlib.Core.Path.{_≡_, refl, sym, ap, _∙_}
-use Prim.Native.Nat.{ℕ, zero, suc, _+_, _*_, _-_, _<_, _≤_}
-use native.Mathlib.Omega.{arith}
-use lib.ListN.{length, getD}
 use Rattle.strip.proofs.records.is_query.Statement.{statement}
 use Rattle.strip.proofs.records.is_query.Tie as tie
 

@@ -1,11 +1,7 @@
--- The tests in turn. Assumes nothing.
+-- What stands at a place: the definition's tests in turn; a byte's square is small, so that no place wraps. Assumes nothing.
 use borrow.Author.Tests.{not-true, not-false}
 use Rattle.strip.proofs.RecordLaws.{read-end, read-cut, read-rest, read-malformed, read-missing, read-long, read-record}
-use mathlib.Core.Path.{_≡_, refl, sym, ap, _∙_}
-use Prim.Native.Nat.{ℕ, zero, suc, _+_, _*_, _-_, _<_, _≤_}
-use native.Mathlib.Omega.{arith}
 use borrow.Author.Needs.{needs}
-use lib.ListN.{length, getD}
 use Rattle.strip.proofs.records.read_at.Statement.{statement}
 use Rattle.strip.proofs.records.read_at.Tie as tie
 
@@ -31,16 +27,16 @@ j-of-requires : tie.Need-j-of-requires
 j-of-requires c κs = tt
 
 shape-of-requires : tie.Need-shape-of-requires
-shape-of-requires c κs = search needs
+shape-of-requires c κs = tt
 
 rest-of-requires : tie.Need-rest-of-requires
 rest-of-requires c κs = tt
 
 returns-3 : tie.Need-returns-3
-returns-3 c = read-rest _ _ (c .before .before .before .before .before .before .word-at .result) (c .before .before .before .before .before .kind-of .result) (c .before .before .before .before .i-of .result) (c .before .before .before .j-of .result) (c .before .before .shape-of .result) (c .before .before .before .before .before .before .before .before .if1 .left) (c .before .before .before .before .before .before .before .if2 .left) (c .before .before .before .before .before .before .word-at .ensures .0) (c .before .before .before .before .before .kind-of .ensures) (c .before .before .before .before .i-of .ensures .0) (c .before .before .before .j-of .ensures .0) (c .before .before .shape-of .ensures .0) (c .before .rest-of .result) (c .before .rest-of .ensures) (c .if3 .taken)
+returns-3 c = read-rest _ _ (c .before .before .before .before .before .before .word-at .result) (c .before .before .before .before .before .kind-of .result) (c .before .before .before .before .i-of .result) (c .before .before .before .j-of .result) (c .before .before .shape-of .result) (c .before .before .before .before .before .before .before .before .if1 .left) (c .before .before .before .before .before .before .before .if2 .left) (c .before .before .before .before .before .before .word-at .ensures .0) (c .before .before .before .before .before .kind-of .ensures) (c .before .before .before .before .i-of .ensures) (c .before .before .before .j-of .ensures) (c .before .before .shape-of .ensures .0) (c .before .rest-of .result) (c .before .rest-of .ensures) (c .if3 .taken)
 
 returns-4 : tie.Need-returns-4
-returns-4 c = read-malformed _ _ (c .before .before .before .before .before .before .before .before .word-at .result) (c .before .before .before .before .before .before .before .kind-of .result) (c .before .before .before .before .before .before .i-of .result) (c .before .before .before .before .before .j-of .result) (c .before .before .before .before .shape-of .result) (c .before .before .before .before .before .before .before .before .before .before .if1 .left) (c .before .before .before .before .before .before .before .before .before .if2 .left) (c .before .before .before .before .before .before .before .before .word-at .ensures .0) (c .before .before .before .before .before .before .before .kind-of .ensures) (c .before .before .before .before .before .before .i-of .ensures .0) (c .before .before .before .before .before .j-of .ensures .0) (c .before .before .before .before .shape-of .ensures .0) (c .before .before .before .rest-of .result) (c .before .before .before .rest-of .ensures) (c .before .before .if3 .left) (not-true _ (c .if4 .taken))
+returns-4 c = read-malformed _ _ (c .before .before .before .before .before .before .before .before .word-at .result) (c .before .before .before .before .before .before .before .kind-of .result) (c .before .before .before .before .before .before .i-of .result) (c .before .before .before .before .before .j-of .result) (c .before .before .before .before .shape-of .result) (c .before .before .before .before .before .before .before .before .before .before .if1 .left) (c .before .before .before .before .before .before .before .before .before .if2 .left) (c .before .before .before .before .before .before .before .before .word-at .ensures .0) (c .before .before .before .before .before .before .before .kind-of .ensures) (c .before .before .before .before .before .before .i-of .ensures) (c .before .before .before .before .before .j-of .ensures) (c .before .before .before .before .shape-of .ensures .0) (c .before .before .before .rest-of .result) (c .before .before .before .rest-of .ensures) (c .before .before .if3 .left) (not-true _ (c .if4 .taken))
 
 add-body : tie.Need-add-body
 add-body c = search needs
@@ -52,16 +48,22 @@ add-lists-end : tie.Need-add-lists-end
 add-lists-end c = search needs
 
 lists-end-requires : tie.Need-lists-end-requires
-lists-end-requires c κs = search needs
+lists-end-requires c κs = tt
 
 returns-5 : tie.Need-returns-5
-returns-5 c = read-missing _ _ (c .before .before .before .before .before .before .before .before .before .before .before .word-at .result) (c .before .before .before .before .before .before .before .before .before .before .kind-of .result) (c .before .before .before .before .before .before .before .before .before .i-of .result) (c .before .before .before .before .before .before .before .before .j-of .result) (c .before .before .before .before .before .before .before .shape-of .result) (c .before .before .before .before .before .before .before .before .before .before .before .before .before .if1 .left) (c .before .before .before .before .before .before .before .before .before .before .before .before .if2 .left) (c .before .before .before .before .before .before .before .before .before .before .before .word-at .ensures .0) (c .before .before .before .before .before .before .before .before .before .before .kind-of .ensures) (c .before .before .before .before .before .before .before .before .before .i-of .ensures .0) (c .before .before .before .before .before .before .before .before .j-of .ensures .0) (c .before .before .before .before .before .before .before .shape-of .ensures .0) (c .before .before .before .before .before .before .rest-of .result) (c .before .before .before .before .before .before .rest-of .ensures) (c .before .before .before .before .before .if3 .left) (not-false _ (c .before .before .before .if4 .left)) (c .before .lists-end .result) (c .before .lists-end .ensures) (c .if5 .taken)
+returns-5 c = read-missing _ _ (c .before .before .before .before .before .before .before .before .before .before .before .word-at .result) (c .before .before .before .before .before .before .before .before .before .before .kind-of .result) (c .before .before .before .before .before .before .before .before .before .i-of .result) (c .before .before .before .before .before .before .before .before .j-of .result) (c .before .before .before .before .before .before .before .shape-of .result) (c .before .before .before .before .before .before .before .before .before .before .before .before .before .if1 .left) (c .before .before .before .before .before .before .before .before .before .before .before .before .if2 .left) (c .before .before .before .before .before .before .before .before .before .before .before .word-at .ensures .0) (c .before .before .before .before .before .before .before .before .before .before .kind-of .ensures) (c .before .before .before .before .before .before .before .before .before .i-of .ensures) (c .before .before .before .before .before .before .before .before .j-of .ensures) (c .before .before .before .before .before .before .before .shape-of .ensures .0) (c .before .before .before .before .before .before .rest-of .result) (c .before .before .before .before .before .before .rest-of .ensures) (c .before .before .before .before .before .if3 .left) (not-false _ (c .before .before .before .if4 .left)) (c .before .lists-end .result) (c .before .lists-end .ensures) (c .if5 .taken)
 
 returns-6 : tie.Need-returns-6
-returns-6 c = read-long _ _ (c .before .before .before .before .before .before .before .before .before .before .before .before .word-at .result) (c .before .before .before .before .before .before .before .before .before .before .before .kind-of .result) (c .before .before .before .before .before .before .before .before .before .before .i-of .result) (c .before .before .before .before .before .before .before .before .before .j-of .result) (c .before .before .before .before .before .before .before .before .shape-of .result) (c .before .before .before .before .before .before .before .before .before .before .before .before .before .before .if1 .left) (c .before .before .before .before .before .before .before .before .before .before .before .before .before .if2 .left) (c .before .before .before .before .before .before .before .before .before .before .before .before .word-at .ensures .0) (c .before .before .before .before .before .before .before .before .before .before .before .kind-of .ensures) (c .before .before .before .before .before .before .before .before .before .before .i-of .ensures .0) (c .before .before .before .before .before .before .before .before .before .j-of .ensures .0) (c .before .before .before .before .before .before .before .before .shape-of .ensures .0) (c .before .before .before .before .before .before .before .rest-of .result) (c .before .before .before .before .before .before .before .rest-of .ensures) (c .before .before .before .before .before .before .if3 .left) (not-false _ (c .before .before .before .before .if4 .left)) (c .before .before .lists-end .result) (c .before .before .lists-end .ensures) (c .before .if5 .left) (c .if6 .taken)
+returns-6 c = read-long _ _ (c .before .before .before .before .before .before .before .before .before .before .before .before .word-at .result) (c .before .before .before .before .before .before .before .before .before .before .before .kind-of .result) (c .before .before .before .before .before .before .before .before .before .before .i-of .result) (c .before .before .before .before .before .before .before .before .before .j-of .result) (c .before .before .before .before .before .before .before .before .shape-of .result) (c .before .before .before .before .before .before .before .before .before .before .before .before .before .before .if1 .left) (c .before .before .before .before .before .before .before .before .before .before .before .before .before .if2 .left) (c .before .before .before .before .before .before .before .before .before .before .before .before .word-at .ensures .0) (c .before .before .before .before .before .before .before .before .before .before .before .kind-of .ensures) (c .before .before .before .before .before .before .before .before .before .before .i-of .ensures) (c .before .before .before .before .before .before .before .before .before .j-of .ensures) (c .before .before .before .before .before .before .before .before .shape-of .ensures .0) (c .before .before .before .before .before .before .before .rest-of .result) (c .before .before .before .before .before .before .before .rest-of .ensures) (c .before .before .before .before .before .before .if3 .left) (not-false _ (c .before .before .before .before .if4 .left)) (c .before .before .lists-end .result) (c .before .before .lists-end .ensures) (c .before .if5 .left) (c .if6 .taken)
+
+cast-t12 : tie.Need-cast-t12
+cast-t12 c = search needs
+
+cast-t10 : tie.Need-cast-t10
+cast-t10 c = search needs
 
 returns-7 : tie.Need-returns-7
-returns-7 c = read-record _ _ (c .before .before .before .before .before .before .before .before .before .before .before .before .word-at .result) (c .before .before .before .before .before .before .before .before .before .before .before .kind-of .result) (c .before .before .before .before .before .before .before .before .before .before .i-of .result) (c .before .before .before .before .before .before .before .before .before .j-of .result) (c .before .before .before .before .before .before .before .before .shape-of .result) (c .before .before .before .before .before .before .before .before .before .before .before .before .before .before .if1 .left) (c .before .before .before .before .before .before .before .before .before .before .before .before .before .if2 .left) (c .before .before .before .before .before .before .before .before .before .before .before .before .word-at .ensures .0) (c .before .before .before .before .before .before .before .before .before .before .before .kind-of .ensures) (c .before .before .before .before .before .before .before .before .before .before .i-of .ensures .0) (c .before .before .before .before .before .before .before .before .before .j-of .ensures .0) (c .before .before .before .before .before .before .before .before .shape-of .ensures .0) (c .before .before .before .before .before .before .before .rest-of .result) (c .before .before .before .before .before .before .before .rest-of .ensures) (c .before .before .before .before .before .before .if3 .left) (not-false _ (c .before .before .before .before .if4 .left)) (c .before .before .lists-end .result) (c .before .before .lists-end .ensures) (c .before .if5 .left) (c .if6 .left)
+returns-7 c = read-record _ _ (c .before .before .before .before .before .before .before .before .before .before .before .before .word-at .result) (c .before .before .before .before .before .before .before .before .before .before .before .kind-of .result) (c .before .before .before .before .before .before .before .before .before .before .i-of .result) (c .before .before .before .before .before .before .before .before .before .j-of .result) (c .before .before .before .before .before .before .before .before .shape-of .result) (c .before .before .before .before .before .before .before .before .before .before .before .before .before .before .if1 .left) (c .before .before .before .before .before .before .before .before .before .before .before .before .before .if2 .left) (c .before .before .before .before .before .before .before .before .before .before .before .before .word-at .ensures .0) (c .before .before .before .before .before .before .before .before .before .before .before .kind-of .ensures) (c .before .before .before .before .before .before .before .before .before .before .i-of .ensures) (c .before .before .before .before .before .before .before .before .before .j-of .ensures) (c .before .before .before .before .before .before .before .before .shape-of .ensures .0) (c .before .before .before .before .before .before .before .rest-of .result) (c .before .before .before .before .before .before .before .rest-of .ensures) (c .before .before .before .before .before .before .if3 .left) (not-false _ (c .before .before .before .before .if4 .left)) (c .before .before .lists-end .result) (c .before .before .lists-end .ensures) (c .before .if5 .left) (c .if6 .left)
 
 pub read-at-spec : {M : Type 1} → statement M
 read-at-spec =
@@ -84,4 +86,6 @@ read-at-spec =
     lists-end-requires
     returns-5
     returns-6
+    cast-t12
+    cast-t10
     returns-7)

@@ -1,62 +1,74 @@
--- What is stored and what is left make the text. Assumes nothing.
+-- Walks from record to record: what is stored and what is left make the text. Assumes nothing.
+use Prim.Native.Nat.{_*_, _-_, _≤_}
+use native.Mathlib.Omega.{arith}
+use mathlib.Core.Path.{_≡_, refl, sym, _∙_}
+use lib.ListN.{length}
+use borrow.Author.Needs.{needs}
 use Rattle.mixture.specs.Memory.{memory}
 use Rattle.strip.specs.Text.{broken}
 use Rattle.strip.specs.Inner.{rest}
 use Rattle.strip.proofs.RecordLaws.{found, found-whole, read-done}
-use Rattle.strip.proofs.RunLaws.{Walked, walk-starts, walk-turn, walk-ends, walk-breaks}
-use mathlib.Core.Path.{_≡_, refl, sym, ap, _∙_}
-use Prim.Native.Nat.{ℕ, zero, suc, _+_, _*_, _-_, _<_, _≤_}
-use native.Mathlib.Omega.{arith}
-use borrow.Author.Needs.{needs}
-use lib.ListN.{length, getD}
+use Rattle.strip.proofs.RunLaws.{Walked, walk-starts, walk-turn, walk-ends, walk-breaks, walked-long, walked-short}
 use Rattle.strip.proofs.run.walk.Statement.{statement}
 use Rattle.strip.proofs.run.walk.Tie as tie
 
 abbrev Inv-loop : tie.InvT-loop
-Inv-loop s values₀ cells₀ marks₀ out₀ h₀ at₀ pos₀ t13 values cells marks out h at pos =
+Inv-loop s values₀ cells₀ marks₀ out₀ h₀ at₀ pos₀ t14 values cells marks out h at pos =
     (at ≤ length s) × (pos ≤ 10 * at) × (length values ≡ length values₀) × (length cells ≡ length cells₀) × (length marks ≡ length marks₀) × (length out ≡ length out₀)
-    × (t13 ≡ broken) × Walked s out₀ (rest s 0 (memory values₀ cells₀ marks₀) h₀) at (memory values cells marks) h pos out
+    × (t14 ≡ broken) × Walked s out₀ (rest s 0 (memory values₀ cells₀ marks₀) h₀) at (memory values cells marks) h pos out
 
 abbrev μ-loop : tie.MeasureT-loop
-μ-loop s values₀ cells₀ marks₀ out₀ h₀ at₀ pos₀ t13 values cells marks out h at pos = length s - at
-
-loop-holds : tie.Need-loop-holds Inv-loop μ-loop
-loop-holds c = (omega arith, omega arith, refl, refl, refl, refl, refl, walk-starts _ _ _ _)
-
-read-at-requires : tie.Need-read-at-requires Inv-loop μ-loop
-read-at-requires c κs = search needs
-
-enum-told : tie.Need-enum-told Inv-loop μ-loop
-enum-told c = search needs
-
-same-length : tie.Need-same-length Inv-loop μ-loop
-same-length c = c .before .before .before .loop .inv .2
-
-same-length-2 : tie.Need-same-length-2 Inv-loop μ-loop
-same-length-2 c = c .before .before .before .loop .inv .3
-
-same-length-3 : tie.Need-same-length-3 Inv-loop μ-loop
-same-length-3 c = c .before .before .before .loop .inv .4
-
-same-length-4 : tie.Need-same-length-4 Inv-loop μ-loop
-same-length-4 c = c .before .before .before .loop .inv .5
-
-returns : tie.Need-returns Inv-loop μ-loop
-returns c =
-    let l = c .before .before .before .loop in
-    (walk-ends _ _ _ (l .at) _ _ _ _ (l .inv .7) (read-done _ _ (sym (c .before .before .read-at .ensures) ∙ c .enum-told .given .1)), omega (arith, l .inv .0, l .inv .1, c .before .before .before .before .before .before .before .before .before .pre))
-
-enum-told-2 : tie.Need-enum-told-2 Inv-loop μ-loop
-enum-told-2 c = search needs
+μ-loop s values₀ cells₀ marks₀ out₀ h₀ at₀ pos₀ t14 values cells marks out h at pos = length s - at
 
 slice-aggregate-put : tie.Need-slice-aggregate-put Inv-loop μ-loop
 slice-aggregate-put c = search needs
 
 put-requires : tie.Need-put-requires Inv-loop μ-loop
-put-requires c κs = search needs
+put-requires c κs = tt
+
+same-length : tie.Need-same-length Inv-loop μ-loop
+same-length c = search needs
+
+returns : tie.Need-returns Inv-loop μ-loop
+returns c = (walked-long _ _ _ (c .before .before .before .before .before .if1 .taken) (c .before .before .put .ensures), omega (arith, c .before .before .put .ensures .long))
+
+loop-holds : tie.Need-loop-holds Inv-loop μ-loop
+loop-holds c = (omega arith, omega arith, refl, refl, refl, refl, refl, walk-starts _ _ _ _)
+
+read-at-requires : tie.Need-read-at-requires Inv-loop μ-loop
+read-at-requires c κs = tt
+
+enum-told : tie.Need-enum-told Inv-loop μ-loop
+enum-told c = search needs
+
+same-length-2 : tie.Need-same-length-2 Inv-loop μ-loop
+same-length-2 c = c .before .before .before .loop .inv .2
+
+same-length-3 : tie.Need-same-length-3 Inv-loop μ-loop
+same-length-3 c = c .before .before .before .loop .inv .3
+
+same-length-4 : tie.Need-same-length-4 Inv-loop μ-loop
+same-length-4 c = c .before .before .before .loop .inv .4
 
 same-length-5 : tie.Need-same-length-5 Inv-loop μ-loop
-same-length-5 c = search needs
+same-length-5 c = c .before .before .before .loop .inv .5
+
+returns-2 : tie.Need-returns-2 Inv-loop μ-loop
+returns-2 c =
+    let l = c .before .before .before .loop in
+    (walked-short _ _ _ (c .before .before .before .before .if1 .left) (walk-ends _ _ _ (l .at) _ _ _ _ (l .inv .7) (read-done _ _ (sym (c .before .before .read-at .ensures) ∙ c .enum-told .given .1))), omega (arith, l .inv .0, l .inv .1, c .before .before .before .before .if1 .left))
+
+enum-told-2 : tie.Need-enum-told-2 Inv-loop μ-loop
+enum-told-2 c = search needs
+
+slice-aggregate-put-2 : tie.Need-slice-aggregate-put-2 Inv-loop μ-loop
+slice-aggregate-put-2 c = search needs
+
+put-requires-2 : tie.Need-put-requires-2 Inv-loop μ-loop
+put-requires-2 c κs = tt
+
+add-result : tie.Need-add-result Inv-loop μ-loop
+add-result c = omega (arith, c .before .before .before .before .before .before .before .before .loop .inv .0, c .before .before .before .before .before .before .before .before .loop .inv .1, c .before .before .before .before .before .before .before .before .before .if1 .left, c .before .before .put2 .ensures .long)
 
 same-length-6 : tie.Need-same-length-6 Inv-loop μ-loop
 same-length-6 c = search needs
@@ -67,19 +79,25 @@ same-length-7 c = search needs
 same-length-8 : tie.Need-same-length-8 Inv-loop μ-loop
 same-length-8 c = search needs
 
-returns-2 : tie.Need-returns-2 Inv-loop μ-loop
-returns-2 c =
+same-length-9 : tie.Need-same-length-9 Inv-loop μ-loop
+same-length-9 c = search needs
+
+returns-3 : tie.Need-returns-3 Inv-loop μ-loop
+returns-3 c =
     let l = c .before .before .before .before .before .before .before .before .loop in
-    (walk-breaks _ _ _ (l .at) _ _ _ _ (l .inv .7) (sym (c .before .before .before .before .before .before .before .read-at .ensures) ∙ c .before .before .before .before .before .enum-told2 .given .1) _ _ (c .before .before .put .ensures), omega (arith, l .inv .0, l .inv .1, c .before .before .before .before .before .before .before .before .before .before .before .before .before .before .pre, c .before .before .put .ensures .past))
+    (walked-short _ _ _ (c .before .before .before .before .before .before .before .before .before .if1 .left) (walk-breaks _ _ _ (l .at) _ _ _ _ (l .inv .7) (sym (c .before .before .before .before .before .before .before .read-at .ensures) ∙ c .before .before .before .before .before .enum-told2 .given .1) _ _ (c .before .before .put2 .ensures)), omega (arith, l .inv .0, l .inv .1, c .before .before .before .before .before .before .before .before .before .if1 .left, c .before .before .put2 .ensures .long))
 
 enum-known-r : tie.Need-enum-known-r Inv-loop μ-loop
 enum-known-r c = search needs
 
 make-requires : tie.Need-make-requires Inv-loop μ-loop
-make-requires c κs = found-whole _ (c .before .before .before .before .before .before .before .loop .at) _ (c .before .before .before .before .before .before .before .before .before .before .before .before .before .pre) (sym (c .before .before .before .before .before .before .read-at .ensures) ∙ c .before .before .before .before .r .given .1)
+make-requires c κs = found-whole _ (c .before .before .before .before .before .before .before .loop .at) _ (c .before .before .before .before .before .before .before .before .if1 .left) (sym (c .before .before .before .before .before .before .read-at .ensures) ∙ c .before .before .before .before .r .given .1)
 
 put-answer-requires : tie.Need-put-answer-requires Inv-loop μ-loop
-put-answer-requires c κs = search needs
+put-answer-requires c κs = tt
+
+add-pos : tie.Need-add-pos Inv-loop μ-loop
+add-pos c = omega (arith, c .before .before .before .before .before .before .before .before .before .before .before .before .before .before .before .before .before .before .loop .inv .0, c .before .before .before .before .before .before .before .before .before .before .before .before .before .before .before .before .before .before .loop .inv .1, c .before .before .before .before .before .before .before .before .before .before .before .before .before .before .before .before .before .before .before .if1 .left, c .before .before .put-answer .ensures .1)
 
 loop-less : tie.Need-loop-less Inv-loop μ-loop
 loop-less c =
@@ -91,15 +109,16 @@ loop-again c =
     let l = c .before .before .before .before .before .before .before .before .before .before .before .before .before .before .before .before .before .before .before .loop in
     let e = sym (c .before .before .before .before .before .before .before .before .before .before .before .before .before .before .before .before .before .before .read-at .ensures) ∙ c .before .before .before .before .before .before .before .before .before .before .before .before .before .before .before .before .r .given .1 in
     let f = found _ (l .at) _ e in
-    let p = c .before .before .before .put-answer .ensures in (
+    let m = c .before .before .before .before .before .before .before .before .before .before .before .make in
+    let p = c .before .before .before .put-answer in (
       f .next,
-      omega (arith, f .body, f .floats, p .1),
-      c .before .before .before .before .before .before .before .before .before .before .before .make .kept .1 .1 .0 ∙ l .inv .2,
-      c .before .before .before .before .before .before .before .before .before .before .before .make .kept .1 .1 .1 .0 ∙ l .inv .3,
-      c .before .before .before .before .before .before .before .before .before .before .before .make .kept .1 .1 .1 .1 .0 ∙ l .inv .4,
-      c .before .before .before .put-answer .kept .0 ∙ l .inv .5,
+      omega (arith, f .body, f .floats, l .inv .1, p .ensures .1),
+      m .kept .1 .1 .0 ∙ l .inv .2,
+      m .kept .1 .1 .1 .0 ∙ l .inv .3,
+      m .kept .1 .1 .1 .1 .0 ∙ l .inv .4,
+      p .kept .0 ∙ l .inv .5,
       refl,
-      walk-turn _ _ _ (l .at) _ _ _ _ (l .inv .7) _ e _ (c .before .before .before .before .before .before .before .before .before .before .before .make .ensures) _ _ (p .0),
+      walk-turn _ _ _ (l .at) _ _ _ _ (l .inv .7) _ e _ (m .ensures) _ _ (p .ensures .0),
     )
 
 pub walk-spec : {M : Type 1} → statement M
@@ -108,24 +127,30 @@ walk-spec =
     (tie.spec
     Inv-loop
     μ-loop
+    slice-aggregate-put
+    put-requires
+    same-length
+    returns
     loop-holds
     read-at-requires
     enum-told
-    same-length
     same-length-2
     same-length-3
     same-length-4
-    returns
-    enum-told-2
-    slice-aggregate-put
-    put-requires
     same-length-5
+    returns-2
+    enum-told-2
+    slice-aggregate-put-2
+    put-requires-2
+    add-result
     same-length-6
     same-length-7
     same-length-8
-    returns-2
+    same-length-9
+    returns-3
     enum-known-r
     make-requires
     put-answer-requires
+    add-pos
     loop-less
     loop-again)

@@ -1,10 +1,7 @@
--- The digits are the definition's. Assumes nothing.
-use Rattle.strip.proofs.TextLaws.{digits-fit, put-digits}
-use mathlib.Core.Path.{_≡_, refl, sym, ap, _∙_}
-use Prim.Native.Nat.{ℕ, zero, suc, _+_, _*_, _-_, _<_, _≤_}
+-- Writes the digits into a local and stores them: the fewest digits are the definition's. Assumes nothing.
 use native.Mathlib.Omega.{arith}
 use borrow.Author.Needs.{needs}
-use lib.ListN.{length, getD}
+use Rattle.strip.proofs.TextLaws.{put-digits}
 use Rattle.strip.proofs.text.put_number.Statement.{statement}
 use Rattle.strip.proofs.text.put_number.Tie as tie
 
@@ -18,15 +15,13 @@ slice-aggregate-put : tie.Need-slice-aggregate-put
 slice-aggregate-put c = search needs
 
 put-requires : tie.Need-put-requires
-put-requires c κs =
-    let d = c .before .before .decimal in
-    (search needs, digits-fit _ (c .before .before .before .before .before .args .n) (d .result) (omega arith) (d .ensures .1 .0) (d .ensures .1 .1))
+put-requires c κs = tt
 
 same-length : tie.Need-same-length
 same-length c = search needs
 
 returns : tie.Need-returns
-returns c = put-digits (c .before .before .before .before .before .before .before .before .args .n) (c .before .before .before .before .before .decimal .result) (omega arith) (c .before .before .before .before .before .decimal .ensures .1 .0) (c .before .before .before .before .before .decimal .ensures .1 .1) (c .before .before .put .ensures)
+returns c = let d = c .before .before .before .before .before .decimal in put-digits (c .before .before .before .before .before .before .before .before .args .n) (d .result) (omega arith) (d .ensures .1 .0) (d .ensures .1 .1) (c .before .before .put .ensures)
 
 pub put-number-spec : {M : Type 1} → statement M
 put-number-spec =

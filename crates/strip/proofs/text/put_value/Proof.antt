@@ -1,13 +1,9 @@
--- `nan`, or the sixteen digits. Assumes nothing.
+-- Stores `nan`, or the bits' sixteen digits from a local: sixteen places hold any u64. Assumes nothing.
+use mathlib.Core.Path.{sym, subst}
 use lib.Dec.{T}
-use lib.Ieee.{toBits, binary64}
-use Rattle.strip.proofs.TextLaws.{hex-fit, bits-lt, put-bits, put-nan}
-use Rattle.arithmetic.proofs.ByteLaws.{has-bits}
-use mathlib.Core.Path.{_≡_, refl, sym, ap, _∙_, subst}
-use Prim.Native.Nat.{ℕ, zero, suc, _+_, _*_, _-_, _<_, _≤_}
-use native.Mathlib.Omega.{arith}
 use borrow.Author.Needs.{needs}
-use lib.ListN.{length, getD}
+use Rattle.arithmetic.proofs.ByteLaws.{has-bits}
+use Rattle.strip.proofs.TextLaws.{bits-lt, put-bits, put-nan}
 use Rattle.strip.proofs.text.put_value.Statement.{statement}
 use Rattle.strip.proofs.text.put_value.Tie as tie
 
@@ -15,7 +11,7 @@ slice-aggregate-put : tie.Need-slice-aggregate-put
 slice-aggregate-put c = search needs
 
 put-requires : tie.Need-put-requires
-put-requires c κs = search needs
+put-requires c κs = tt
 
 same-length : tie.Need-same-length
 same-length c = search needs
@@ -36,15 +32,15 @@ slice-aggregate-put-2 : tie.Need-slice-aggregate-put-2
 slice-aggregate-put-2 c = search needs
 
 put-requires-2 : tie.Need-put-requires-2
-put-requires-2 c κs =
-    let d = c .before .before .hex in
-    (search needs, hex-fit _ (toBits binary64 (c .before .before .before .before .before .before .args .v)) (d .result) (bits-lt _ (subst T (sym (c .before .before .before .before .before .before .good .1 .1 .0 .1)) tt)) (d .ensures .1 .0) (d .ensures .1 .1))
+put-requires-2 c κs = tt
 
 same-length-2 : tie.Need-same-length-2
 same-length-2 c = search needs
 
 returns-2 : tie.Need-returns-2
-returns-2 c = put-bits (c .before .before .before .before .before .before .before .before .before .args .v) (c .before .before .before .before .before .hex .result) (c .before .before .before .before .before .before .before .if1 .left) (bits-lt _ (subst T (sym (c .before .before .before .before .before .before .before .before .before .good .1 .1 .0 .1)) tt)) (c .before .before .before .before .before .hex .ensures .1 .0) (c .before .before .before .before .before .hex .ensures .1 .1) (c .before .before .put2 .ensures)
+returns-2 c =
+    let d = c .before .before .before .before .before .hex in
+    put-bits (c .before .before .before .before .before .before .before .before .before .args .v) (d .result) (c .before .before .before .before .before .before .before .if1 .left) (bits-lt _ (subst T (sym (c .before .before .before .before .before .before .before .before .before .good .1 .1 .0 .1)) tt)) (d .ensures .1 .0) (d .ensures .1 .1) (c .before .before .put2 .ensures)
 
 pub put-value-spec : {M : Type 1} → statement M
 put-value-spec =
