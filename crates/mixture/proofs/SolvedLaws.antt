@@ -25,7 +25,8 @@ use Rattle.models.proofs.ExponentialLaws.{energy-row}
 use Rattle.models.proofs.WilsonLaws.{wilson-same}
 use Rattle.models.proofs.UniquacLaws.{uniquac-same}
 use Rattle.models.proofs.NrtlLaws.{nonrandomness-same, nonrandomness-row, nrtl-same}
-use Rattle.models.proofs.UnifacLaws.{psi-same, psi-at, five-from}
+use Rattle.models.proofs.ParameterLaws.{five-from}
+use Rattle.models.proofs.UnifacLaws.{psi-same, psi-at}
 use Rattle.mixture.specs.declared.head.Model.the-variants.{Wilson, Uniquac, Nrtl, Unifac}
 use Rattle.mixture.specs.Refills.{rowCell, staleCell, Refilled, Solved}
 use Rattle.mixture.proofs.PlaceLaws.{both}

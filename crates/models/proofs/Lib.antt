@@ -2,6 +2,7 @@ pub mod ListLaws
 pub mod UnifacLaws
 pub mod AnswerLaws
 pub mod ExponentialLaws
+pub mod ParameterLaws
 pub mod WilsonLaws
 pub mod ColumnLaws
 pub mod NrtlLaws

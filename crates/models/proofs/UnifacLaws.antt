@@ -29,6 +29,7 @@ use Rattle.models.specs.UnifacSteps.{psiBy, Shares, lnFrom}
 use Rattle.models.specs.Values.{start, fiveAt, countsAt, groupRs, groupQs, groupAs, lists}
 use Rattle.models.proofs.AnswerLaws.{quantity-ln, quantity-gamma, quantity-excess, quantity-same}
 use Rattle.models.proofs.ExponentialLaws.{each-filled}
+use Rattle.models.proofs.ParameterLaws.{five-from}
 use Rattle.models.proofs.ListLaws.{start-same, list-place, listed-less, list-group}
 
 -- ---- an exponential
@@ -42,15 +43,6 @@ psi-same a b T U m k p q = rw (p, q)
 pub psi-at : (row : List Float) (T : Float) {L : Float} (m k : ℕ) → L ≡ logOf T → psiBy row T L k ≡ groupEnergy (λ m k. tdAt (fiveAt row (k * 5)) T) T m k
 unfolding psiBy groupEnergy tdAt
 psi-at row T m k ln = rw ln
-
--- the five of an entry, in the part that starts at s
-pub five-from : (l : List Float) (s k : ℕ) → s + k + 5 ≤ length l → fiveAt (from s l) k ≡ fiveAt l (s + k)
-unfolding fiveAt
-five-from l s k h =
-    rw (from-at l s k (omega arith), next 1 (omega arith), next 2 (omega arith), next 3 (omega arith), next 4 (omega arith))
-  where
-    next : (d : ℕ) → d < 5 → at (from s l) (k + d) ≡ at l (s + k + d)
-    next d b = from-at l s (k + d) (omega arith) ∙ ap (at l) (omega arith)
 
 -- ---- the table: a at T, then the arguments, then exp of each place
 
