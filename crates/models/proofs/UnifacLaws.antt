@@ -14,9 +14,9 @@ use Rattle.arithmetic.specs.Exponential.{expOf}
 use Rattle.arithmetic.specs.Logarithm.{logOf}
 use Rattle.arithmetic.specs.Parameters.{tdAt}
 use Rattle.arithmetic.specs.Sums.{fold, sum}
-use Rattle.arithmetic.specs.Tables.{at, grid, from, flat, Filled, upTo}
+use Rattle.arithmetic.specs.Tables.{at, grid, from, flat, Filled}
 use Rattle.arithmetic.proofs.SumLaws.{fold-same, sum-same}
-use Rattle.arithmetic.proofs.TableLaws.{row-end, filled-cell, from-at}
+use Rattle.arithmetic.proofs.TableLaws.{row-end, filled-as, filled-cell, from-at}
 use Rattle.models.specs.declared.answers.Quantity.{Quantity}
 use Rattle.models.specs.declared.answers.Quantity.the-variants.{LnGamma, Gamma, ExcessGibbs}
 use Rattle.models.specs.declared.unifac.Shared.{Shared}
@@ -28,7 +28,6 @@ use Rattle.models.specs.Unifac.{Groups, size, sizeSum, combinatorialBy, 
 use Rattle.models.specs.UnifacSteps.{psiBy, Shares, lnFrom}
 use Rattle.models.specs.Values.{start, fiveAt, countsAt, groupRs, groupQs, groupAs, lists}
 use Rattle.models.proofs.AnswerLaws.{quantity-ln, quantity-gamma, quantity-excess, quantity-same}
-use Rattle.models.proofs.ExponentialLaws.{each-filled}
 use Rattle.models.proofs.ParameterLaws.{five-from}
 use Rattle.models.proofs.ListLaws.{start-same, list-place, listed-less, list-group}
 
@@ -46,11 +45,11 @@ psi-at row T m k ln = rw ln
 
 -- ---- the table: a at T, then the arguments, then exp of each place
 
-pub table-filled : (ng : ℕ) (values : List Float) (T : Float) (old : ℕ → Float) {p : ℕ} {g g′ : List Float} → countsAt ng ≤ length values → ng * ng ≤ p →
-    Filled (λ k. neg (tdAt (fiveAt (from (ng + ng) values) (k * 5)) T) ⊘ T) (ng * ng) g → Filled (upTo (ng * ng) (λ k. expOf (at g k)) old) p g′ →
+pub table-filled : (ng : ℕ) (values : List Float) (T : Float) {g g′ : List Float} → countsAt ng ≤ length values →
+    Filled (λ k. tdAt (fiveAt (from (ng + ng) values) (k * 5)) T) (ng * ng) g → Filled (λ k. expOf (neg (at g k) ⊘ T)) (ng * ng) g′ →
     Filled (flat ng (groupEnergy (λ m k. tdAt (groupAs ng values m k) T) T)) (ng * ng) g′
 unfolding flat groupEnergy groupAs countsAt
-table-filled ng values T old h l args all = each-filled expOf (ng * ng) old l entry args all
+table-filled ng values T h a all = filled-as (λ k b. ap (λ (v : Float). expOf (neg v ⊘ T)) (a .each k b) ∙ entry k b) all
   where
     entry : (k : ℕ) → k < ng * ng → expOf (neg (tdAt (fiveAt (from (ng + ng) values) (k * 5)) T) ⊘ T) ≡ expOf (neg (tdAt (fiveAt values (ng + ng + (k / ng * ng + k % ng) * 5)) T) ⊘ T)
     entry k b = rw (five-from values (ng + ng) (k * 5) (omega arith), div-add-mod' k ng)

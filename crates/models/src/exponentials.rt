@@ -28,6 +28,15 @@ fn fill_arguments(row: &[f64], t: f64, n: usize, i: usize, out: &mut [f64])
     }
 }
 
+// Writes a row of exponentials, the diagonal's as well.
+pub fn fill_row(row: &[f64], t: f64, n: usize, i: usize, out: &mut [f64])
+    requires { ⌜ (n ≤ length (now row)) × (n ≤ length (now out)) × (i < n) ⌝ }
+    ensures { λ _. ⌜ Filled (E·energy (λ _. at (now (row .entry))) t i) n (now (out .exit)) ⌝ }
+{
+    fill_arguments(row, t, n, i, out);
+    arithmetic::exp_each(out, n);
+}
+
 // Writes the table of a model whose values begin with its energies: every argument first, then exp of them all at once.
 pub fn fill_energies(values: &[f64], t: f64, n: usize, out: &mut [f64])
     requires { ⌜ (n ≤ 12) × (n * n ≤ length (now values)) × (n * n ≤ length (now out)) ⌝ }

@@ -46,7 +46,7 @@ pub fn exponential(alpha: f64, tau: f64) -> f64
 }
 
 // Writes the first count entries of G, those of the diagonal as well, which no sum reads: every argument first, then exp of them all at once.
-fn fill_exponentials(alpha: &[f64], tau: &[f64], count: usize, out: &mut [f64])
+pub fn fill_exponentials(alpha: &[f64], tau: &[f64], count: usize, out: &mut [f64])
     requires { ⌜ (count ≤ length (now alpha)) × (count ≤ length (now tau)) × (count ≤ length (now out)) ⌝ }
     ensures { λ _. ⌜ Filled (λ k. expOf (neg (at (now (alpha .entry)) k) ⊗ at (now (tau .entry)) k)) count (now (out .exit)) ⌝ }
 {

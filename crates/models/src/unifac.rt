@@ -2,6 +2,8 @@
 ghost use mathlib.Core.Path.{_≡_};
 ghost use Prim.Native.Nat.{_+_, _*_, _≤_, _<_};
 ghost use lib.ListN.{length};
+ghost use lib.Ieee.{neg};
+ghost use Rattle.arithmetic.specs.Exponential.{expOf};
 ghost use Rattle.arithmetic.specs.Floats.{_⊗_, _⊘_};
 ghost use Rattle.arithmetic.specs.Sums.{sum};
 ghost use Rattle.arithmetic.specs.Parameters.{tdAt};
@@ -28,7 +30,27 @@ pub fn psi(row: &[f64], t: f64, ln: f64, k: usize) -> f64
     arithmetic::exp(-a.value_by(t, ln) / t)
 }
 
-// Writes Ψ by full rows of ng: a at T, then every argument, then exp of them all at once.
+// Each of the first count places takes exp(-place/t): every argument first, then exp of them all at once.
+fn exp_over(out: &mut [f64], count: usize, t: f64)
+    requires { ⌜ count ≤ length (now out) ⌝ }
+    ensures { λ _. ⌜ Filled (λ k. expOf (neg (at (now (out .entry)) k) ⊘ t)) count (now (out .exit)) ⌝ }
+{
+    for k in 0..count {
+        out[k] = -out[k] / t;
+    }
+    arithmetic::exp_each(out, count);
+}
+
+// Writes a row of Ψ to the first ng places of out; ln is log(T).
+pub fn fill_row(row: &[f64], t: f64, ln: f64, ng: usize, out: &mut [f64])
+    requires { ⌜ (ng ≤ 32) × (ng * 5 ≤ length (now row)) × (ng ≤ length (now out)) ⌝ }
+    ensures { λ _. ⌜ Filled (psiBy (now (row .entry)) t ln) ng (now (out .exit)) ⌝ }
+{
+    crate::parameters::fill_block(row, ng, t, ln, out);
+    exp_over(out, ng, t);
+}
+
+// Writes Ψ by full rows of ng: a at T, then exp of them all at once.
 fn fill_table(values: &[f64], t: f64, ng: usize, table: &mut [f64])
     requires { ⌜ (ng ≤ 32) × (countsAt ng ≤ length (now values)) × (ng * ng ≤ length (now table)) ⌝ }
     ensures { λ _. ⌜ Filled (flat ng (groupEnergy (λ m k. tdAt (groupAs ng (now (values .entry)) m k) t) t)) (ng * ng) (now (table .exit)) ⌝ }
@@ -36,10 +58,7 @@ fn fill_table(values: &[f64], t: f64, ng: usize, table: &mut [f64])
     let five = ng + ng;
     let count = ng * ng;
     crate::parameters::fill_values(&values[five..], count, t, table);
-    for k in 0..count {
-        table[k] = -table[k] / t;
-    }
-    arithmetic::exp_each(table, count);
+    exp_over(table, count, t);
 }
 
 // Θ of each group from the group fractions.
