@@ -2,8 +2,8 @@
 use mathlib.Core.Path.{_≡_, refl, sym, ap, _∙_}
 use mathlib.Core.Bool.{Bool}
 use mathlib.Core.List.{List}
-use Prim.Native.Nat.{ℕ, zero, suc, _+_, _*_, _/_, _%_, _<_, _≤_}
-use native.Mathlib.Nat.{mod-lt, div-lt-iff-lt-mul, mul-assoc}
+use Prim.Native.Nat.{ℕ, zero, suc, _+_, _*_, _-_, _/_, _%_, _<_, _≤_}
+use native.Mathlib.Nat.{mod-lt, div-lt-iff-lt-mul, mul-assoc, mul-le-mul, mul-le-mul-right}
 use native.Mathlib.Omega.{arith}
 use borrow.Author.Tests.{ltb-true}
 use lib.Dec.{ltb}
@@ -28,9 +28,19 @@ use Rattle.models.proofs.NrtlLaws.{nonrandomness-same, nonrandomness-row, nrtl-
 use Rattle.models.proofs.ParameterLaws.{five-from}
 use Rattle.models.proofs.UnifacLaws.{psi-same, psi-at}
 use Rattle.mixture.specs.declared.head.Model.the-variants.{Wilson, Uniquac, Nrtl, Unifac}
+use Rattle.mixture.specs.Memory.{leastValues, leastCells, leastMarks}
 use Rattle.mixture.specs.Refills.{rowCell, staleCell, Refilled, Solved}
 use Rattle.mixture.proofs.PlaceLaws.{both}
 use Rattle.mixture.proofs.RefillLaws.{among, written-same}
+
+-- a table of n·n energies, n few, is within memory of the least lengths, and so are its cells and marks
+pub energies-within : (n lv lc lm : ℕ) → n ≤ 12 → leastValues ≤ lv → leastCells ≤ lc → leastMarks ≤ lm
+    → (n ≤ 32) × ((n - 1) * n + n * 5 ≤ lv) × ((n - 1) * n + n ≤ lv) × (n * n ≤ lc) × (n * n ≤ lm)
+unfolding leastValues leastCells leastMarks
+energies-within n lv lc lm few v c m =
+    let s : n * n ≤ 144 = mul-le-mul few few in
+    let r : (n - 1) * n ≤ n * n = mul-le-mul-right n (omega arith) in
+    (omega arith, omega arith, omega arith, omega arith, omega arith)
 
 -- ---- equal entries
 
