@@ -21,7 +21,7 @@ use Rattle.mixture.specs.declared.head.Model.the-variants.{Wilson, Uniqu
 use Rattle.mixture.specs.Names.{byModel}
 use Rattle.mixture.specs.Lists.{written, howMany}
 use Rattle.mixture.specs.Refills.{rowCell, staleCell, Refilled}
-use Rattle.mixture.proofs.ListLaws.{length-written, getD-written, getD-kept, howMany-add, howMany-same}
+use Rattle.mixture.proofs.ListLaws.{never, length-written, getD-written, getD-kept, howMany-add, howMany-same}
 
 -- ---- a writable part, back
 
@@ -311,3 +311,17 @@ refilled-fresh n p f cells marks h =
   where
     nowhere : (c : ℕ) → among n p c ≡ false
     nowhere c = elim (le-or n c) [ inl b ↦ among-past n p c b | inr b ↦ among-in n p c b ∙ h c b ]
+
+-- ---- equal exponentials
+
+among-below : (n : ℕ) (p : ℕ → Bool) (c : ℕ) → among n p c ≡ true → c < n
+among-below n p c t = elim (le-or n c) [ inl b ↦ never (sym t ∙ among-past n p c b) | inr b ↦ b ]
+
+pub refilled-as : (n : ℕ) (p : ℕ → Bool) (f g : ℕ → Float) (cells : List Float) (marks : List ℕ) {cells′ : List Float} {marks′ : List ℕ} {r : ℕ} → ((c : ℕ) → c < n → f c ≡ g c)
+    → Refilled n p f cells marks cells′ marks′ r → Refilled n p g cells marks cells′ marks′ r
+refilled-as n p f g cells marks e r =
+    record {
+      worked = r .worked ∙ written-same (among n p) (among n p) f g cells (λ c b. refl) (λ c b t. e c (among-below n p c t));
+      marked = r .marked;
+      counted = r .counted;
+    }

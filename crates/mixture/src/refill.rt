@@ -3,7 +3,7 @@ ghost use mathlib.Core.Path.{_≡_};
 ghost use mathlib.Core.Bool.{true, false};
 ghost use Prim.Native.Nat.{ℕ, _+_, _*_, _-_, _/_, _%_, _≤_, _<_};
 ghost use lib.ListN.{length, getD};
-ghost use Rattle.arithmetic.specs.Tables.{from};
+ghost use Rattle.arithmetic.specs.Tables.{at, from, Filled};
 ghost use Rattle.mixture.specs.Lists.{howMany};
 ghost use Rattle.mixture.specs.Refills.{rowCell, staleCell, unmarked, Refilled};
 use crate::head::Model;
@@ -41,8 +41,8 @@ fn is_stale(model: Model, mark: u8, i: usize, j: usize) -> bool
     }
 }
 
-// Works out the stale cells of row i, and counts them. All four slices start at that row.
-fn refill_row(
+// Works out the stale cells of row i one by one, and counts them. All four slices start at that row.
+fn refill_cells(
     model: Model,
     w: usize,
     i: usize,
@@ -79,6 +79,92 @@ fn count_unmarked(marks: &[u8], n: usize) -> u16
         }
     }
     count
+}
+
+// Writes the exponentials of row i, the diagonal's as well. The slices are those of `exponential`.
+fn fill_row(
+    model: Model,
+    w: usize,
+    i: usize,
+    row: &[f64],
+    tau: &[f64],
+    t: f64,
+    ln: f64,
+    out: &mut [f64],
+)
+    requires { ⌜ (i < w) × (w ≤ 32) × (w * 5 ≤ length (now row)) × (w ≤ length (now tau)) × (w ≤ length (now out)) ⌝ }
+    ensures { λ _. ⌜ Filled (rowCell model (now (row .entry)) (now (tau .entry)) t ln i) w (now (out .exit)) ⌝ }
+{
+    match model {
+        Model::Wilson => models::exponentials::fill_row(row, t, w, i, out),
+        Model::Uniquac => models::exponentials::fill_row(row, t, w, i, out),
+        Model::Nrtl => models::nrtl::fill_exponentials(row, tau, w, out),
+        Model::Unifac => models::unifac::fill_row(row, t, ln, w, out),
+    }
+}
+
+// Takes the stale cells of row i over from its exponentials, and counts them.
+fn take_stale(
+    model: Model,
+    w: usize,
+    i: usize,
+    worked: &[f64],
+    cells: &mut [f64],
+    marks: &mut [u8],
+) -> usize
+    requires { ⌜ (w ≤ length (now worked)) × (w ≤ length (now cells)) × (w ≤ length (now marks)) ⌝ }
+    ensures { λ r. ⌜ Refilled w (λ j. staleCell model (getD (now (marks .entry)) j 0) i j) (at (now (worked .entry))) (now (cells .entry)) (now (marks .entry)) (now (cells .exit)) (now (marks .exit)) r ⌝ }
+{
+    let mut count: usize = 0;
+    for j in 0..w {
+        if is_stale(model, marks[j], i, j) {
+            cells[j] = worked[j];
+            marks[j] = 1;
+            count += 1;
+        }
+    }
+    count
+}
+
+// Works out row i at once, and takes its stale cells over.
+fn refill_at_once(
+    model: Model,
+    w: usize,
+    i: usize,
+    row: &[f64],
+    tau: &[f64],
+    t: f64,
+    ln: f64,
+    cells: &mut [f64],
+    marks: &mut [u8],
+) -> usize
+    requires { ⌜ (i < w) × (w ≤ 32) × (w * 5 ≤ length (now row)) × (w ≤ length (now tau)) × (w ≤ length (now cells)) × (w ≤ length (now marks)) ⌝ }
+    ensures { λ r. ⌜ Refilled w (λ j. staleCell model (getD (now (marks .entry)) j 0) i j) (rowCell model (now (row .entry)) (now (tau .entry)) t ln i) (now (cells .entry)) (now (marks .entry)) (now (cells .exit)) (now (marks .exit)) r ⌝ }
+{
+    let mut worked = [0.0; 32];
+    fill_row(model, w, i, row, tau, t, ln, &mut worked[..]);
+    take_stale(model, w, i, &worked[..], cells, marks)
+}
+
+// Works out the stale cells of row i, and counts them: one by one where there are one or two, else the row at once.
+fn refill_row(
+    model: Model,
+    w: usize,
+    i: usize,
+    row: &[f64],
+    tau: &[f64],
+    t: f64,
+    ln: f64,
+    cells: &mut [f64],
+    marks: &mut [u8],
+) -> usize
+    requires { ⌜ (i < w) × (w ≤ 32) × (w * 5 ≤ length (now row)) × (w ≤ length (now tau)) × (w ≤ length (now cells)) × (w ≤ length (now marks)) ⌝ }
+    ensures { λ r. ⌜ Refilled w (λ j. staleCell model (getD (now (marks .entry)) j 0) i j) (rowCell model (now (row .entry)) (now (tau .entry)) t ln i) (now (cells .entry)) (now (marks .entry)) (now (cells .exit)) (now (marks .exit)) r ⌝ }
+{
+    if count_unmarked(marks, w) < 3 {
+        return refill_cells(model, w, i, row, tau, t, ln, cells, marks);
+    }
+    refill_at_once(model, w, i, row, tau, t, ln, cells, marks)
 }
 
 // How many marks on the diagonal of w rows are other than 1.

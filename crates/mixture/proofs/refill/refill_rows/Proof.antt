@@ -90,7 +90,9 @@ refill-row-requires c κs =
     let turn = c .before .before .before .before in
     let a = entry turn .args in
     let p = entry turn .pre in
-    turn-lent (a .model) (a .w) (a .stride) (turn .before .loop .i) (now (a .table)) (now (a .tau)) (a .t) (a .ln) (now (a .cells)) (now (a .marks)) (turn .loop-test .taken) (p .3) (p .4) (turn .before .loop .inv .1) (p .1) (p .2)
+    let lent =
+    turn-lent (a .model) (a .w) (a .stride) (turn .before .loop .i) (now (a .table)) (now (a .tau)) (a .t) (a .ln) (now (a .cells)) (now (a .marks)) (turn .loop-test .taken) (p .3) (p .4) (turn .before .loop .inv .1) (p .1) (p .2) in
+    (lent .0, p .0, lent .1, lent .2, lent .3, lent .4)
 
 add-count : tie.Need-add-count Inv-loop μ-loop
 add-count c =

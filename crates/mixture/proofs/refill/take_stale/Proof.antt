@@ -1,22 +1,22 @@
--- The loop has worked out the stale cells below j; the mark that it reads next is still the old one. Assumes nothing.
+-- The loop has taken over the stale cells below j; the mark that it reads next is still the old one. Assumes nothing.
 use mathlib.Core.Path.{refl}
 use Prim.Native.Nat.{_-_, _≤_}
 use native.Mathlib.Omega.{arith}
-use borrow.Author.Needs.{needs}
 use lib.ListN.{getD}
 use mathlib.Core.Logic.{⊎-elim}
 use native.Mathlib.Nat.{le-antisymm}
-use Rattle.mixture.specs.Refills.{rowCell, staleCell, Refilled}
+use Rattle.arithmetic.specs.Tables.{at}
+use Rattle.mixture.specs.Refills.{staleCell, Refilled}
 use Rattle.mixture.proofs.RefillLaws.{refilled-none, refilled-length, refilled-count, row-more, row-skip}
-use Rattle.mixture.proofs.refill.refill_row.Statement.{statement}
-use Rattle.mixture.proofs.refill.refill_row.Tie as tie
+use Rattle.mixture.proofs.refill.take_stale.Statement.{statement}
+use Rattle.mixture.proofs.refill.take_stale.Tie as tie
 
 abbrev Inv-loop : tie.InvT-loop
-Inv-loop model w i row tau t ln cells₀ marks₀ count₀ j₀ cells marks count j =
-    (j ≤ w) × Refilled j (λ k. staleCell model (getD marks₀ k 0) i k) (rowCell model row tau t ln i) cells₀ marks₀ cells marks count
+Inv-loop model w i worked cells₀ marks₀ count₀ j₀ cells marks count j =
+    (j ≤ w) × Refilled j (λ k. staleCell model (getD marks₀ k 0) i k) (at worked) cells₀ marks₀ cells marks count
 
 abbrev μ-loop : tie.MeasureT-loop
-μ-loop model w i row tau t ln cells₀ marks₀ count₀ j₀ cells marks count j = w - j
+μ-loop model w i worked cells₀ marks₀ count₀ j₀ cells marks count j = w - j
 
 loop-holds : tie.Need-loop-holds Inv-loop μ-loop
 loop-holds c = (omega arith, refilled-none _ _ _ _ _ refl)
@@ -27,11 +27,14 @@ slice-read-is-stale c = omega (arith, refilled-length _ _ _ _ _ (c .before .befo
 is-stale-requires : tie.Need-is-stale-requires Inv-loop μ-loop
 is-stale-requires c κs = tt
 
-exponential-requires : tie.Need-exponential-requires Inv-loop μ-loop
-exponential-requires c κs = search needs
-
 mul-cells : tie.Need-mul-cells Inv-loop μ-loop
 mul-cells c = omega arith
+
+shared-slice-read-cells : tie.Need-shared-slice-read-cells Inv-loop μ-loop
+shared-slice-read-cells c = omega arith
+
+mul-cells-2 : tie.Need-mul-cells-2 Inv-loop μ-loop
+mul-cells-2 c = omega arith
 
 slice-write-cells : tie.Need-slice-write-cells Inv-loop μ-loop
 slice-write-cells c = omega (arith, refilled-length _ _ _ _ _ (c .before .before .before .before .before .loop .inv .1))
@@ -54,7 +57,7 @@ loop-again c =
     let told = c .before .is-stale .ensures in (
       omega arith,
       ⊎-elim
-          (λ w. row-more _ _ _ _ _ _ (turn .before .loop .inv .1) told (w .0 .taken) (omega arith) (omega arith) (w .1 .ensures) (w .2) (w .3) (w .4))
+          (λ w. row-more _ _ _ _ _ _ (turn .before .loop .inv .1) told (w .0 .taken) (omega arith) (omega arith) refl (w .2) (w .3) (w .4))
           (λ w. row-skip _ _ _ _ _ _ (turn .before .loop .inv .1) told (w .0 .left) (w .1) (w .2) (w .3)) (c .if1 .came),
     )
 
@@ -67,8 +70,8 @@ same-length-2 c = refilled-length _ _ _ _ _ (c .before .loop .inv .1) .1
 returns : tie.Need-returns Inv-loop μ-loop
 returns c = rw (← le-antisymm (c .before .loop .inv .0) (c .loop-test .left)) (c .before .loop .inv .1)
 
-pub refill-row-spec : {M : Type 1} → statement M
-refill-row-spec =
+pub take-stale-spec : {M : Type 1} → statement M
+take-stale-spec =
     tie.close
     (tie.spec
     Inv-loop
@@ -76,8 +79,9 @@ refill-row-spec =
     loop-holds
     slice-read-is-stale
     is-stale-requires
-    exponential-requires
     mul-cells
+    shared-slice-read-cells
+    mul-cells-2
     slice-write-cells
     slice-write-marks
     add-count
