@@ -24,7 +24,7 @@ use Rattle.models.specs.Answers.{indexFault, quantity}
 use Rattle.models.specs.Columns.{columnSum}
 use Rattle.models.specs.Exponentials.{groupEnergy}
 use Rattle.models.specs.Lists.{Listed, Loaded}
-use Rattle.models.specs.Unifac.{Groups, size, sizeSum, combinatorialBy, combinatorial, counts, amount, amounts, fraction, pureCount, pureFraction, theta, lnGroup, mixed, pure, residual, lnGamma, excess, unifac, unifacAt}
+use Rattle.models.specs.Unifac.{Groups, size, sizeSum, combinatorial, counts, amount, amounts, fraction, pureCount, pureFraction, theta, lnGroup, mixed, pure, residual, lnGamma, excess, unifac, unifacAt}
 use Rattle.models.specs.UnifacSteps.{psiBy, Shares, lnFrom}
 use Rattle.models.specs.Values.{start, fiveAt, countsAt, groupRs, groupQs, groupAs, lists}
 use Rattle.models.proofs.AnswerLaws.{quantity-ln, quantity-gamma, quantity-excess, quantity-same}
@@ -194,12 +194,10 @@ shares-from n ng c R Q Ψ x rAll qAll rSum qSum gAll = record {
   groups = gAll;
 }
 
--- what `ln_gamma` puts together: g has the pure ln Γ of component i
-pub ln-from : (s : Shared) (c : Groups) (P : ℕ → ℕ → Float) (i ng : ℕ) {g : List Float} {u v : Float} → SameList ng c c i →
-    u ≡ combinatorialBy (at (s .q) i) (at (s .r) i ⊘ s .rs) (at (s .q) i ⊘ s .qs) → v ≡ residual c (at (s .gamma)) (λ j. at g) i → Filled (P i) ng g →
-    u ⊕ v ≡ lnFrom s c P i
-unfolding lnFrom
-ln-from s c P i ng {g} l p q all = rw (p, q, residual-same l (at (s .gamma)) (at (s .gamma)) (λ j. at g) P (λ k b. refl) (all .each))
+-- what `ln_gamma_by` puts together: g has the pure ln Γ of component i
+pub ln-by : (c : Groups) (M : ℕ → Float) (P : ℕ → ℕ → Float) (i ng : ℕ) {g : List Float} {u v w : Float} → SameList ng c c i →
+    u ≡ w → v ≡ residual c M (λ j. at g) i → Filled (P i) ng g → u ⊕ v ≡ w ⊕ residual c M P i
+ln-by c M P i ng {g} l p q all = rw (p, q, residual-same l M M (λ j. at g) P (λ k b. refl) (all .each))
 
 module _ (n ng : ℕ) (c : Groups) (R Q : ℕ → Float) (Ψ : ℕ → ℕ → Float) (x : ℕ → Float) {s : Shared} (all : Shares n ng c R Q Ψ x s) (lists : (i : ℕ) → i < n → SameList ng c c i) where
   ln-shared : (P : ℕ → ℕ → Float) (i : ℕ) → i < n → lnFrom s c P i ≡ lnGamma n ng c R Q Ψ P x i

@@ -4,7 +4,7 @@ ghost use Prim.Native.Nat.{_+_, _*_, _≤_, _<_};
 ghost use lib.ListN.{length};
 ghost use lib.Ieee.{neg};
 ghost use Rattle.arithmetic.specs.Exponential.{expOf};
-ghost use Rattle.arithmetic.specs.Floats.{_⊗_, _⊘_};
+ghost use Rattle.arithmetic.specs.Floats.{_⊕_, _⊗_, _⊘_};
 ghost use Rattle.arithmetic.specs.Sums.{sum};
 ghost use Rattle.arithmetic.specs.Parameters.{tdAt};
 ghost use Rattle.arithmetic.specs.Tables.{at, grid, flat, from, Filled};
@@ -13,7 +13,7 @@ ghost use Rattle.models.specs.Columns.{columnSum};
 ghost use Rattle.models.specs.Exponentials.{groupEnergy};
 ghost use Rattle.models.specs.Lists.{Listed, Loaded};
 ghost use Rattle.models.specs.Plain.{unifacFault, unifacPlain};
-ghost use Rattle.models.specs.Unifac.{theta as Unifac·theta, mixed as Unifac·mixed, pure as Unifac·pure, lnGroup, combinatorialBy, unifac, unifacAt};
+ghost use Rattle.models.specs.Unifac.{theta as Unifac·theta, mixed as Unifac·mixed, pure as Unifac·pure, lnGroup, combinatorialBy, residual, unifac, unifacAt};
 ghost use Rattle.models.specs.UnifacSteps.{psiBy, lnFrom, Shares};
 ghost use Rattle.models.specs.Values.{lists, countsAt, groupRs, groupQs, groupAs};
 use crate::answers::Answer;
@@ -197,7 +197,30 @@ fn share(
     }
 }
 
-// ln γ of component i from what the components share.
+// ln γ of component i from its sizes r and q, their sums over the fractions, and ln Γ of each group in the mixture.
+fn ln_gamma_by(
+    ri: f64,
+    qi: f64,
+    rs: f64,
+    qs: f64,
+    gamma: &[f64],
+    lens: &[u8],
+    groups: &[u8],
+    counts: &[f64],
+    q: &[f64],
+    psi: &[f64],
+    ng: usize,
+    i: usize,
+) -> f64
+    requires { ⌜ (Listed (i + 1) ng (now lens) (now groups) (now counts)) × (i < 12) × (ng ≤ 32) × (ng ≤ length (now q)) × (ng * ng ≤ length (now psi)) × (length (now gamma) ≡ 32) ⌝ }
+    ensures { λ r. ⌜ r ≡ combinatorialBy qi (ri ⊘ rs) (qi ⊘ qs) ⊕ residual (lists (now (lens .entry)) (now (groups .entry)) (now (counts .entry))) (at (now (gamma .entry))) (Unifac·pure ng (lists (now (lens .entry)) (now (groups .entry)) (now (counts .entry))) (at (now (q .entry))) (grid ng (now (psi .entry)))) i ⌝ }
+{
+    let gamma_p = pure(lens, groups, counts, q, psi, ng, i);
+    let resid = crate::groups::residual(lens, groups, counts, gamma, &gamma_p[..], i);
+    combinatorial(qi, ri / rs, qi / qs) + resid
+}
+
+// The same from what the components share.
 fn ln_gamma(
     s: Shared,
     lens: &[u8],
@@ -214,14 +237,23 @@ fn ln_gamma(
     let r_each = s.r;
     let q_each = s.q;
     let gamma = s.gamma;
-    let r_i = r_each[i];
-    let q_i = q_each[i];
-    let gamma_p = pure(lens, groups, counts, q, psi, ng, i);
-    let resid = crate::groups::residual(lens, groups, counts, &gamma[..], &gamma_p[..], i);
-    combinatorial(q_i, r_i / s.rs, q_i / s.qs) + resid
+    ln_gamma_by(
+        r_each[i],
+        q_each[i],
+        s.rs,
+        s.qs,
+        &gamma[..],
+        lens,
+        groups,
+        counts,
+        q,
+        psi,
+        ng,
+        i,
+    )
 }
 
-// The excess energy from what the components share.
+// The excess energy from what the components share. The loop hands on parts of it, not all of it by value.
 fn excess_gibbs(
     s: Shared,
     lens: &[u8],
@@ -236,9 +268,27 @@ fn excess_gibbs(
     requires { ⌜ (Listed n ng (now lens) (now groups) (now counts)) × (n ≤ 12) × (ng ≤ 32) × (ng ≤ length (now q)) × (ng * ng ≤ length (now psi)) × (n ≤ length (now x)) ⌝ }
     ensures { λ r. ⌜ r ≡ sum n (λ i. at (now (x .entry)) i ⊗ lnFrom s (lists (now (lens .entry)) (now (groups .entry)) (now (counts .entry))) (Unifac·pure ng (lists (now (lens .entry)) (now (groups .entry)) (now (counts .entry))) (at (now (q .entry))) (grid ng (now (psi .entry)))) i) ⌝ }
 {
+    let r_each = s.r;
+    let q_each = s.q;
+    let gamma = s.gamma;
     let mut total = 0.0;
     for i in 0..n {
-        total = total + x[i] * ln_gamma(s, lens, groups, counts, q, psi, ng, i);
+        total = total
+            + x[i]
+                * ln_gamma_by(
+                    r_each[i],
+                    q_each[i],
+                    s.rs,
+                    s.qs,
+                    &gamma[..],
+                    lens,
+                    groups,
+                    counts,
+                    q,
+                    psi,
+                    ng,
+                    i,
+                );
     }
     total
 }

@@ -1,7 +1,9 @@
--- The excess energy: the sum of x_i ln γ_i, one component after the other.
+-- The sum of x_i ln γ_i, one component after the other. Assumes nothing.
 use mathlib.Core.Path.{_≡_}
 use Prim.Native.Nat.{_-_, _≤_}
 use native.Mathlib.Omega.{arith}
+use borrow.Author.Needs.{needs}
+use lib.ListN.{length}
 use Rattle.arithmetic.specs.Tables.{at, grid}
 use Rattle.arithmetic.specs.Sums.{sum}
 use Rattle.arithmetic.specs.Floats.{_⊗_}
@@ -14,13 +16,15 @@ use Rattle.models.proofs.unifac.excess_gibbs.Statement.{statement}
 use Rattle.models.proofs.unifac.excess_gibbs.Tie as tie
 
 abbrev Inv-loop : tie.InvT-loop
-Inv-loop s lens groups counts q psi x n ng total₀ i₀ total i = (i ≤ n) × (total ≡ sum i (λ k. at x k ⊗ lnFrom s (lists lens groups counts) (pure ng (lists lens groups counts) (at q) (grid ng psi)) k))
+Inv-loop s lens groups counts q psi x n ng r-each q-each gamma total₀ i₀ total i =
+    (i ≤ n) × (length r-each ≡ 12) × (length q-each ≡ 12) × (length gamma ≡ 32)
+    × (total ≡ sum i (λ k. at x k ⊗ lnFrom s (lists lens groups counts) (pure ng (lists lens groups counts) (at q) (grid ng psi)) k))
 
 abbrev μ-loop : tie.MeasureT-loop
-μ-loop s lens groups counts q psi x n ng total₀ i₀ total i = n - i
+μ-loop s lens groups counts q psi x n ng r-each q-each gamma total₀ i₀ total i = n - i
 
 loop-holds : tie.Need-loop-holds Inv-loop μ-loop
-loop-holds c = (omega arith, sum-none _)
+loop-holds c = (omega arith, search needs, search needs, search needs, sum-none _)
 
 mul-total : tie.Need-mul-total Inv-loop μ-loop
 mul-total c = omega arith
@@ -28,10 +32,26 @@ mul-total c = omega arith
 shared-slice-read-total : tie.Need-shared-slice-read-total Inv-loop μ-loop
 shared-slice-read-total c = omega arith
 
-ln-gamma-requires : tie.Need-ln-gamma-requires Inv-loop μ-loop
-ln-gamma-requires c κs =
-    let start = c .before .before .before .before .before .before .before .before .before in
-    (listed-less (start .pre .0) (c .before .before .loop .i) (start .args .ng) (c .before .loop-test .taken) (omega arith), omega arith, start .pre .2, start .pre .3, start .pre .4)
+mul-ln-gamma-by : tie.Need-mul-ln-gamma-by Inv-loop μ-loop
+mul-ln-gamma-by c = omega arith
+
+array-read-ln-gamma-by : tie.Need-array-read-ln-gamma-by Inv-loop μ-loop
+array-read-ln-gamma-by c = omega arith
+
+mul-ln-gamma-by-2 : tie.Need-mul-ln-gamma-by-2 Inv-loop μ-loop
+mul-ln-gamma-by-2 c = omega arith
+
+array-read-ln-gamma-by-2 : tie.Need-array-read-ln-gamma-by-2 Inv-loop μ-loop
+array-read-ln-gamma-by-2 c = omega arith
+
+slice-aggregate-ln-gamma-by : tie.Need-slice-aggregate-ln-gamma-by Inv-loop μ-loop
+slice-aggregate-ln-gamma-by c = search needs
+
+ln-gamma-by-requires : tie.Need-ln-gamma-by-requires Inv-loop μ-loop
+ln-gamma-by-requires c κs =
+    let start = c .before .before .before .before .before .before .before .before .before .before .before .before .before in
+    let top = c .before .before .before in
+    (listed-less (start .pre .0) (top .loop .i) (start .args .ng) (c .before .before .loop-test .taken) (omega arith), omega arith, start .pre .2, start .pre .3, start .pre .4, top .loop .inv .3)
 
 add-i : tie.Need-add-i Inv-loop μ-loop
 add-i c = omega arith
@@ -40,10 +60,13 @@ loop-less : tie.Need-loop-less Inv-loop μ-loop
 loop-less c = omega arith
 
 loop-again : tie.Need-loop-again Inv-loop μ-loop
-loop-again c = (omega arith, sum-more _ _ (c .before .before .before .loop .inv .1) (rw (c .ln-gamma .ensures)))
+unfolding lnFrom
+loop-again c =
+    let inv = c .before .before .before .before .loop .inv in
+    (omega arith, inv .1, inv .2, inv .3, sum-more _ _ (inv .4) (rw (c .ln-gamma-by .ensures)))
 
 returns : tie.Need-returns Inv-loop μ-loop
-returns c = sum-done _ _ _ (c .before .loop .inv .1) (c .before .loop .inv .0) (c .loop-test .left)
+returns c = sum-done _ _ _ (c .before .loop .inv .4) (c .before .loop .inv .0) (c .loop-test .left)
 
 pub excess-gibbs-spec : {M : Type 1} → statement M
 excess-gibbs-spec =
@@ -54,7 +77,12 @@ excess-gibbs-spec =
     loop-holds
     mul-total
     shared-slice-read-total
-    ln-gamma-requires
+    mul-ln-gamma-by
+    array-read-ln-gamma-by
+    mul-ln-gamma-by-2
+    array-read-ln-gamma-by-2
+    slice-aggregate-ln-gamma-by
+    ln-gamma-by-requires
     add-i
     loop-less
     loop-again
