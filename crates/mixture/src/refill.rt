@@ -9,6 +9,9 @@ ghost use Rattle.mixture.specs.Refills.{rowCell, staleCell, unmarked, Re
 use crate::head::Model;
 use crate::parts::has_diagonal;
 
+// The mark of a fresh cell.
+const FRESH: u8 = 1;
+
 // Entry j of row i. `row` starts at the row's energies, α or td entries; `tau` at its τ at T, which only NRTL reads; ln is
 // log(T), which only UNIFAC reads.
 fn exponential(model: Model, row: &[f64], tau: &[f64], t: f64, ln: f64, i: usize, j: usize) -> f64
@@ -27,7 +30,7 @@ fn exponential(model: Model, row: &[f64], tau: &[f64], t: f64, ln: f64, i: usize
 fn is_stale(model: Model, mark: u8, i: usize, j: usize) -> bool
     ensures { λ r. ⌜ r ≡ staleCell model mark i j ⌝ }
 {
-    if mark == 1 {
+    if mark == FRESH {
         return false;
     }
     if i != j {
@@ -60,7 +63,7 @@ fn refill_cells(
     for j in 0..w {
         if is_stale(model, marks[j], i, j) {
             cells[j] = exponential(model, row, tau, t, ln, i, j);
-            marks[j] = 1;
+            marks[j] = FRESH;
             count += 1;
         }
     }
@@ -74,7 +77,7 @@ fn count_unmarked(marks: &[u8], n: usize) -> u16
 {
     let mut count: u16 = 0;
     for c in 0..n {
-        if marks[c] != 1 {
+        if marks[c] != FRESH {
             count += 1;
         }
     }
@@ -119,7 +122,7 @@ fn take_stale(
     for j in 0..w {
         if is_stale(model, marks[j], i, j) {
             cells[j] = worked[j];
-            marks[j] = 1;
+            marks[j] = FRESH;
             count += 1;
         }
     }
@@ -174,7 +177,7 @@ fn count_diagonal(marks: &[u8], w: usize) -> u16
 {
     let mut count: u16 = 0;
     for i in 0..w {
-        if marks[i * w + i] != 1 {
+        if marks[i * w + i] != FRESH {
             count += 1;
         }
     }
