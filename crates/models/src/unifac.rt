@@ -46,7 +46,7 @@ pub fn fill_row(row: &[f64], t: f64, ln: f64, ng: usize, out: &mut [f64])
     requires { ⌜ (ng ≤ 32) × (ng * 5 ≤ length (now row)) × (ng ≤ length (now out)) ⌝ }
     ensures { λ _. ⌜ Filled (psiBy (now (row .entry)) t ln) ng (now (out .exit)) ⌝ }
 {
-    crate::parameters::fill_block(row, ng, t, ln, out);
+    crate::parameters::fill_values_by(row, ng, t, ln, out);
     exp_over(out, ng, t);
 }
 

@@ -9,8 +9,8 @@ use Rattle.models.specs.UnifacSteps.{psiBy}
 use Rattle.models.proofs.unifac.fill_row.Statement.{statement}
 use Rattle.models.proofs.unifac.fill_row.Tie as tie
 
-fill-block-requires : tie.Need-fill-block-requires
-fill-block-requires c κs = search needs
+fill-values-by-requires : tie.Need-fill-values-by-requires
+fill-values-by-requires c κs = search needs
 
 exp-over-requires : tie.Need-exp-over-requires
 exp-over-requires c κs = search needs
@@ -24,7 +24,7 @@ returns c =
     let over = c .before .before in
     let t = c .before .before .before .before .before .before .before .before .before .before .args .t in
     let block = over .before .before .before .before in
-    filled-as (λ k b. ap (λ (v : Float). expOf (neg v ⊘ t)) (block .fill-block .ensures .each k b)) (over .exp-over .ensures)
+    filled-as (λ k b. ap (λ (v : Float). expOf (neg v ⊘ t)) (block .fill-values-by .ensures .each k b)) (over .exp-over .ensures)
 
 pub fill-row-spec : {M : Type 1} → statement M
-fill-row-spec = tie.close (tie.spec fill-block-requires exp-over-requires same-length returns)
+fill-row-spec = tie.close (tie.spec fill-values-by-requires exp-over-requires same-length returns)
