@@ -43,7 +43,8 @@ fn quotients(fives: &[f64], d: usize, m: usize, by: f64, out: &mut [f64])
     }
 }
 
-// The values of the first m entries, up to 32, in the order of `TdParam::value_by`: b/T stands in out before the sum, e/(T·T) beside it.
+// The values of the first m entries, up to 32, each summed in the order of `TdParam::value_by`: b/T is put into out before the
+// sum, e/(T·T) into an array of its own.
 pub fn fill_block(fives: &[f64], m: usize, t: f64, ln: f64, out: &mut [f64])
     requires { ⌜ (m * 5 ≤ length (now fives)) × (m ≤ length (now out)) × (m ≤ 32) ⌝ }
     ensures { λ _. ⌜ Filled (λ k. tdBy (fiveAt (now (fives .entry)) (k * 5)) t ln) m (now (out .exit)) ⌝ }
