@@ -1,4 +1,5 @@
--- Where v is easy, the whole number nearest to v over ln 2 is exp's k. Assumes nothing.
+-- u + 1.5·2^52 - 1.5·2^52 is a whole number, and where u is closer to it than the margin, u moved by a half away from zero is cut
+-- to it. Assumes nothing.
 use mathlib.Core.Path.{_≡_, refl, sym, ap, _∙_, subst}
 use mathlib.Core.Bool.{Bool, true, false, not, cond, true≢false}
 use mathlib.Core.Logic.{_⊎_, inl, inr}

@@ -1,5 +1,6 @@
--- The document's worked values, as one theorem over the definitions. antt computes an operation on two written-out numbers at once, but shares nothing:
--- an operation on the result of another computes that one many times over. So log 2 goes step by step, with each number written out. Assumes nothing.
+-- Document 01's worked values of exp and log, over the definitions. antt computes an operation on two written-out numbers at
+-- once, but shares nothing: an operation on the result of another computes that one many times over. So log 2 goes step by
+-- step, with each number written out. Assumes nothing.
 use mathlib.Core.Path.{_≡_, refl}
 use mathlib.Core.Bool.{true, false}
 use lib.IntN.{pos, negsuc}

@@ -150,7 +150,7 @@ fn careful_exp(v: f64) -> f64
     scaled(reduced(v, std::num::nearest_i64_to_f64(k)), k)
 }
 
-// k: v over ln 2, to the nearest whole number.
+// k: v over ln 2, moved by a half away from zero, cut toward zero.
 fn exponent(v: f64) -> i64
     requires { ⌜ T (not (isNan v)) × T (not (lt highest v)) × T (not (lt v lowest)) ⌝ }
     ensures { λ x. ⌜ x ≡ Exp·exponent v ⌝ }

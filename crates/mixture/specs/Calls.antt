@@ -1,4 +1,5 @@
--- The calls on lent memory: what each declines, and what it leaves of memory and head (document 01, "Mixture" and "What each call declines").
+-- The calls on lent memory: what each declines, and what it leaves of memory and head (document 01, "Mixture" and "What each
+-- call declines").
 use mathlib.Core.Bool.{Bool, true, false, not, _&&_, _||_, cond}
 use mathlib.Core.List.{List, [], _++_}
 use Prim.Native.Nat.{ℕ, _*_, _/_, _%_}

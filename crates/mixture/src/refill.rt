@@ -149,7 +149,8 @@ fn refill_at_once(
     take_stale(model, w, i, &worked[..], cells, marks)
 }
 
-// Works out the stale cells of row i, and counts them: one by one where there are one or two, else the row at once.
+// Works out the stale cells of row i, and counts them: one by one where fewer than three marks are other than 1, an unused
+// diagonal's too, else the row at once.
 fn refill_row(
     model: Model,
     w: usize,
@@ -184,7 +185,8 @@ fn count_diagonal(marks: &[u8], w: usize) -> u16
     count
 }
 
-// Whether no cell is stale: the marks are counted side by side; those of the diagonal, where it has no cells, are apart.
+// Whether no cell is stale: no mark is other than 1, or where the diagonal has no cells, only marks on it are. They are
+// counted, not looked for one by one.
 fn all_fresh(model: Model, w: usize, marks: &[u8]) -> bool
     requires { ⌜ (w ≤ 32) × (w * w ≤ length (now marks)) ⌝ }
     ensures { λ r. ⌜ (r ≡ true → (c : ℕ) → c < w * w → staleCell model (getD (now (marks .entry)) c 0) (c / w) (c % w) ≡ false) ⌝ }
@@ -230,7 +232,7 @@ fn refill_rows(
     count
 }
 
-// The same, at once where nothing is stale.
+// The same; where nothing is stale, no row is gone through.
 pub fn refill(
     model: Model,
     w: usize,

@@ -1,4 +1,5 @@
--- Document 01's worked values hold: exp and log by arithmetic's facts, the checks by computing each sum step by step. Assumes nothing.
+-- Document 01's worked values hold: exp and log by arithmetic's facts, the checks by computing each sum step by step.
+-- Assumes nothing.
 use mathlib.Core.Path.{_≡_, refl, _∙_}
 use mathlib.Core.Bool.{true, false}
 use mathlib.Core.List.{List, [], _∷_}

@@ -45,7 +45,8 @@ pub fn exponential(alpha: f64, tau: f64) -> f64
     arithmetic::exp(-alpha * tau)
 }
 
-// Writes the first count entries of G, those of the diagonal as well, which no sum reads: every argument first, then exp of them all at once.
+// Writes the first count entries of G, those of the diagonal as well, which no sum reads: every argument first, then exp of
+// them all at once.
 pub fn fill_exponentials(alpha: &[f64], tau: &[f64], count: usize, out: &mut [f64])
     requires { ⌜ (count ≤ length (now alpha)) × (count ≤ length (now tau)) × (count ≤ length (now out)) ⌝ }
     ensures { λ _. ⌜ Filled (λ k. expOf (neg (at (now (alpha .entry)) k) ⊗ at (now (tau .entry)) k)) count (now (out .exit)) ⌝ }

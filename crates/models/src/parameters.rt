@@ -31,6 +31,7 @@ pub fn fill_values_by(fives: &[f64], count: usize, t: f64, ln: f64, out: &mut [f
     }
 }
 
+// The same, with log(T) worked out here.
 pub fn fill_values(fives: &[f64], count: usize, t: f64, out: &mut [f64])
     requires { ⌜ (count * 5 ≤ length (now fives)) × (count ≤ length (now out)) × (count ≤ 1024) ⌝ }
     ensures { λ _. ⌜ Filled (λ k. tdAt (fiveAt (now (fives .entry)) (k * 5)) t) count (now (out .exit)) ⌝ }

@@ -50,7 +50,7 @@ pub fn fill_row(row: &[f64], t: f64, ln: f64, ng: usize, out: &mut [f64])
     exp_over(out, ng, t);
 }
 
-// Writes Ψ by full rows of ng: a at T, then exp of them all at once.
+// Writes Ψ by full rows of ng: every a at T first, then exp(-a/T) of them all at once.
 fn fill_table(values: &[f64], t: f64, ng: usize, table: &mut [f64])
     requires { ⌜ (ng ≤ 32) × (countsAt ng ≤ length (now values)) × (ng * ng ≤ length (now table)) ⌝ }
     ensures { λ _. ⌜ Filled (flat ng (groupEnergy (λ m k. tdAt (groupAs ng (now (values .entry)) m k) t) t)) (ng * ng) (now (table .exit)) ⌝ }

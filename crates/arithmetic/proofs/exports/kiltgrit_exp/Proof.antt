@@ -1,4 +1,4 @@
--- What exp promises.
+-- Calls exp, and promises what exp does. Assumes nothing.
 use Rattle.arithmetic.proofs.exports.kiltgrit_exp.Statement.{statement}
 use Rattle.arithmetic.proofs.exports.kiltgrit_exp.Tie as tie
 

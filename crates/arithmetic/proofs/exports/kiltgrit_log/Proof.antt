@@ -1,4 +1,4 @@
--- What log promises.
+-- Calls log, and promises what log does. Assumes nothing.
 use Rattle.arithmetic.proofs.exports.kiltgrit_log.Statement.{statement}
 use Rattle.arithmetic.proofs.exports.kiltgrit_log.Tie as tie
 

@@ -1,4 +1,5 @@
--- `histories::script::all_records` is safe and ends: the memory keeps its lengths, and the measure is the number of turns that are left.
+-- `histories::script::all_records` is safe and ends: the memory keeps its lengths, and the measure is the number of turns
+-- that are left.
 use mathlib.Core.Path.{_≡_, refl}
 use Prim.Native.Nat.{_-_, _≤_}
 use native.Mathlib.Omega.{arith}

@@ -1,4 +1,4 @@
--- The block of each case.
+-- The block of the cells that a setting makes stale: each case is the definition's.
 use Rattle.mixture.specs.Blocks.{blockOf}
 use mathlib.Core.Path.{_∙_}
 use borrow.Author.Needs.{needs}

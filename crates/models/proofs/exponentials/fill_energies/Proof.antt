@@ -1,4 +1,5 @@
--- The loop has written the arguments of the rows above i; a row comes back in the middle of the table, and each place takes its exp. Assumes nothing.
+-- The loop has written the arguments of the rows above i; a row comes back in the middle of the table, and each place takes
+-- its exp. Assumes nothing.
 use mathlib.Core.Path.{_≡_, refl, _∙_}
 use Prim.Native.Nat.{_+_, _*_, _-_, _≤_}
 use native.Mathlib.Nat.{mul-le-mul, mul-le-mul-right}

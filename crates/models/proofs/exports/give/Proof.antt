@@ -1,4 +1,4 @@
--- By the case of the answer. Assumes nothing.
+-- An answer's number, and its value where there is one: each case is the definition's. Assumes nothing.
 use mathlib.Core.Path.{refl}
 use Prim.Native.Nat.{_-_}
 use borrow.Author.Needs.{needs}

@@ -1,4 +1,5 @@
--- The sum of count·s over a list. Its places lie within the slices and its groups below the length of s, since the lists are in range.
+-- The sum of count·s over a list. Its places lie within the slices and its groups below the length of s, since the lists are
+-- in range.
 use mathlib.Core.Path.{_≡_}
 use Prim.Native.Nat.{_+_, _-_, _<_, _≤_}
 use native.Mathlib.Omega.{arith}

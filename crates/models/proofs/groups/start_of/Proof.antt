@@ -1,4 +1,5 @@
--- How many places stand before a list. The loop adds the lengths in turn, each below 256, so the sum is at most 255 for each list passed.
+-- How many places stand before a list. The loop adds the lengths in turn, each below 256, so the sum is at most 255 for each
+-- list passed.
 use mathlib.Core.Path.{_≡_, refl}
 use Prim.Native.Nat.{_*_, _-_, _≤_}
 use native.Mathlib.Nat.{le-antisymm}

@@ -1,4 +1,4 @@
--- The sums once, then the quantity asked for, by the laws that hoist them. Assumes nothing.
+-- The sums once, then the quantity asked for, by the laws that let them be worked out once. Assumes nothing.
 use Prim.Native.Nat.{_-_}
 use native.Mathlib.Omega.{arith}
 use borrow.Author.Needs.{needs}

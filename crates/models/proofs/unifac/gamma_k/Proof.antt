@@ -1,4 +1,5 @@
--- ln Γ of each group. The column sums come from one call and their logs from another, and the law of hoisting makes each ln Γ the nested one.
+-- ln Γ of each group. The column sums come from one call and their logs from another, and a law makes each ln Γ over them
+-- that of the definition.
 use mathlib.Core.Path.{_≡_, refl, _∙_}
 use Prim.Native.Nat.{_+_, _*_, _-_, _≤_}
 use native.Mathlib.Nat.{mul-le-mul}

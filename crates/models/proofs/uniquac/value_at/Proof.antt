@@ -1,4 +1,5 @@
--- The table holds the exponentials, the part from n·n on the r's, and n places further the q's: equal entries, equal answers. Assumes nothing.
+-- The table holds the exponentials, the part from n·n on the r's, and n places further the q's: equal entries, equal
+-- answers. Assumes nothing.
 use Prim.Native.Nat.{_+_, _*_, _≤_}
 use native.Mathlib.Nat.{mul-le-mul}
 use native.Mathlib.Omega.{arith}

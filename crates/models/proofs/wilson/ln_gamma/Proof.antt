@@ -1,4 +1,5 @@
--- The terms are the definition's off the diagonal, whose own is put right; the row sums are the definition's, as the caller shows. Assumes nothing.
+-- The terms are the definition's off the diagonal, whose own is put right; the row sums are the definition's, as the caller
+-- shows. Assumes nothing.
 use mathlib.Core.Path.{_≡_, refl, sym}
 use Prim.Native.Nat.{_-_, _≤_}
 use native.Mathlib.Omega.{arith}

@@ -1,4 +1,5 @@
--- `replay::lists::replay` is safe and ends. The measure is the number of turns that are left, and there are at most as many answers as turns.
+-- `replay::lists::replay` is safe and ends. The measure is the number of turns that are left, and there are at most as many
+-- answers as turns.
 use Prim.Native.Nat.{_≤_, _-_}
 use native.Mathlib.Omega.{arith}
 use mathlib.Core.Logic.{⊎-elim}

@@ -1,4 +1,5 @@
--- Fills three buffers with a load's lists and floats and makes the call: what the buffers hold is the definition's load. Assumes nothing.
+-- Fills three buffers with a load's lists and floats and makes the call: what the buffers hold is the definition's load.
+-- Assumes nothing.
 use Rattle.strip.proofs.CallLaws.{whole-lists, load-is}
 use native.Mathlib.Omega.{arith}
 use borrow.Author.Needs.{needs}

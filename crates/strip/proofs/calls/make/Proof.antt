@@ -1,4 +1,5 @@
--- Makes the call of a record: each kind makes the call that the definition names, with the floats that were filled in. Assumes nothing.
+-- Makes the call of a record: each kind makes the call that the definition names, with the floats that were filled in.
+-- Assumes nothing.
 use native.Mathlib.Omega.{arith}
 use mathlib.Core.Path.{ap, _∙_}
 use borrow.Author.Needs.{needs}
