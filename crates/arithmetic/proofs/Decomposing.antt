@@ -135,9 +135,6 @@ module _ (m z E : ℕ) (o : m % 2 ≡ 1) (lo : 2 ^ z ≤ m) (hi : m < 2 ^ suc z)
     small-digits = let b = Q-high in rw (zeros-is, bits-small, small-shift) (omega arith)
 
   -- ---- the specification's m and k
-  m-pos : 0 < m
-  m-pos = lt-of-lt-of-le (pow-pos z) lo
-
   Q-pos : 0 < Q
   Q-pos = let a = Q-low in omega arith
 

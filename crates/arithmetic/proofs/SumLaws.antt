@@ -9,10 +9,6 @@ use Rattle.arithmetic.specs.Floats.{_⊕_, +0}
 use Rattle.arithmetic.specs.Sums.{fold, sum}
 use Rattle.arithmetic.specs.Tables.{at}
 
-pub fold-none : (s : Float) (f : ℕ → Float → Float) → s ≡ fold 0 s f
-unfolding fold
-fold-none s f = refl
-
 pub fold-more : (s : Float) (f : ℕ → Float → Float) (j : ℕ) {a v : Float} → a ≡ fold j s f → v ≡ f j a → v ≡ fold (j + 1) s f
 unfolding fold
 fold-more s f j p q = rw (add-one, ← p, q)

@@ -58,10 +58,6 @@ filled-less le all = record { each = λ k h. all .each k (omega arith) }
 pub filled-as : {F G : ℕ → Float} {g : List Float} {p : ℕ} → ((k : ℕ) → k < p → F k ≡ G k) → Filled F p g → Filled G p g
 filled-as e all = record { each = λ k h. all .each k h ∙ e k h }
 
--- an equal list
-pub filled-is : {F : ℕ → Float} {l m : List Float} {p : ℕ} → l ≡ m → Filled F p m → Filled F p l
-filled-is e all = rw e all
-
 -- a table that is filled has each entry
 pub filled-cell : (m n : ℕ) (L : ℕ → ℕ → Float) {g : List Float} → Filled (flat n L) (m * n) g → (i j : ℕ) → i < m → j < n → grid n g i j ≡ L i j
 filled-cell m n L all i j a b = all .each (i * n + j) (cell-lt m n i j a b) ∙ flat-cell n L i j b

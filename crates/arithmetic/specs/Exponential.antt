@@ -1,6 +1,5 @@
 -- exp(v), step by step as document 01, "Arithmetic", has it.
-use Prim.Native.Nat.{ℕ}
-use mathlib.Core.Bool.{Bool, true, false, cond}
+use mathlib.Core.Bool.{true, false, cond}
 use lib.IntN.{ℤ, pos, negsuc, _+ℤ_, _-ℤ_}
 use lib.Signed.{ltZ}
 use lib.Ieee.{Float, nan, inf, binary64, lt, le, neg, isNan, ofInt, toSigned}

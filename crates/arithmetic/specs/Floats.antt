@@ -1,6 +1,6 @@
 -- f64 arithmetic as document 01, "Arithmetic", writes it: each operation rounds once (IEEE 754, nearest even).
 use Prim.Native.Nat.{ℕ, _^_}
-use mathlib.Core.Bool.{Bool, true, false}
+use mathlib.Core.Bool.{Bool, false}
 use lib.IntN.{ℤ, pos}
 use lib.Ieee.{Float, nan, inf, fin, binary64, add, sub, mul, div, round}
 

@@ -1,7 +1,7 @@
 -- log(v), step by step as document 01, "Arithmetic", has it.
 use Prim.Native.Nat.{ℕ, _-_}
 use mathlib.Core.Path.{_≡_}
-use mathlib.Core.Bool.{Bool, true, false, _||_, cond}
+use mathlib.Core.Bool.{true, false, _||_, cond}
 use lib.Dec.{T}
 use lib.IntN.{ℤ, pos, negℤ, _+ℤ_}
 use lib.Ieee.{Float, nan, inf, fin, binary64, lt, le, eq, isNan, ofInt, ofBits, size}

@@ -2,7 +2,7 @@
 use mathlib.Core.Path.{_≡_, refl, sym, ap, _∙_}
 use mathlib.Core.Bool.{Bool, true, false, _&&_, cond, true≢false}
 use mathlib.Core.List.{List}
-use Prim.Native.Nat.{ℕ, zero, suc, _+_, _*_, _/_, _%_, _<_, _≤_}
+use Prim.Native.Nat.{ℕ, zero, suc, _*_, _/_, _%_, _<_, _≤_}
 use native.Mathlib.Nat.{zero-add, mul-le-mul}
 use native.Mathlib.Omega.{arith}
 use lib.Dec.{eqb, leb}
@@ -16,8 +16,8 @@ use Rattle.arithmetic.proofs.ByteLaws.{length-floats, floats-at}
 use Rattle.arithmetic.proofs.SumLaws.{sum-same}
 use Rattle.models.specs.declared.answers.Quantity.{Quantity}
 use Rattle.models.specs.declared.answers.Answer.{Answer}
-use Rattle.models.specs.declared.answers.Answer.the-variants.{Value, Refused}
-use Rattle.models.specs.Answers.{numberOf, answer, first, indexFault}
+use Rattle.models.specs.declared.answers.Answer.the-variants.{Refused}
+use Rattle.models.specs.Answers.{numberOf, first, indexFault}
 use Rattle.models.specs.Composition.{tolerance, sumFault, compositionFault}
 use Rattle.models.specs.Exports.{loadFault, valueAt, Ready, exportedBy, exported, left}
 use Rattle.models.specs.Lists.{Loaded}

@@ -7,7 +7,7 @@ use Prim.Native.Nat.{ℕ, _+_, _*_, _/_, _%_, _<_, _≤_}
 use native.Mathlib.Nat.{div-add-mod'}
 use native.Mathlib.Omega.{arith}
 use lib.Dec.{eqb}
-use lib.ListN.{getD, length}
+use lib.ListN.{length}
 use lib.Ieee.{Float, neg}
 use Rattle.arithmetic.specs.Floats.{_⊕_, _⊖_, _⊗_, _⊘_, +0, one}
 use Rattle.arithmetic.specs.Exponential.{expOf}
@@ -26,10 +26,10 @@ use Rattle.models.specs.Exponentials.{groupEnergy}
 use Rattle.models.specs.Lists.{Listed, Loaded}
 use Rattle.models.specs.Unifac.{Groups, size, sizeSum, combinatorial, counts, amount, amounts, fraction, pureCount, pureFraction, theta, lnGroup, mixed, pure, residual, lnGamma, excess, unifac, unifacAt}
 use Rattle.models.specs.UnifacSteps.{psiBy, Shares, lnFrom}
-use Rattle.models.specs.Values.{start, fiveAt, countsAt, groupRs, groupQs, groupAs, lists}
+use Rattle.models.specs.Values.{fiveAt, countsAt, groupRs, groupQs, groupAs, lists}
 use Rattle.models.proofs.AnswerLaws.{quantity-ln, quantity-gamma, quantity-excess, quantity-same}
 use Rattle.models.proofs.ParameterLaws.{five-from}
-use Rattle.models.proofs.ListLaws.{start-same, list-place, listed-less, list-group}
+use Rattle.models.proofs.ListLaws.{listed-less, list-group}
 
 -- ---- an exponential
 
@@ -231,19 +231,6 @@ module _ (n ng : ℕ) (c : Groups) (R Q : ℕ → Float) (Ψ : ℕ → ℕ → F
 pub listed-same : {n ng : ℕ} {lens groups : List ℕ} {counts : List Float} → Listed n ng lens groups counts → (i : ℕ) → i < n → SameList ng (lists lens groups counts) (lists lens groups counts) i
 unfolding lists
 listed-same {n} {ng} all i h = same-self ng _ i (list-group i (listed-less all i ng h (omega arith)) refl)
-
--- lists that agree below n, in their lengths and at the places that they list
-pub lists-same : (n ng : ℕ) (lens lens′ groups groups′ : List ℕ) (counts counts′ : List Float) → Listed n ng lens groups counts →
-    ((i : ℕ) → i < n → getD lens i 0 ≡ getD lens′ i 0) → ((p : ℕ) → p < start lens n → getD groups p 0 ≡ getD groups′ p 0) → ((p : ℕ) → p < start lens n → at counts p ≡ at counts′ p) →
-    (i : ℕ) → i < n → SameList ng (lists lens groups counts) (lists lens′ groups′ counts′) i
-unfolding lists
-lists-same n ng lens lens′ groups groups′ counts counts′ all long named many i h =
-    let here : start lens i ≡ start lens′ i = start-same lens lens′ n long i (omega arith) in record {
-      lengths = long i h;
-      groups = λ p b. named (start lens i + p) (list-place lens i n p h b) ∙ ap (λ (s : ℕ). getD groups′ (s + p) 0) here;
-      counts = λ p b. many (start lens i + p) (list-place lens i n p h b) ∙ ap (λ (s : ℕ). at counts′ (s + p)) here;
-      below = λ p b. all .below (start lens i + p) (list-place lens i n p h b);
-    }
 
 -- what `value_over` hands on: the parts of the values where Q and the counts start
 pub value-from : (n ng : ℕ) (lens groups : List ℕ) (values : List Float) (Ψ : ℕ → ℕ → Float) (x : ℕ → Float) (q : Quantity) {s : ℕ} {v : Float} → Loaded n ng lens groups values → indexFault n q ≡ 0 → s ≡ countsAt ng →

@@ -1,12 +1,12 @@
 -- Document 01's worked values hold: exp and log by arithmetic's facts, the checks by computing each sum step by step.
 -- Assumes nothing.
-use mathlib.Core.Path.{_≡_, refl, _∙_}
-use mathlib.Core.Bool.{true, false}
-use mathlib.Core.List.{List, [], _∷_}
+use mathlib.Core.Path.{_≡_, refl}
+use mathlib.Core.Bool.{false}
+use mathlib.Core.List.{[], _∷_}
 use Prim.Native.Nat.{ℕ}
-use lib.IntN.{pos, negsuc}
-use lib.Ieee.{Float, nan, fin, binary64, add, sub, neg, lt, round}
-use Rattle.arithmetic.specs.Floats.{_⊕_, _⊖_, abs, dec, +0, one, two, half}
+use lib.IntN.{negsuc}
+use lib.Ieee.{Float, nan, fin, add, sub, neg, lt, round}
+use Rattle.arithmetic.specs.Floats.{_⊕_, abs, dec, +0, one, two, half}
 use Rattle.arithmetic.specs.Sums.{fold, sum, total}
 use Rattle.arithmetic.proofs.WorkedValues.{worked}
 use Rattle.models.specs.Composition.{tolerance, sumFault, compositionFault}

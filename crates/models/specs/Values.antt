@@ -3,7 +3,7 @@ use mathlib.Core.List.{List}
 use Prim.Native.Nat.{ℕ, zero, suc, _+_, _*_}
 use lib.ListN.{length, getD}
 use lib.Ieee.{Float}
-use Rattle.arithmetic.specs.Tables.{at, grid, from}
+use Rattle.arithmetic.specs.Tables.{at, grid}
 use Rattle.arithmetic.specs.declared.parameters.TdParam.{TdParam}
 use Rattle.models.specs.Unifac.{Groups}
 

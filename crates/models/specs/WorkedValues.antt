@@ -1,8 +1,8 @@
 -- Document 01's worked values, "Proved together as one conjunction". A proof is in proofs/WorkedValues.
 use mathlib.Core.Path.{_≡_}
 use mathlib.Core.Bool.{true, false}
-use mathlib.Core.List.{List, [], _∷_}
-use lib.Ieee.{Float, nan, inf, neg}
+use mathlib.Core.List.{[], _∷_}
+use lib.Ieee.{nan, inf, neg}
 use Rattle.arithmetic.specs.Floats.{_⊕_, dec, +0, one, two, half, L1, L2}
 use Rattle.arithmetic.specs.Exponential.{expOf}
 use Rattle.arithmetic.specs.Logarithm.{logOf}

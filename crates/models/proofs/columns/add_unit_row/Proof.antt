@@ -2,7 +2,6 @@
 use mathlib.Core.Path.{refl}
 use Prim.Native.Nat.{_-_}
 use borrow.Author.Needs.{needs}
-use lib.ListN.{length}
 use denote.Ref.{now}
 use lib.Ieee.{round, ofBits}
 use Rattle.arithmetic.specs.Floats.{dec, one}

@@ -2,10 +2,8 @@
 use Prim.Native.Nat.{_+_, _*_, _-_, _≤_}
 use native.Mathlib.Omega.{arith}
 use borrow.Author.Needs.{needs}
-use lib.ListN.{length}
 use denote.Ref.{now}
 use native.Mathlib.Nat.{mul-le-mul}
-use Rattle.arithmetic.specs.Sums.{sum}
 use Rattle.arithmetic.specs.Tables.{at}
 use Rattle.arithmetic.proofs.TableLaws.{row-end, from-length}
 use Rattle.models.proofs.NrtlLaws.{second-rows}
