@@ -1,6 +1,6 @@
 -- |v| compared with a bound, as two comparisons of v. Assumes nothing.
 use mathlib.Core.Path.{_≡_, refl, sym, _∙_}
-use mathlib.Core.Bool.{Bool, true, false, _&&_, _||_}
+use mathlib.Core.Bool.{true, false, _&&_, _||_, and-true, or-true, or-false}
 use Prim.Native.Nat.{ℕ, _+_, _*_}
 use mathlib.Core.Logic.{inl, inr}
 use native.Mathlib.Nat.{add-comm}
@@ -11,18 +11,6 @@ use lib.Ieee.{Float, nan, inf, fin, up, down, lt, eq, le, neg}
 use borrow.Author.Tests.{ne-eqb, eqb-true, eqb-false, le-ltb, ltb-false}
 use Rattle.arithmetic.specs.Floats.{abs}
 use Rattle.arithmetic.proofs.Differences.{either}
-
-and-true : (b : Bool) → b && true ≡ b
-and-true true = refl
-and-true false = refl
-
-or-true : (b : Bool) → b || true ≡ true
-or-true true = refl
-or-true false = refl
-
-or-false : (b : Bool) → b || false ≡ b
-or-false true = refl
-or-false false = refl
 
 eqb-comm : (a b : ℕ) → eqb a b ≡ eqb b a
 eqb-comm a b =

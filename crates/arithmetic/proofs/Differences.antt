@@ -8,11 +8,11 @@ use lib.Dec.{T, leb}
 use lib.IntN.{pos, negsuc, negℤ, _+ℤ_, _-ℤ_}
 use lib.Ieee.{binary64, minus, ofBits, odd, isNan, nanBits}
 use lib.Ieee.Bits.{nanBits-is}
-use borrow.Author.Tests.{lt-leb, le-leb, le-ltb, lt-ltb, leb-true, leb-false}
+use borrow.Author.Tests.{lt-leb, le-ltb, lt-ltb, leb-true, leb-false}
 use mir.Syntax.{w32}
 use mir.Val.{SFits, toZ, ofZ}
 use mir.ValLaws.{toZ-ofZ, toZ-pos}
-use Rattle.arithmetic.proofs.Powers.{ofBits-at, field-odd}
+use Rattle.arithmetic.proofs.Powers.{ofBits-at, field-odd, minus-ge, minus-lt}
 
 pub either : (b : Bool) → (b ≡ true) ⊎ (b ≡ false)
 either true = inl refl
@@ -22,12 +22,6 @@ pub le-or : (a b : ℕ) → (a ≤ b) ⊎ (b < a)
 le-or a b = elim (either (leb a b)) [ inl h ↦ inl (leb-true a b h) | inr h ↦ inr (leb-false a b h) ]
 
 -- ---- a - l
-pub minus-ge : (a l : ℕ) → l ≤ a → minus a l ≡ pos (a - l)
-minus-ge a l h = simp (le-leb l a h)
-
-pub minus-lt : (a l : ℕ) → a < l → minus a l ≡ negsuc (l - suc a)
-minus-lt a l h = simp (lt-leb l a h)
-
 pub sub-minus : (x l : ℕ) → pos x -ℤ pos (suc l) ≡ minus x (suc l)
 sub-minus x l =
     elim (le-or (suc l) x) [

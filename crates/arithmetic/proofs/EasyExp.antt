@@ -22,6 +22,7 @@ use Rattle.arithmetic.specs.Exponential.{reciprocal, rounding, exponent,
 use Rattle.arithmetic.specs.Nearest.{nearest, margin, Easy}
 use Rattle.arithmetic.proofs.Within.{Within, mul-within, or-split, le→fractions}
 use Rattle.arithmetic.proofs.Cutting.{reciprocal-within}
+use Rattle.arithmetic.proofs.Powers.{half-is}
 use Rattle.arithmetic.proofs.Rounding.{round-sign}
 use Rattle.arithmetic.proofs.Nearest.{signed, near, near-apart, cut-rounded}
 
@@ -44,10 +45,6 @@ easy-within (fin false m e) h = let l = le→fractions m 125 e (pos 2) (h .most)
 reciprocal-is : reciprocal ≡ fin false 3248660424278399 (negsuc 50)
 unfolding reciprocal dec round
 reciprocal-is = refl
-
-half-is : half ≡ fin false 1 (negsuc 0)
-unfolding half dec round
-half-is = refl
 
 own-sign : (s : Bool) → unlike false s ≡ s
 own-sign true = refl

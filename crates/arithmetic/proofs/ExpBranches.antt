@@ -9,12 +9,6 @@ use Rattle.arithmetic.specs.Floats.{_⊕_, one}
 use Rattle.arithmetic.proofs.AbsLaws.{abs-le}
 use Rattle.arithmetic.specs.Exponential.{expOf, highest, lowest, scaled, reduced, exponent}
 
-pub no-nan : (v : Float) → ne v v ≡ false → isNan v ≡ false
-unfolding ne isNan
-no-nan nan e = e
-no-nan (inf s) e = refl
-no-nan (fin s m e) h = refl
-
 pub a-nan : (v : Float) → ne v v ≡ true → v ≡ nan
 a-nan v e = differs-from-itself v (subst T (sym e) tt)
 

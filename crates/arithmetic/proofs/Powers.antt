@@ -7,14 +7,27 @@ use lib.Dec.{T, leb, leb→le, le→leb}
 use lib.IntN.{ℤ, pos, negsuc, _+ℤ_, _-ℤ_, natAbs}
 use lib.Signed.{leZ, ltZ}
 use lib.Count.{trailingZeros}
-use lib.Ieee.{Float, fin, binary64, top, hid, minus, ofBits, ofFields, odd}
+use lib.Ieee.{Float, fin, binary64, top, hid, minus, ofBits, ofFields, odd, round}
 use lib.Ieee.Fits.{and-l, and-i}
 use borrow.Author.Tests.{lt-leb, le-leb, ne-eqb, le-ltb, lt-ltb, ltb-true, ltb-false}
-use Rattle.arithmetic.specs.Floats.{_⊗_, two^}
+use Rattle.arithmetic.specs.Floats.{_⊗_, dec, one, two, half, two^}
 use Rattle.arithmetic.specs.Exponential.{scaled}
 use mir.Syntax.{w64}
 use mir.Val.{SFits, toZ, ofZ}
 use mir.ValLaws.{toZ-ofZ, toZ-pos}
+
+-- ---- 1, 2 and a half
+pub one-is : one ≡ fin false 1 (pos 0)
+unfolding one dec round
+one-is = refl
+
+pub two-is : two ≡ fin false 1 (pos 1)
+unfolding two dec round
+two-is = refl
+
+pub half-is : half ≡ fin false 1 (negsuc 0)
+unfolding half dec round
+half-is = refl
 
 -- ---- the float of a biased exponent
 pub ofBits-at : (s : Bool) (e t n : ℕ) → leb (top binary64) n ≡ s → n % top binary64 / hid binary64 ≡ e → n % hid binary64 ≡ t → ofBits binary64 n ≡ ofFields binary64 s e t
@@ -37,10 +50,10 @@ power-bits x h =
     ∙ one-odd x
 
 -- ---- the exponent with its bias
-minus-ge : (a l : ℕ) → l ≤ a → minus a l ≡ pos (a - l)
+pub minus-ge : (a l : ℕ) → l ≤ a → minus a l ≡ pos (a - l)
 minus-ge a l h = simp (le-leb l a h)
 
-minus-lt : (a l : ℕ) → a < l → minus a l ≡ negsuc (l - suc a)
+pub minus-lt : (a l : ℕ) → a < l → minus a l ≡ negsuc (l - suc a)
 minus-lt a l h = simp (lt-leb l a h)
 
 pub biased : (k : ℤ) → T (leZ (negsuc 1021) k && leZ k (pos 1023)) → (x : ℕ) × (k +ℤ pos 1023 ≡ pos (suc x)) × (suc x < 2047) × (minus (x + 52) 1074 ≡ k)

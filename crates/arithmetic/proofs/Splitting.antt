@@ -9,13 +9,14 @@ use lib.Signed.{ltZ}
 use native.Mathlib.Omega.{arith}
 use lib.Dec.{T, ltb, eqb, lt→ltb, ltb→lt, eqb-refl}
 use lib.IntN.{ℤ, pos, negsuc, negℤ, _+ℤ_, +ℤ-comm, +ℤ-assoc, +ℤ-invr, +ℤ-invl, +ℤ-idr, +ℤ-idl}
-use lib.Ieee.{Float, nan, inf, fin, up, down, lt, le, size, ofBits, mul, round}
-use Rattle.arithmetic.specs.Floats.{_⊗_, two, dec}
+use lib.Ieee.{Float, nan, inf, fin, up, down, lt, le, size, ofBits, mul}
+use Rattle.arithmetic.specs.Floats.{_⊗_, two}
 use lib.Ieee.Digits.{size-lt, size-reaches}
 use lib.Ieee.Fits.{down-pos}
 use borrow.Author.Tests.{ltb-true, ltb-false}
 use Rattle.arithmetic.specs.Logarithm.{places, M, Splits, significand, binade}
 use Rattle.arithmetic.proofs.Differences.{either}
+use Rattle.arithmetic.proofs.Powers.{two-is}
 use Rattle.arithmetic.proofs.Within.{le→fractions}
 
 up-neg : (z : ℕ) → up (negℤ (pos z)) ≡ 1
@@ -88,10 +89,6 @@ M-is = refl
 twice : fin false 1 (pos 1) ⊗ fin false 741455 (negsuc 19) ≡ fin false 741455 (negsuc 18)
 unfolding mul
 twice = refl
-
-two-is : two ≡ fin false 1 (pos 1)
-unfolding two dec round
-two-is = refl
 
 pub two-M : two ⊗ M ≡ fin false 741455 (negsuc 18)
 two-M = rw (two-is, M-is) twice

@@ -5,8 +5,9 @@ use mathlib.Core.Path.{_≡_, refl}
 use mathlib.Core.Bool.{true, false}
 use lib.IntN.{pos, negsuc}
 use lib.Ieee.{Float, nan, inf, fin, binary64, add, mul, sub, div, lt, le, eq, isNan, neg, ofInt, ofBits, round, size}
-use Rattle.arithmetic.specs.Floats.{_⊕_, _⊖_, _⊗_, _⊘_, abs, dec, +0, one, two, half, L1, L2}
+use Rattle.arithmetic.specs.Floats.{_⊕_, _⊖_, _⊗_, _⊘_, abs, dec, +0, one, two, L1, L2}
 use Rattle.arithmetic.proofs.LogBranches.{rest}
+use Rattle.arithmetic.proofs.Powers.{one-is, two-is, half-is}
 use Rattle.arithmetic.specs.Exponential.{expOf, highest, lowest}
 use Rattle.arithmetic.specs.Logarithm.{logOf, significand, binade, logBy, remainder, places, M, G1, G2, G3, G4, G5, G6, G7}
 
@@ -56,18 +57,6 @@ L1-is = refl
 L2-is : L2 ≡ fin false 3691024475790907 (negsuc 83)
 unfolding L2 dec round
 L2-is = refl
-
-one-is : one ≡ fin false 1 (pos 0)
-unfolding one dec round
-one-is = refl
-
-two-is : two ≡ fin false 1 (pos 1)
-unfolding two dec round
-two-is = refl
-
-half-is : half ≡ fin false 1 (negsuc 0)
-unfolding half dec round
-half-is = refl
 
 times-G1 : Z ⊗ fin false 6004799503160723 (negsuc 52) ≡ Z
 unfolding mul

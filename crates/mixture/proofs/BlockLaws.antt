@@ -1,6 +1,6 @@
 -- Blocks of cells: which block the cells of a model are, and those that a setting makes stale. Assumes nothing.
 use mathlib.Core.Path.{_≡_, refl, sym, _∙_}
-use mathlib.Core.Bool.{Bool, true, false, not, _&&_, _||_}
+use mathlib.Core.Bool.{Bool, true, false, not, _&&_, _||_, and-true, and-false}
 use mathlib.Core.List.{List}
 use mathlib.Core.Logic.{inl, inr}
 use Prim.Native.Nat.{ℕ, _+_, _*_, _/_, _%_, _<_, _≤_}
@@ -16,7 +16,7 @@ use Rattle.mixture.specs.Lists.{written}
 use Rattle.mixture.specs.Names.{byModel, ModelData, Held, held, width, isCell}
 use Rattle.mixture.specs.Layout.{cellAt}
 use Rattle.mixture.specs.Blocks.{inBlock, block}
-use Rattle.mixture.proofs.StaleLaws.{and-false, written-same}
+use Rattle.mixture.proofs.StaleLaws.{written-same}
 
 -- ---- places
 
@@ -44,10 +44,6 @@ at-one i k =
     (λ (b : k < i). rw (lt-leb i k b, ne-eqb k i (λ (e : k ≡ i). omega arith)))
     (λ (e : i ≡ k). rw (le-leb i k (omega arith), lt-ltb k (i + 1) (omega arith), eq-eqb k i (sym e)))
     (λ (b : i < k). rw (le-ltb k (i + 1) (omega arith), ne-eqb k i (λ (e : k ≡ i). omega arith)) (and-false (leb i k)))
-
-and-true : (b : Bool) → (b && true) ≡ b
-and-true true = refl
-and-true false = refl
 
 -- within the rows
 one : (a b c l : Bool) → (a ≡ true → l ≡ true) → (a && (b && c)) ≡ ((l && c) && (a && b))

@@ -21,6 +21,7 @@ use Rattle.models.specs.declared.answers.Quantity.{Quantity}
 use Rattle.models.specs.Answers.{indexFault}
 use Rattle.models.specs.Composition.{tolerance, compositionFault}
 use Rattle.models.specs.Values.{start, lists}
+use Rattle.models.proofs.ListLaws.{list-place}
 use Rattle.mixture.specs.declared.head.Head.{Head}
 use Rattle.mixture.specs.declared.head.Model.the-variants.{Unifac}
 use Rattle.mixture.specs.declared.setting.Setting.{Setting}
@@ -37,7 +38,7 @@ use Rattle.mixture.specs.Calls.{memoryFault, inRange, headFault, outcome
 use Rattle.mixture.specs.Book.{Call, Open, Load, Set, Fractions, Query, Book, book, empty, setIn, setT, setModel, bookAfter, gives, touched, touchedCells, plain, having, bookAnswer, isQuery, accepted, sinceAfter, bookAnswers}
 use Rattle.mixture.specs.History.{afterCall, answers, History}
 use Rattle.mixture.proofs.ListLaws.{never, or-none, length-written, getD-written, howMany-rows, howManyPairs-same}
-use Rattle.mixture.proofs.PlaceLaws.{both, passed, nought, sizeOf, start-next}
+use Rattle.mixture.proofs.PlaceLaws.{both, passed, nought, sizeOf}
 use Rattle.mixture.proofs.StoreLaws.{stored}
 use Rattle.mixture.proofs.AgreeLaws.{Alike, Agrees, caseFault-same, width-same, isCell-same, alike-refl, agrees-trans, set-alike, set-agrees, store-agrees}
 use Rattle.mixture.proofs.RangeLaws.{Long, short-no, long-is, first-is, Sound, sound, bounds}
@@ -408,7 +409,7 @@ module _ (m : Memory) (h : Head) (d : Held) (T : Float) (x : List Float) (since 
       subst (λ (z : ℕ). z < d .ng) (g .group i p hi hp)
       (subst (λ (z : ℕ). c .lists .group i p < z) (g .ng)
       (bounds (dataIn m h) range .groups (k .agrees .alike .model ∙ e) (start (h .lens) i + p)
-      (start-next (h .lens) i (h .n) p (rw (k .agrees .alike .n) hi) (rw (g .length i hi) hp))))
+      (list-place (h .lens) i (h .n) p (rw (k .agrees .alike .n) hi) (rw (g .length i hi) hp))))
 
   fraction : (i : ℕ) → i < d .n → at (h .x) i ≡ at x i
   fraction i b = rw (k .keptX .2) (List·getD-append x (replicate (12 - length x) +0) nan i (rw (k .keptX .1) b))

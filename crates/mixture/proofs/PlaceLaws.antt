@@ -17,6 +17,7 @@ use Rattle.arithmetic.specs.declared.parameters.TdParam.{TdParam}
 use Rattle.arithmetic.proofs.Differences.{either, le-or}
 use Rattle.arithmetic.proofs.TableLaws.{cell-lt, cell-row, cell-column, from-at}
 use Rattle.models.specs.Values.{fiveAt, tdGrid, wilsonSize, energies, volumes, uniquacSize, rs, qs, nrtlSize, taus, alphas, countsAt, groupRs, groupQs, groupAs, start, unifacSize, lists}
+use Rattle.models.proofs.ListLaws.{list-place}
 use Rattle.mixture.specs.declared.head.Model.{Model}
 use Rattle.mixture.specs.declared.head.Model.the-variants.{Wilson, Uniquac, Nrtl, Unifac}
 use Rattle.mixture.specs.declared.setting.Setting.{Setting}
@@ -128,30 +129,16 @@ five-within l p P h = rw (first, w 1 (omega arith), w 2 (omega arith), w 3 (omeg
 abbrev pub sizeOf : ModelData → ℕ
 sizeOf d = byModel (d .model) (wilsonSize (d .n)) (uniquacSize (d .n)) (nrtlSize (d .n)) (unifacSize (d .ng) (start (d .lens) (d .n)))
 
-start-le : (lens : List ℕ) (i n : ℕ) → i ≤ n → start lens i ≤ start lens n
-unfolding start
-start-le lens i zero h = let z : i ≡ 0 = omega arith in rw z (omega arith)
-start-le lens i (suc n) h =
-    elim (le-or (suc n) i) [
-      | inl g ↦ let z : i ≡ suc n = omega arith in rw z (omega arith)
-      | inr g ↦ omega (arith, start-le lens i n (omega arith))
-    ]
-
--- the places of component i stand before those of the next
-pub start-next : (lens : List ℕ) (i n j : ℕ) → i < n → j < getD lens i 0 → start lens i + j < start lens n
-unfolding start
-start-next lens i n j h g = omega (arith, start-le lens (suc i) n h)
-
 -- a place of the lists, one after the other, is another's only where component and place are
-list-place : (lens : List ℕ) (i j r s : ℕ) → j < getD lens i 0 → s < getD lens r 0 → start lens i + j ≡ start lens r + s → (i ≡ r) × (j ≡ s)
-list-place lens i j r s h g e =
+list-once : (lens : List ℕ) (i j r s : ℕ) → j < getD lens i 0 → s < getD lens r 0 → start lens i + j ≡ start lens r + s → (i ≡ r) × (j ≡ s)
+list-once lens i j r s h g e =
     elim (le-or i r) [
       | inl a ↦
           elim (eq-or-lt-of-le a) [
             | inl q ↦ (q, let z : start lens i ≡ start lens r = ap (start lens) q in omega arith)
-            | inr l ↦ absurd (omega (arith, start-next lens i r j l h))
+            | inr l ↦ absurd (omega (arith, list-place lens i r j l h))
           ]
-      | inr b ↦ absurd (omega (arith, start-next lens r i s b g))
+      | inr b ↦ absurd (omega (arith, list-place lens r i s b g))
     ]
 
 -- ---- the bounds of each case's places
@@ -196,7 +183,7 @@ module _ (n ng : ℕ) (lens groups : List ℕ) (v : List Float) where
   count-bounds Uniquac i j a h = never (sym h)
   count-bounds Nrtl i j a h = never (sym h)
   count-bounds Unifac i j a h =
-      let b = below-is i n j (getD lens i 0) h in (omega arith, omega (arith, start-next lens i n j (b .0) (b .1)))
+      let b = below-is i n j (getD lens i 0) h in (omega arith, omega (arith, list-place lens i n j (b .0) (b .1)))
 
   -- ---- a name is read at its place
 
@@ -237,7 +224,7 @@ module _ (n ng : ℕ) (lens groups : List ℕ) (v : List Float) where
   count-reads Nrtl i j a h g = never (sym h)
   count-reads Unifac i j a h g =
       let b = below-is i n j (getD lens i 0) h in
-      from-at v (countsAt ng) (start lens i + j) (omega (arith, start-next lens i n j (b .0) (b .1)))
+      from-at v (countsAt ng) (start lens i + j) (omega (arith, list-place lens i n j (b .0) (b .1)))
 
   -- ---- two names of one case have places of their own
 
@@ -281,7 +268,7 @@ module _ (n ng : ℕ) (lens groups : List ℕ) (v : List Float) where
   count-places Unifac i j r s a c h g =
       let b = below-is i n j (getD lens i 0) h in
       let d = below-is r n s (getD lens r 0) g in
-      eqb-pair i j r s (countsAt ng + (start lens i + j)) (countsAt ng + (start lens r + s)) (λ e. list-place lens i j r s (b .1) (d .1) (omega arith)) (λ p q. rw (p, q))
+      eqb-pair i j r s (countsAt ng + (start lens i + j)) (countsAt ng + (start lens r + s)) (λ e. list-once lens i j r s (b .1) (d .1) (omega arith)) (λ p q. rw (p, q))
 
   -- td entries are equal, or five places apart
   pub td-places : (k : Model) (i j r s : ℕ) (p q : TdParam) → hasTdEntry (held (D k)) i j ≡ true

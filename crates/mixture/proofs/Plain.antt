@@ -17,25 +17,26 @@ use Rattle.arithmetic.proofs.Differences.{either}
 use Rattle.arithmetic.proofs.TableLaws.{cell-lt, from-at}
 use Rattle.models.specs.declared.answers.Quantity.{Quantity}
 use Rattle.models.specs.declared.answers.Answer.the-variants.{Value}
-use Rattle.models.specs.Answers.{answer, first, firstTo, indexFault}
+use Rattle.models.specs.Answers.{answer, first, firstTo, indexFault, numberOf as plainNumber, valuesOf as plainValues}
 use Rattle.models.specs.Composition.{tolerance, compositionFault}
 use Rattle.models.specs.Plain.{shapeFault, fractionsFault, listsFault, placeFault, groupsFault, unifacFault, wilsonPlain, uniquacPlain, nrtlPlain, unifacPlain}
 use Rattle.models.specs.Values.{tdGrid, wilsonSize, energies, volumes, uniquacSize, rs, qs, nrtlSize, taus, alphas, countsAt, groupRs, groupQs, groupAs, start, unifacSize, lists}
+use Rattle.models.proofs.ListLaws.{list-place}
 use Rattle.mixture.specs.declared.head.Model.{Model}
 use Rattle.mixture.specs.declared.head.Model.the-variants.{Wilson, Uniquac, Nrtl, Unifac}
 use Rattle.mixture.specs.declared.setting.Setting.{Setting}
 use Rattle.mixture.specs.declared.setting.Setting.the-variants.{Temperature, Entry, TdEntry, Size, Count}
 use Rattle.mixture.specs.declared.answers.Answer.{Answer as MixtureAnswer}
-use Rattle.mixture.specs.declared.answers.Answer.the-variants.{Done}
-use Rattle.mixture.specs.Answers.{numberOf, unless}
+use Rattle.mixture.specs.declared.answers.Answer.the-variants.{Done, Value as Answered}
+use Rattle.mixture.specs.Answers.{numberOf, valuesOf, countsOf, unless}
 use Rattle.mixture.specs.Lists.{row, rows}
 use Rattle.mixture.specs.Names.{byModel, ModelData, Held, held, entries, tdEntries, sizes}
 use Rattle.mixture.specs.Faults.{dataFault, hasEntry, hasTdEntry, hasSize, hasCount, caseFault, mixFault}
 use Rattle.mixture.specs.Calls.{exponential}
-use Rattle.mixture.specs.Book.{Call, Open, Load, Set, Fractions, Query, Book, empty, replaced, setIn, setModel, bookAfter, plain, having, bookAnswer, accepted, sinceAfter, bookOf}
+use Rattle.mixture.specs.Book.{Call, Open, Load, Set, Fractions, Query, Book, book, empty, replaced, setIn, setModel, bookAfter, plain, having, bookAnswer, touchedCells, accepted, sinceAfter, bookOf}
 use Rattle.mixture.specs.Plain.{fives, valuesIn, dataOf, plainCall, PlainCall}
 use Rattle.mixture.proofs.ListLaws.{never}
-use Rattle.mixture.proofs.PlaceLaws.{passed, spared, nought, below-is, sizeOf, start-next}
+use Rattle.mixture.proofs.PlaceLaws.{passed, spared, nought, below-is, sizeOf}
 use Rattle.mixture.proofs.AgreeLaws.{Agrees, set-alike}
 use Rattle.mixture.proofs.RangeLaws.{first-is, at-all, Sound, sound}
 use Rattle.mixture.proofs.CellLaws.{exponential-same, valueBy-same, plain-is}
@@ -210,8 +211,8 @@ load-proper e s =
             some = l .some;
             few = l .few;
             short = l .short;
-            group = λ i p h g. l .group (start (e .lens) i + p) (start-next (e .lens) i (e .n) p h g);
-            count = λ i p h g. l .count (start (e .lens) i + p) (start-next (e .lens) i (e .n) p h g);
+            group = λ i p h g. l .group (start (e .lens) i + p) (list-place (e .lens) i (e .n) p h g);
+            count = λ i p h g. l .count (start (e .lens) i + p) (list-place (e .lens) i (e .n) p h g);
           };
     }
 
@@ -402,8 +403,15 @@ of-proper (c ∷ cs) b since p =
       | inr t ↦ rw t (of-proper cs b since p)
     ]
 
+-- what a book with all three answers to a query
+book-answers : (d : Held) (T : Float) (x : List Float) (since : List Call) (q : Quantity) → indexFault (d .n) q ≡ 0
+    → bookAnswer (book (some d) (some T) (some x)) since (Query q) ≡ Answered (plain d T x q) (touchedCells d since)
+unfolding bookAnswer having
+book-answers d T x since q z = rw z
+
 pub plain-call : PlainCall
-unfolding empty
-plain-call cs d T x q e z =
+unfolding empty plainNumber plainValues valuesOf countsOf
+plain-call cs since d T x q e z =
     let p : Proper d × (mixFault (d .n) x ≡ 0) = subst (λ (b : Book). ProperBook (b .model) (b .x)) e (of-proper cs empty [] tt) in
-    plain-answers d T x q (p .0) (p .1) z
+    let plainly = plain-answers d T x q (p .0) (p .1) z in
+    rw (plainly, e, book-answers d T x since q z) (refl, refl, refl)

@@ -1,6 +1,6 @@
 -- A setting by model: what it is declined for, where its numbers stand, and that both look at the head alone. Assumes nothing.
 use mathlib.Core.Path.{_≡_, refl, sym, ap, _∙_}
-use mathlib.Core.Bool.{Bool, true, false, _&&_, _||_, cond}
+use mathlib.Core.Bool.{Bool, true, false, _&&_, _||_, cond, or-false, or-true, and-false}
 use mathlib.Core.List.{List, [], _∷_}
 use Prim.Native.Nat.{ℕ, suc, _+_, _*_, _/_, _%_, _<_, _≤_}
 use native.Mathlib.Nat.{zero-add, zero-mul}
@@ -33,7 +33,7 @@ use Rattle.mixture.proofs.PlaceLaws.{below-is, passed, nought, store-in
 use Rattle.mixture.proofs.RangeLaws.{first-is, Bounds, bounds}
 use Rattle.mixture.proofs.CallLaws.{lists-in, in-range, head-passed}
 use Rattle.mixture.proofs.BlockLaws.{one-cell, one-row, no-cells, every-cell}
-use Rattle.mixture.proofs.StaleLaws.{or-false, or-true, and-false, written-same}
+use Rattle.mixture.proofs.StaleLaws.{written-same}
 
 -- ---- what a setting is declined for
 

@@ -1,6 +1,6 @@
 -- Marks written 0 place after place and row after row, as a list written at the places that pass. Assumes nothing.
 use mathlib.Core.Path.{_≡_, refl, sym, ap, _∙_}
-use mathlib.Core.Bool.{Bool, true, false, not, _&&_, _||_, cond}
+use mathlib.Core.Bool.{Bool, true, false, not, _&&_, _||_, cond, or-false, or-true, and-false}
 use mathlib.Core.List.{List, [], _∷_}
 use Prim.Native.Nat.{ℕ, zero, suc, _+_, _*_, _/_, _%_, _<_, _≤_}
 use mathlib.Core.Logic.{inl, inr}
@@ -16,18 +16,6 @@ use Rattle.mixture.specs.Blocks.{inBlock}
 use Rattle.mixture.proofs.PlaceLaws.{eq-cases}
 
 -- ---- tests
-
-pub or-false : (b : Bool) → (b || false) ≡ b
-or-false true = refl
-or-false false = refl
-
-pub or-true : (b : Bool) → (b || true) ≡ true
-or-true true = refl
-or-true false = refl
-
-pub and-false : (b : Bool) → (b && false) ≡ false
-and-false true = refl
-and-false false = refl
 
 eqb-suc : (a b : ℕ) → eqb (suc a) (suc b) ≡ eqb a b
 eqb-suc a b =

@@ -11,12 +11,13 @@ use lib.Ieee.{Float, nan}
 use Rattle.arithmetic.specs.Tables.{at, from}
 use Rattle.arithmetic.proofs.TableLaws.{from-at}
 use Rattle.models.specs.Values.{tdGrid, wilsonSize, energies, volumes, uniquacSize, rs, qs, nrtlSize, taus, alphas, countsAt, groupRs, groupQs, groupAs, start, unifacSize, lists}
+use Rattle.models.proofs.ListLaws.{list-place}
 use Rattle.mixture.specs.declared.head.Model.{Model}
 use Rattle.mixture.specs.declared.head.Model.the-variants.{Wilson, Uniquac, Nrtl, Unifac}
 use Rattle.mixture.specs.Lists.{row, rows}
 use Rattle.mixture.specs.Names.{held, entries, tdEntries, sizes}
 use Rattle.mixture.specs.Plain.{valuesIn, WrittenBack}
-use Rattle.mixture.proofs.PlaceLaws.{sizeOf, D, start-next}
+use Rattle.mixture.proofs.PlaceLaws.{sizeOf, D}
 use Rattle.mixture.proofs.RangeLaws.{sound}
 use Rattle.mixture.proofs.RowLaws.{before, row-is, rows-is, table-is, tds-is}
 
@@ -71,7 +72,7 @@ module _ (n ng : ℕ) (lens groups : List ℕ) (v : List Float) where
         row-is v ng nan ng (groupQs ng v) (λ i b. refl) (omega arith),
         tds-is v (ng + ng) ng ng (groupAs ng v) (λ i j b c. refl) (omega arith),
         rows-is v (ng + ng + ng * ng * 5) nan n (λ i. getD lens i 0) (λ i p. at (from (ng + ng + ng * ng * 5) v) (start lens i + p))
-            (λ i p b h. rw (before-lens lens i) (from-at v (ng + ng + ng * ng * 5) (start lens i + p) (omega (arith, start-next lens i n p b h)))) (omega (arith, before-lens lens n)),
+            (λ i p b h. rw (before-lens lens i) (from-at v (ng + ng + ng * ng * 5) (start lens i + p) (omega (arith, list-place lens i n p b h)))) (omega (arith, before-lens lens n)),
         ← (take-add ng ng v),
         ← (take-add (ng + ng) (ng * ng * 5) v),
         ← (take-add (ng + ng + ng * ng * 5) (before (λ i. getD lens i 0) n) v),

@@ -6,14 +6,14 @@ use lib.Ieee.{Float}
 use Rattle.arithmetic.specs.declared.parameters.TdParam.{TdParam}
 use Rattle.models.specs.declared.answers.Quantity.{Quantity}
 use Rattle.models.specs.declared.answers.Answer.{Answer}
-use Rattle.models.specs.declared.answers.Answer.the-variants.{Value}
-use Rattle.models.specs.Answers.{indexFault}
+use Rattle.models.specs.Answers.{indexFault, numberOf as plainNumber, valuesOf as plainValues}
 use Rattle.models.specs.Plain.{wilsonPlain, uniquacPlain, nrtlPlain, unifacPlain}
 use Rattle.mixture.specs.declared.head.Model.the-variants.{Unifac}
 use Rattle.mixture.specs.Lists.{row, rows}
 use Rattle.mixture.specs.Names.{byModel, ModelData, Held, held}
 use Rattle.mixture.specs.Faults.{dataFault}
-use Rattle.mixture.specs.Book.{Call, book, empty, bookOf, plain}
+use Rattle.mixture.specs.Answers.{valuesOf, countsOf}
+use Rattle.mixture.specs.Book.{Call, Query, book, empty, bookOf, bookAnswer, touchedCells}
 
 -- ---- names in the strip's order
 
@@ -55,7 +55,10 @@ plainCall d T x q =
     (unifacPlain (d .n) (d .ng) (d .lens) (d .groups) (d .values) T x q)
 
 -- After any calls, where the book holds a model, T and fractions and has the component asked for, the plain call on its
--- holdings is not refused, and its value is the one that the book answers.
+-- holdings is not refused; its value is the one that the book answers, with the number of cells touched.
 abbrev pub PlainCall : Type 0
-PlainCall = (calls : List Call) (d : Held) (T : Float) (x : List Float) (q : Quantity)
-    → bookOf empty [] calls ≡ book (some d) (some T) (some x) → indexFault (d .n) q ≡ 0 → plainCall (dataOf d) T x q ≡ Value (plain d T x q)
+PlainCall = (calls since : List Call) (d : Held) (T : Float) (x : List Float) (q : Quantity)
+    → bookOf empty [] calls ≡ book (some d) (some T) (some x) → indexFault (d .n) q ≡ 0
+    → (plainNumber (plainCall (dataOf d) T x q) ≡ 0)
+    × (valuesOf (bookAnswer (bookOf empty [] calls) since (Query q)) ≡ plainValues (plainCall (dataOf d) T x q))
+    × (countsOf (bookAnswer (bookOf empty [] calls) since (Query q)) ≡ touchedCells d since ∷ [])

@@ -1,7 +1,7 @@
 -- Answers and the first fault of several, over plain variables: a proof hands over what its callees ensure and what its tests found.
 -- Assumes nothing.
 use mathlib.Core.Path.{_≡_, refl, ap}
-use mathlib.Core.Bool.{Bool, true, false, _&&_, cond}
+use mathlib.Core.Bool.{Bool, true, false, cond, and-false}
 use mathlib.Core.Logic.{⊎-elim}
 use mathlib.Core.List.{List, [], _∷_}
 use Prim.Native.Nat.{ℕ, zero, suc, _+_, _<_, _≤_}
@@ -24,10 +24,6 @@ in-range n i = by-test (ltb i n) refl
     by-test : (t : Bool) → ltb i n ≡ t → _≡_ {A = ℕ} (cond t 0 7) 0 → i < n
     by-test true e z = ltb-true i n e
     by-test false e z = absurd (omega arith)
-
-and-false : (b : Bool) → b && false ≡ false
-and-false true = refl
-and-false false = refl
 
 -- ---- an answer
 

@@ -1,7 +1,7 @@
 -- Group lists that stand list after list: where they start, that their places lie within the slices, and sums kept for
 -- every group at once. Assumes nothing.
 use mathlib.Core.Path.{_≡_, refl, sym, _∙_}
-use mathlib.Core.Bool.{Bool, true, false, _&&_, cond}
+use mathlib.Core.Bool.{Bool, true, false, _&&_, cond, and-false}
 use mathlib.Core.Logic.{⊎-elim}
 use mathlib.Core.List.{List}
 use Prim.Native.Nat.{ℕ, zero, suc, _+_, _<_, _≤_}
@@ -22,10 +22,6 @@ use Rattle.models.specs.Plain.{between, allTo, listsFault}
 use Rattle.models.specs.Unifac.{Groups, size, residual, counts, amount, amounts, fraction, pureCount, pureFraction}
 use Rattle.models.specs.Values.{start, countsAt, unifacSize, lists}
 use Rattle.models.specs.Lists.{Listed, Sized, Loaded, gathered, added, put}
-
-and-false : (b : Bool) → b && false ≡ false
-and-false true = refl
-and-false false = refl
 
 -- ---- where a list starts
 

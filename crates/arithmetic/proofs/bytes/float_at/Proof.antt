@@ -1,6 +1,5 @@
 -- The two words make the bit pattern. Assumes nothing.
 use Rattle.arithmetic.proofs.ByteLaws.{float-is}
-use Prim.Native.Nat.{_-_}
 use borrow.Author.Needs.{needs}
 use Rattle.arithmetic.proofs.bytes.float_at.Statement.{statement}
 use Rattle.arithmetic.proofs.bytes.float_at.Tie as tie

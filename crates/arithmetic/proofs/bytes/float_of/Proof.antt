@@ -2,7 +2,6 @@
 use lib.Ieee.{ofBits, div}
 use Rattle.arithmetic.proofs.ByteLaws.{pattern-nan, pattern-no-nan}
 use mathlib.Core.Path.{sym}
-use Prim.Native.Nat.{_-_}
 use borrow.Author.Needs.{needs}
 use Rattle.arithmetic.proofs.bytes.float_of.Statement.{statement}
 use Rattle.arithmetic.proofs.bytes.float_of.Tie as tie

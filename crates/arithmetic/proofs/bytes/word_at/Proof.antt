@@ -1,6 +1,5 @@
 -- The four bytes fit a word; the sum is the definition. Assumes nothing.
 use Rattle.arithmetic.specs.Bytes.{wordAt}
-use Prim.Native.Nat.{_-_}
 use borrow.Author.Needs.{needs}
 use Rattle.arithmetic.proofs.bytes.word_at.Statement.{statement}
 use Rattle.arithmetic.proofs.bytes.word_at.Tie as tie

@@ -13,7 +13,8 @@ use Rattle.arithmetic.specs.Exponential.{highest, lowest, scaled, reduce
 use Rattle.arithmetic.proofs.Within.{near}
 use Rattle.arithmetic.proofs.Cutting.{cut-within, Inside}
 use Rattle.arithmetic.proofs.Powers.{Near}
-use Rattle.arithmetic.proofs.ExpBranches.{no-nan, a-nan, exp-nan, exp-high, exp-low, exp-tiny, exp-rest}
+use Rattle.arithmetic.proofs.ByteLaws.{no-nan}
+use Rattle.arithmetic.proofs.ExpBranches.{a-nan, exp-nan, exp-high, exp-low, exp-tiny, exp-rest}
 use Rattle.arithmetic.proofs.exponential.careful_exp.Statement.{statement}
 use Rattle.arithmetic.proofs.exponential.careful_exp.Tie as tie
 

@@ -9,7 +9,8 @@ use lib.Count.{leadingZeros, leading-le}
 use lib.Ieee.{Float, fin, inf, binary64, ofBits, toBits, lt, eq, isNan, nanBits, div, fits, round}
 use Rattle.arithmetic.specs.Floats.{dec, one}
 use Rattle.arithmetic.specs.Logarithm.{logOf}
-use Rattle.arithmetic.proofs.ExpBranches.{no-nan, a-nan}
+use Rattle.arithmetic.proofs.ExpBranches.{a-nan}
+use Rattle.arithmetic.proofs.ByteLaws.{no-nan}
 use Rattle.arithmetic.proofs.LogBranches.{normal-of, rest, log-nan, is-inf, log-negative, log-zero, log-inf, log-one, log-rest}
 use Rattle.arithmetic.proofs.Decomposing.{Parts, parts-of, Q-low, Q-high, small-zeros, small-q, small-x, rest-is}
 use Rattle.arithmetic.proofs.logarithm.careful_log.Statement.{statement}

@@ -1,6 +1,5 @@
 -- Values that are no whole eights, or more than any model has, give 2; else they are decoded. Assumes nothing.
 use mathlib.Core.Path.{ap, _∙_}
-use Prim.Native.Nat.{_-_}
 use native.Mathlib.Omega.{arith}
 use borrow.Author.Needs.{needs}
 use denote.Ref.{now}

@@ -1,6 +1,5 @@
 -- The first of 5, 6 and 7, by the laws on fractions in bytes; a 0 has whole eights, n of them. Assumes nothing.
 use mathlib.Core.Path.{sym, _∙_}
-use Prim.Native.Nat.{_-_}
 use native.Mathlib.Omega.{arith}
 use denote.Ref.{now}
 use lib.Ieee.{round, ofBits}

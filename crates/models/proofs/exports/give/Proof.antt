@@ -1,6 +1,5 @@
 -- An answer's number, and its value where there is one: each case is the definition's. Assumes nothing.
 use mathlib.Core.Path.{refl}
-use Prim.Native.Nat.{_-_}
 use borrow.Author.Needs.{needs}
 use Rattle.models.specs.Answers.{numberOf}
 use Rattle.models.specs.Exports.{left}

@@ -1,5 +1,4 @@
 -- The call's answer, given as a number and a value. Assumes nothing.
-use Prim.Native.Nat.{_-_}
 use denote.Ref.{now}
 use Rattle.models.proofs.ExportLaws.{given-as}
 use Rattle.models.proofs.exports.kiltgrit_gamma.Statement.{statement}

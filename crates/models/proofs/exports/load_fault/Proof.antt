@@ -1,6 +1,5 @@
 -- The model's own fault, by its number. Assumes nothing.
 use mathlib.Core.Path.{_∙_}
-use Prim.Native.Nat.{_-_}
 use native.Mathlib.Omega.{arith}
 use denote.Ref.{now}
 use Rattle.models.specs.Values.{wilsonSize, uniquacSize, nrtlSize}

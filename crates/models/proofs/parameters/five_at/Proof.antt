@@ -1,6 +1,5 @@
 -- Each field is the place that the definition names. Assumes nothing.
 use mathlib.Core.Path.{refl}
-use Prim.Native.Nat.{_-_}
 use borrow.Author.Needs.{needs}
 use Rattle.models.specs.Values.{fiveAt}
 use Rattle.models.proofs.parameters.five_at.Statement.{statement}

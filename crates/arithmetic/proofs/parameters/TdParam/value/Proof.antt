@@ -1,7 +1,6 @@
 -- The value at T is the second form at log(T), which `log` promises. Assumes nothing.
 use Rattle.arithmetic.specs.Parameters.{tdAt, tdBy}
 use mathlib.Core.Path.{ap, _∙_}
-use Prim.Native.Nat.{_-_}
 use borrow.Author.Needs.{needs}
 use Rattle.arithmetic.proofs.parameters.TdParam.value.Statement.{statement}
 use Rattle.arithmetic.proofs.parameters.TdParam.value.Tie as tie

@@ -1,7 +1,6 @@
 -- The code is the definition, operation by operation. Assumes nothing.
 use Rattle.arithmetic.specs.Parameters.{tdBy}
 use mathlib.Core.Path.{refl}
-use Prim.Native.Nat.{_-_}
 use Rattle.arithmetic.proofs.parameters.TdParam.value_by.Statement.{statement}
 use Rattle.arithmetic.proofs.parameters.TdParam.value_by.Tie as tie
 
