@@ -1,22 +1,23 @@
--- A kind 4's lists: where they end, and how they fill three buffers. Assumes nothing.
-use Prim.Native.Nat.{ℕ, zero, suc, _+_, _-_, _<_, _≤_}
-use native.Mathlib.Nat.{add-zero}
+-- A kind 4's lists: where they end, how many there are, and how they are stored in three buffers. Assumes nothing.
+use Prim.Native.Nat.{ℕ, zero, suc, _+_, _*_, _-_, _<_, _≤_}
+use native.Mathlib.Nat.{add-zero, zero-add}
 use native.Mathlib.Omega.{arith}
 use native.Mathlib.Numerals.{add-one}
-use mathlib.Core.Path.{_≡_, refl, sym, ap, _∙_}
-use mathlib.Core.Bool.{Bool, true, false, _&&_}
-use mathlib.Core.List.{List, _∷_, _++_, append-nil}
+use mathlib.Core.Path.{_≡_, refl, sym, ap, _∙_, subst}
+use mathlib.Core.Bool.{true, false}
+use mathlib.Core.List.{List}
 use mathlib.Core.Logic.{inl, inr}
 use lib.Dec.{leb, eqb}
-use lib.ListN.{length, take, set}
-use lib.Seq.{take-suc-set, append-snoc}
+use lib.ListN.{length, set}
+use lib.Seq.{sets, length-sets}
 use lib.Ieee.{Float}
 use borrow.Author.Tests.{le-leb, lt-leb, leb-true, eq-eqb, ne-eqb}
 use Rattle.arithmetic.specs.Bytes.{wordAt, floatAt}
 use Rattle.arithmetic.proofs.Differences.{either, le-or}
+use Rattle.mixture.proofs.PlaceLaws.{both}
 use Rattle.strip.specs.Words.{kindOf, iOf, jOf, restOf}
-use Rattle.strip.specs.Lists.{Lists, isWord, pairsAt, listsAt}
-use Rattle.strip.specs.Inner.{Listed}
+use Rattle.strip.specs.Lists.{Lists, noLists, missing, withPair, withList, isWord, pairsAt, listsAt}
+use Rattle.strip.specs.Inner.{Stored}
 
 -- ---- n bytes from p on
 
@@ -35,11 +36,7 @@ has-rest p n l h =
 -- it lies within the strip
 pub word-in : (s : List ℕ) (kind n p : ℕ) → isWord s kind n p ≡ true → p + n ≤ length s
 unfolding isWord
-word-in s kind n p h = leb-true (p + n) (length s) (left (leb (p + n) (length s)) _ h)
-  where
-    left : (a b : Bool) → a && b ≡ true → a ≡ true
-    left true b e = refl
-    left false b e = e
+word-in s kind n p h = leb-true (p + n) (length s) (both _ _ h .0)
 
 pub word-cut : (s : List ℕ) (kind n p : ℕ) → leb (p + n) (length s) ≡ false → false ≡ isWord s kind n p
 unfolding isWord
@@ -68,52 +65,41 @@ module _ (s : List ℕ) (kind n p w : ℕ) (h : leb (p + n) (length s) ≡ true)
 pub i-is : (s : List ℕ) (p i : ℕ) {w : ℕ} → w ≡ wordAt s p → i ≡ iOf w → i ≡ iOf (wordAt s p)
 i-is s p i e f = f ∙ ap iOf e
 
--- ---- where the lists end: from a place on the same as from their start
+-- ---- what is left to read, of a list that was begun and of those after it: its next word
 
-pub scan-end : (s : List ℕ) (left pairs p e : ℕ) → pairs ≡ 0 → left ≡ 0 → pairsAt s pairs (listsAt s left) p .end ≡ e → p ≡ e
-unfolding pairsAt listsAt
-scan-end s left pairs p e a b i = rw (a, b) at i
+abbrev pub ahead : List ℕ → ℕ → ℕ → ℕ → Lists
+ahead s left pairs p = pairsAt s pairs (listsAt s left) p
 
-module _ (s : List ℕ) (left pairs p e : ℕ) (i : pairsAt s pairs (listsAt s left) p .end ≡ e) where
-  pub scan-no-12 : pairs ≡ 0 → (left ≡ 0 → ⊥) → isWord s 12 4 p ≡ false → 0 ≡ e
+module _ (s : List ℕ) (left pairs p : ℕ) where
+  pub no-more : pairs ≡ 0 → left ≡ 0 → ahead s left pairs p ≡ noLists p
   unfolding pairsAt listsAt
-  scan-no-12 a b f = go left b (rw a at i)
-    where
-      go : (l : ℕ) → (l ≡ 0 → ⊥) → pairsAt s 0 (listsAt s l) p .end ≡ e → 0 ≡ e
-      go zero n h = absurd (n refl)
-      go (suc l) n h = rw f at h
+  no-more a b = rw (a, b)
 
-  pub scan-12 : pairs ≡ 0 → (left ≡ 0 → ⊥) → isWord s 12 4 p ≡ true → (n : ℕ) → n ≡ iOf (wordAt s p) → pairsAt s n (listsAt s (left - 1)) (p + 4) .end ≡ e
-  unfolding pairsAt listsAt
-  scan-12 a b f w q = rw q (go left b (rw a at i))
-    where
-      go : (l : ℕ) → (l ≡ 0 → ⊥) → pairsAt s 0 (listsAt s l) p .end ≡ e → pairsAt s (iOf (wordAt s p)) (listsAt s (l - 1)) (p + 4) .end ≡ e
-      go zero n h = absurd (n refl)
-      go (suc l) n h = let d : suc l - 1 ≡ l = omega arith in rw d (rw f at h)
+  module _ (a : pairs ≡ 0) (n : ℕ) (e : left ≡ suc n) where
+    pub no-12 : isWord s 12 4 p ≡ false → ahead s left pairs p ≡ missing
+    unfolding pairsAt listsAt
+    no-12 t = rw (a, e, t)
 
-  pub scan-no-13 : (pairs ≡ 0 → ⊥) → isWord s 13 12 p ≡ false → 0 ≡ e
-  unfolding pairsAt
-  scan-no-13 a f = go pairs a i
-    where
-      go : (m : ℕ) → (m ≡ 0 → ⊥) → pairsAt s m (listsAt s left) p .end ≡ e → 0 ≡ e
-      go zero n h = absurd (n refl)
-      go (suc m) n h = rw f at h
+    pub one-12 : isWord s 12 4 p ≡ true → (v : ℕ) → v ≡ iOf (wordAt s p) → ahead s left pairs p ≡ withList v (ahead s n v (p + 4))
+    unfolding pairsAt listsAt
+    one-12 t v q = rw (a, e, t, ← q)
 
-  pub scan-13 : (pairs ≡ 0 → ⊥) → isWord s 13 12 p ≡ true → pairsAt s (pairs - 1) (listsAt s left) (p + 12) .end ≡ e
-  unfolding pairsAt
-  scan-13 a f = go pairs a i
-    where
-      go : (m : ℕ) → (m ≡ 0 → ⊥) → pairsAt s m (listsAt s left) p .end ≡ e → pairsAt s (m - 1) (listsAt s left) (p + 12) .end ≡ e
-      go zero n h = absurd (n refl)
-      go (suc m) n h = let d : suc m - 1 ≡ m = omega arith in rw d (rw f at h)
+  module _ (a : pairs ≡ 0 → ⊥) where
+    more-pairs : pairs ≡ suc (pairs - 1)
+    more-pairs = omega arith
 
-  -- lists that end have their words
-  module _ (n : e ≡ 0 → ⊥) where
-    pub has-12 : pairs ≡ 0 → (left ≡ 0 → ⊥) → isWord s 12 4 p ≡ true
-    has-12 a b = elim (either (isWord s 12 4 p)) [ inl t ↦ t | inr t ↦ absurd (n (sym (scan-no-12 a b t))) ]
+    pub no-13 : isWord s 13 12 p ≡ false → ahead s left pairs p ≡ missing
+    unfolding pairsAt
+    no-13 t = rw (more-pairs, t)
 
-    pub has-13 : (pairs ≡ 0 → ⊥) → isWord s 13 12 p ≡ true
-    has-13 a = elim (either (isWord s 13 12 p)) [ inl t ↦ t | inr t ↦ absurd (n (sym (scan-no-13 a t))) ]
+    pub one-13 : isWord s 13 12 p ≡ true → (g : ℕ) → g ≡ iOf (wordAt s p) → (v : Float) → v ≡ floatAt s (p + 4)
+        → ahead s left pairs p ≡ withPair g v (ahead s left (pairs - 1) (p + 12))
+    unfolding pairsAt
+    one-13 t g q v f = subst (λ (k : ℕ). pairsAt s k (listsAt s left) p ≡ withPair g v (ahead s left (pairs - 1) (p + 12))) (sym more-pairs) (rw (t, q, f))
+
+-- where they end
+pub ends : {a b : Lists} {e : ℕ} → a ≡ b → a .end ≡ e → b .end ≡ e
+ends h i = ap (λ (z : Lists). z .end) (sym h) ∙ i
 
 -- ---- they end no earlier than they start
 
@@ -138,71 +124,77 @@ lists-after s q (suc m) p l n =
       | inr e ↦ absurd ((rw e at n) refl)
     ]
 
--- ---- filling: what is filled and what is left make the whole
+-- ---- how many there are
 
-one-more : (A : Type 0) (l : List A) (i : ℕ) (v : A) (more all : List A) → i < length l → take i l ++ (v ∷ more) ≡ all → take (i + 1) (set l i v) ++ more ≡ all
-one-more A l i v more all h e = rw (add-one i, take-suc-set l i v h) (append-snoc (take i l) v more ∙ e)
+-- the lists that f reads: at most n, with a count for each group, in 12 bytes each
+pub record Few (s : List ℕ) (n : ℕ) (f : ℕ → Lists) : Type 0 where
+  pub lens : (p : ℕ) → length (f p .lens) ≤ n
+  pub counts : (p : ℕ) → length (f p .counts) ≡ length (f p .groups)
+  pub groups : (p : ℕ) → p ≤ length s → p + 12 * length (f p .groups) ≤ length s
 
-pub record Filling (s : List ℕ) (all : Lists) (n k : ℕ) (a₀ : List Float) (left pairs p m : ℕ) (ls gs : List ℕ) (a : List Float) : Type 0 where
-  pub lengths : take (n - left) ls ++ pairsAt s pairs (listsAt s left) p .lens ≡ all .lens
-  pub members : take m gs ++ pairsAt s pairs (listsAt s left) p .groups ≡ all .groups
-  pub numbers : take (k + m) a ++ pairsAt s pairs (listsAt s left) p .counts ≡ take k a₀ ++ all .counts
-
-pub fill-starts : (s : List ℕ) (n k : ℕ) (a₀ : List Float) (p : ℕ) (ls gs : List ℕ) → Filling s (listsAt s n p) n k a₀ n 0 p 0 ls gs a₀
+pairs-few : (s : List ℕ) (n m : ℕ) (f : ℕ → Lists) → Few s n f → Few s n (pairsAt s m f)
 unfolding pairsAt
-fill-starts s n k a₀ p ls gs =
-    let z : n - n ≡ 0 = omega arith in
-    record { lengths = rw z; members = refl; numbers = rw (add-zero k) }
+pairs-few s n zero f h = h
+pairs-few s n (suc m) f h =
+    let g = pairs-few s n m f h in
+    record {
+      lens = λ p. elim (either (isWord s 13 12 p)) [ inl e ↦ rw e (g .lens (p + 12)) | inr e ↦ rw e (omega arith) ];
+      counts = λ p. elim (either (isWord s 13 12 p)) [ inl e ↦ rw e (ap suc (g .counts (p + 12))) | inr e ↦ rw e ];
+      groups = λ p l. elim (either (isWord s 13 12 p)) [ inl e ↦ rw e (omega (arith, g .groups (p + 12) (word-in s 13 12 p e))) | inr e ↦ rw e (omega arith) ];
+    }
 
-module _ (s : List ℕ) (all : Lists) (n k : ℕ) (a₀ : List Float) (left pairs p m : ℕ) (ls gs : List ℕ) (a : List Float) (f : Filling s all n k a₀ left pairs p m ls gs a) where
-  pub fill-ends : pairs ≡ 0 → left ≡ 0 → Listed all n m k ls gs a₀ a
-  unfolding pairsAt listsAt
-  fill-ends x y = go left pairs x y f
-    where
-      go : (l q : ℕ) → q ≡ 0 → l ≡ 0 → Filling s all n k a₀ l q p m ls gs a → Listed all n m k ls gs a₀ a
-      go zero zero x y g =
-          let z : n - 0 ≡ n = omega arith in
-          record {
-            lengths = sym (append-nil (take n ls)) ∙ (rw z at (g .lengths));
-            members = sym (append-nil (take m gs)) ∙ g .members;
-            numbers = sym (append-nil (take (k + m) a)) ∙ g .numbers;
-          }
-      go zero (suc q) x y g = absurd (omega arith)
-      go (suc l) q x y g = absurd (omega arith)
+pub lists-few : (s : List ℕ) (n : ℕ) → Few s n (listsAt s n)
+unfolding listsAt
+lists-few s zero = record { lens = λ p. omega arith; counts = λ p. refl; groups = λ p l. omega arith }
+lists-few s (suc n) =
+    let g : (m : ℕ) → Few s n (pairsAt s m (listsAt s n)) = λ m. pairs-few s n m (listsAt s n) (lists-few s n) in
+    record {
+      lens = λ p. elim (either (isWord s 12 4 p)) [ inl e ↦ rw e (omega (arith, g (iOf (wordAt s p)) .lens (p + 4))) | inr e ↦ rw e (omega arith) ];
+      counts = λ p. elim (either (isWord s 12 4 p)) [ inl e ↦ rw e (g (iOf (wordAt s p)) .counts (p + 4)) | inr e ↦ rw e ];
+      groups = λ p l. elim (either (isWord s 12 4 p)) [ inl e ↦ rw e (omega (arith, g (iOf (wordAt s p)) .groups (p + 4) (word-in s 12 4 p e))) | inr e ↦ rw e (omega arith) ];
+    }
 
-  pub fill-12 : isWord s 12 4 p ≡ true → pairs ≡ 0 → (left ≡ 0 → ⊥) → left ≤ n → n - left < length ls → (v : ℕ) → v ≡ iOf (wordAt s p)
-      → Filling s all n k a₀ (left - 1) v (p + 4) m (set ls (n - left) v) gs a
-  unfolding pairsAt listsAt
-  fill-12 t x y b h v q = go left pairs x y b h f
-    where
-      go : (l c : ℕ) → c ≡ 0 → (l ≡ 0 → ⊥) → l ≤ n → n - l < length ls → Filling s all n k a₀ l c p m ls gs a
-          → Filling s all n k a₀ (l - 1) v (p + 4) m (set ls (n - l) v) gs a
-      go zero c x y b h g = absurd (y refl)
-      go (suc l) (suc c) x y b h g = absurd (omega arith)
-      go (suc l) zero x y b h g =
-          let d : suc l - 1 ≡ l = omega arith in
-          let z : n - l ≡ n - suc l + 1 = omega arith in
-          rw d
-          (record {
-            lengths = rw (z, q) (one-more ℕ ls (n - suc l) (iOf (wordAt s p)) _ (all .lens) h (rw t at (g .lengths)));
-            members = rw q (rw t at (g .members));
-            numbers = rw q (rw t at (g .numbers));
-          })
+-- ---- storing them: what is stored and what is left make the whole
 
-  pub fill-13 : isWord s 13 12 p ≡ true → (pairs ≡ 0 → ⊥) → m < length gs → k + m < length a → (g : ℕ) → g ≡ iOf (wordAt s p) → (v : Float) → v ≡ floatAt s (p + 4)
-      → Filling s all n k a₀ left (pairs - 1) (p + 12) (m + 1) ls (set gs m g) (set a (k + m) v)
-  unfolding pairsAt
-  fill-13 t y hg ha c q v qv = go pairs y f
-    where
-      go : (b : ℕ) → (b ≡ 0 → ⊥) → Filling s all n k a₀ left b p m ls gs a
-          → Filling s all n k a₀ left (b - 1) (p + 12) (m + 1) ls (set gs m c) (set a (k + m) v)
-      go zero y g = absurd (y refl)
-      go (suc b) y g =
-          let d : suc b - 1 ≡ b = omega arith in
-          let z : k + (m + 1) ≡ k + m + 1 = omega arith in
-          rw d
-          (record {
-            lengths = rw t at (g .lengths);
-            members = rw q (one-more ℕ gs m (iOf (wordAt s p)) _ (all .groups) hg (rw t at (g .members)));
-            numbers = rw (z, qv) (one-more Float a (k + m) (floatAt s (p + 4)) _ (take k a₀ ++ all .counts) ha (rw t at (g .numbers)));
-          })
+pub record Storing (all : Lists) (k : ℕ) (ls₀ gs₀ : List ℕ) (a₀ : List Float) (left : Lists) (n m : ℕ) (ls gs : List ℕ) (a : List Float) : Type 0 where
+  pub lists : n + length (left .lens) ≡ length (all .lens)
+  pub groups : m + length (left .groups) ≡ length (all .groups)
+  pub lengths : sets ls n (left .lens) ≡ sets ls₀ 0 (all .lens)
+  pub members : sets gs m (left .groups) ≡ sets gs₀ 0 (all .groups)
+  pub numbers : sets a (k + m) (left .counts) ≡ sets a₀ k (all .counts)
+
+pub store-starts : (s : List ℕ) (n p k : ℕ) (ls gs : List ℕ) (a : List Float) → Storing (listsAt s n p) k ls gs a (ahead s (n - 0) 0 p) 0 0 ls gs a
+unfolding pairsAt
+store-starts s n p k ls gs a =
+    let z : n - 0 ≡ n = omega arith in
+    rw z (record { lists = zero-add _; groups = zero-add _; lengths = refl; members = refl; numbers = rw (add-zero k) })
+
+module _ {all : Lists} {k : ℕ} {ls₀ gs₀ : List ℕ} {a₀ : List Float} {left : Lists} {n m : ℕ} {ls gs : List ℕ} {a : List Float} (f : Storing all k ls₀ gs₀ a₀ left n m ls gs a) where
+  -- with another name for what is left
+  named : {l : Lists} → left ≡ l → Storing all k ls₀ gs₀ a₀ l n m ls gs a
+  named e = subst (λ (z : Lists). Storing all k ls₀ gs₀ a₀ z n m ls gs a) e f
+
+  pub store-ends : (p : ℕ) → left ≡ noLists p → Stored all k (record { lists = n; groups = m }) ls₀ gs₀ a₀ ls gs a
+  store-ends p e =
+      let g = named e in
+      record { lists = sym (add-zero n) ∙ g .lists; groups = sym (add-zero m) ∙ g .groups; lengths = g .lengths; members = g .members; numbers = g .numbers }
+
+  pub store-12 : (v : ℕ) (more : Lists) → left ≡ withList v more → (ls′ : List ℕ) → ls′ ≡ set ls n v → Storing all k ls₀ gs₀ a₀ more (n + 1) m ls′ gs a
+  store-12 v more e ls′ q =
+      let g = named e in
+      record { lists = omega (arith, g .lists); groups = g .groups; lengths = rw (q, add-one n) (g .lengths); members = g .members; numbers = g .numbers }
+
+  pub store-13 : (v : ℕ) (x : Float) (more : Lists) → left ≡ withPair v x more → (gs′ : List ℕ) → gs′ ≡ set gs m v → (a′ : List Float) → a′ ≡ set a (k + m) x
+      → Storing all k ls₀ gs₀ a₀ more n (m + 1) ls gs′ a′
+  store-13 v x more e gs′ q a′ r =
+      let g = named e in
+      let z : k + (m + 1) ≡ suc (k + m) = omega arith in
+      record { lists = g .lists; groups = omega (arith, g .groups); lengths = g .lengths; members = rw (q, add-one m) (g .members); numbers = rw (r, z) (g .numbers) }
+
+  -- no buffer grows
+  pub store-kept : (length ls ≡ length ls₀) × (length gs ≡ length gs₀) × (length a ≡ length a₀)
+  store-kept = (
+    sym (length-sets ls n (left .lens)) ∙ ap length (f .lengths) ∙ length-sets ls₀ 0 (all .lens),
+    sym (length-sets gs m (left .groups)) ∙ ap length (f .members) ∙ length-sets gs₀ 0 (all .groups),
+    sym (length-sets a (k + m) (left .counts)) ∙ ap length (f .numbers) ∙ length-sets a₀ k (all .counts),
+  )

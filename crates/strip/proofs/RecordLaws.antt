@@ -8,9 +8,10 @@ use mathlib.Core.List.{List}
 use mathlib.Core.Logic.{inl, inr}
 use lib.Dec.{leb, ltb, eqb}
 use lib.ListN.{length}
-use borrow.Author.Tests.{lt-ltb, le-ltb, ltb-false, lt-leb, le-leb, eq-eqb, ne-eqb, eqb-false}
+use borrow.Author.Tests.{lt-ltb, le-ltb, ltb-false, lt-leb, le-leb, leb-true, eq-eqb, ne-eqb, eqb-true, eqb-false}
 use Rattle.arithmetic.specs.Bytes.{wordAt}
 use Rattle.arithmetic.proofs.Differences.{le-or}
+use Rattle.mixture.proofs.PlaceLaws.{both}
 use Rattle.strip.specs.declared.records.Shape.{Shape}
 use Rattle.strip.specs.declared.records.Rec.{Rec}
 use Rattle.strip.specs.declared.records.Read.{Read}
@@ -18,7 +19,7 @@ use Rattle.strip.specs.declared.records.Read.the-variants.{Record, Broke
 use Rattle.strip.specs.Words.{mostBytes, kindOf, iOf, jOf, restOf}
 use Rattle.strip.specs.Lists.{listsAt}
 use Rattle.strip.specs.Records.{shape, shapeOf, recordBy, readAt}
-use Rattle.strip.specs.Inner.{Whole}
+use Rattle.strip.specs.Inner.{fitsBy, fits}
 use Rattle.strip.proofs.ListLaws.{lists-after}
 
 pub square : (i : ℕ) → i < 256 → i * i ≤ 65025
@@ -87,20 +88,14 @@ no-broken r e = let z : _≡_ {A = ℕ} 0 1 = cc in omega arith
 same-record : (a r : Rec) → Record a ≡ Record r → a ≡ r
 same-record a r e = cc
 
-right : (a b : Bool) → a && b ≡ true → b ≡ true
-right true b e = e
-right false b e = let z : _≡_ {A = ℕ} 0 1 = cc in absurd (omega arith)
-
 shape-of : (k : Shape) → k .formed ≡ true → k ≡ shape true (k .floats) (k .lists)
 shape-of k e = rw (← e)
 
 pub record Found (s : List ℕ) (p : ℕ) (r : Rec) : Type 0 where
   pub body : r .body ≡ p + 4
-  pub i : r .i < 256
   pub shaped : shapeOf (r .kind) (r .i) (r .j) ≡ shape true (r .floats) (r .lists)
   pub floats : r .body + 8 * r .floats ≤ r .next
   pub next : r .next ≤ length s
-  pub lists : listsAt s (r .lists) (r .body + 8 * r .floats) .end ≡ 0 → ⊥
 
 pub found : (s : List ℕ) (p : ℕ) (r : Rec) → readAt s p ≡ Record r → Found s p r
 unfolding readAt recordBy
@@ -116,20 +111,45 @@ found s p r e =
     subst (λ (z : Rec). Found s p z) (same-record _ r (e5 .1))
     (record {
       body = refl;
-      i = omega arith;
-      shaped = shape-of k (right (eqb (restOf w) 0) (k .formed) (e3 .0));
+      shaped = shape-of k (both (eqb (restOf w) 0) (k .formed) (e3 .0) .1);
       floats = lists-after s (p + 4 + 8 * k .floats) (k .lists) (p + 4 + 8 * k .floats) (omega arith) (eqb-false n 0 (e4 .0));
       next = ltb-false (length s) n (e5 .0);
-      lists = eqb-false n 0 (e4 .0);
     })
 
-pub found-whole : (s : List ℕ) (p : ℕ) (r : Rec) → length s ≤ mostBytes → readAt s p ≡ Record r → Whole s r
-found-whole s p r l e =
+pub found-fits : (s : List ℕ) (p : ℕ) (r : Rec) → length s ≤ mostBytes → readAt s p ≡ Record r → fits s r ≡ true
+unfolding fits
+found-fits s p r l e =
     let f = found s p r e in
-    record { short = l; i = f .i; shaped = f .shaped; body = omega (arith, f .body); floats = omega (arith, f .floats, f .next); lists = f .lists }
+    rw (le-leb (length s) mostBytes l, f .shaped, eq-eqb (r .floats) (r .floats) refl, eq-eqb (r .lists) (r .lists) refl, le-leb (r .body + 8 * r .floats) (length s) (omega (arith, f .floats, f .next)))
 
 pub later : (s : List ℕ) (p : ℕ) (r : Rec) → readAt s p ≡ Record r → p + 4 ≤ r .next
 later s p r e = let f = found s p r e in omega (arith, f .body, f .floats)
+
+-- ---- whether a record fits
+
+pub fits-by : (s : List ℕ) (r : Rec) (b : Bool) (k : Shape) → length s ≤ mostBytes → k ≡ shapeOf (r .kind) (r .i) (r .j) → b ≡ fitsBy s r k → b ≡ fits s r
+unfolding fits
+fits-by s r b k h e f = rw (le-leb (length s) mostBytes h, ← e) f
+
+pub record Fitting (s : List ℕ) (r : Rec) : Type 0 where
+  pub short : length s ≤ mostBytes
+  pub shaped : shapeOf (r .kind) (r .i) (r .j) ≡ shape true (r .floats) (r .lists)
+  pub floats : r .body + 8 * r .floats ≤ length s
+
+pub fitting : (s : List ℕ) (r : Rec) → fits s r ≡ true → Fitting s r
+unfolding fits
+fitting s r e =
+    let k = shapeOf (r .kind) (r .i) (r .j) in
+    let a = both _ _ e in
+    let b = both _ _ (a .1) in
+    let c = both _ _ (b .1) in
+    let d = both _ _ (c .1) in
+    let f = eqb-true (k .floats) (r .floats) (c .0) in
+    record {
+      short = leb-true (length s) mostBytes (a .0);
+      shaped = shape-of k (b .0) ∙ rw (f, eqb-true (k .lists) (r .lists) (d .0));
+      floats = omega (arith, leb-true (r .body + 8 * k .floats) (length s) (d .1), f);
+    }
 
 -- ---- what no record shows
 

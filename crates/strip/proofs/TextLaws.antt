@@ -9,7 +9,7 @@ use mathlib.Core.List.{List, [], _∷_, _++_, append-assoc}
 use mathlib.Core.Logic.{inl, inr}
 use lib.Dec.{T}
 use lib.ListN.{length, getD, take, drop, set, length-append}
-use lib.Seq.{sets, sets-eq, set-out, drop-cons, drop-length, take-append-le}
+use lib.Seq.{sets, sets-eq, set-out, drop-cons, drop-length, take-at, length-take-le}
 use lib.Ieee.{Float, binary64, isNan, ne, toBits, fits}
 use lib.Ieee.Bits.{toBits-lt}
 use lib.Ieee.Compare.{differs-from-itself}
@@ -59,16 +59,15 @@ put-past l p t h = record { long = refl; text = sym (sets-past l p t h) }
 pub put-same : {l l₁ a b : List ℕ} {p q : ℕ} → Put l p a q l₁ → a ≡ b → Put l p b q l₁
 put-same {l} {l₁} {a} {b} {p} {q} x e = subst (λ (z : List ℕ). Put l p z q l₁) e x
 
--- in a buffer that is long enough the text stands whole
+-- in a buffer that is long enough it stands whole
+pub sets-whole : (A : Type 0) (l : List A) (k : ℕ) (t : List A) (n : ℕ) → n ≡ length t → k + n ≤ length l → take (k + n) (sets l k t) ≡ take k l ++ t
+sets-whole A l k t n e h =
+    rw (sets-eq t l k (omega arith))
+    (take-at (take k l ++ t) (drop (k + length t) l) (k + n) (length-append (take k l) t ∙ omega (arith, length-take-le k l (omega arith))))
+
 pub put-whole : {l t l′ : List ℕ} {r : ℕ} → Put l 0 t r l′ → r ≤ length l → take r l′ ≡ t
 put-whole {l} {t} {l′} {r} p h =
-    let e : r ≡ length t = p .long in
-    let s : l′ ≡ t ++ drop (length t) l = p .text ∙ (sets-eq t l 0 (rw (zero-add (length t)) (omega arith)) ∙ rw (zero-add (length t))) in
-    rw (s, e, take-append-le (length t) t (drop (length t) l) (omega arith)) (all t)
-  where
-    all : (t : List ℕ) → take (length t) t ≡ t
-    all [] = refl
-    all (a ∷ t) = ap (λ (z : List ℕ). a ∷ z) (all t)
+    rw (p .text) (subst (λ (z : ℕ). take z (sets l 0 t) ≡ t) (zero-add r) (sets-whole ℕ l 0 t r (p .long) (omega arith)))
 
 -- ---- decimal numbers
 

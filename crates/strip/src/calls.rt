@@ -1,14 +1,15 @@
 // The call that a record makes.
 ghost use mathlib.Core.Path.{_≡_};
 ghost use Rattle.mixture.specs.Memory.{memory, after};
-ghost use Rattle.mixture.specs.Calls.{afterLoad};
-ghost use Rattle.mixture.specs.History.{afterCall};
+ghost use Rattle.mixture.specs.Book.{Load};
 ghost use Rattle.strip.specs.Calls.{modelOf, dataOf, quantityOf, callOf};
-ghost use Rattle.strip.specs.Inner.{Whole, settingBy};
+ghost use Rattle.strip.specs.Inner.{settingBy, made};
 use crate::lists::fill_lists;
 use crate::records::Rec;
+use crate::records::does_fit;
 use arithmetic::TdParam;
 use arithmetic::bytes::fill_floats;
+use mixture::Answer;
 use mixture::Head;
 use mixture::Model;
 use mixture::Reply;
@@ -51,19 +52,27 @@ fn quantity_of(i: usize, j: usize) -> Quantity
     }
 }
 
-// A strip has at most 8,191 floats and, of 12 bytes each, 5,461 kinds 13: the buffers hold those of any load.
+// Makes a record's load; one that doesn't fit is declined with 2. A strip has at most 8,191 floats and, of 12 bytes each, 5,461
+// kinds 13: the buffers hold those of any load.
 fn load(s: &[u8], r: Rec, values: &mut [f64], cells: &[f64], marks: &mut [u8], head: Head) -> Reply
-    requires { ⌜ Whole (now s) r ⌝ }
-    ensures { λ o. ⌜ after (memory (now (values .exit)) (now (cells .entry)) (now (marks .exit))) (o .head) (o .answer) ≡ afterLoad (memory (now (values .entry)) (now (cells .entry)) (now (marks .entry))) head (dataOf (now (s .entry)) r) ⌝ }
+    ensures { λ o. ⌜ after (memory (now (values .exit)) (now (cells .entry)) (now (marks .exit))) (o .head) (o .answer) ≡ made (now (s .entry)) r (memory (now (values .entry)) (now (cells .entry)) (now (marks .entry))) head (Load (dataOf (now (s .entry)) r)) ⌝ }
 {
+    if !does_fit(s, r) {
+        return Reply {
+            head: head,
+            answer: Answer::Refused(2),
+        };
+    }
     let body = r.body;
     let k = r.floats;
-    let n = r.lists;
     let mut given = [0.0; 8192];
     fill_floats(&mut given, s, body, k);
     let mut lens = [0u8; 256];
     let mut groups = [0u8; 5461];
-    let m = fill_lists(&mut lens, &mut groups, &mut given, k, s, body + 8 * k, n);
+    let at = body + 8 * k;
+    let met = fill_lists(&mut lens, &mut groups, &mut given, k, s, at, r.lists);
+    let n = met.lists;
+    let m = met.groups;
     let e = k + m;
     mixture::load::load(
         values,
@@ -71,15 +80,15 @@ fn load(s: &[u8], r: Rec, values: &mut [f64], cells: &[f64], marks: &mut [u8], h
         marks,
         head,
         model_of(r.kind),
-        r.i,
-        r.j,
+        r.i as usize,
+        r.j as usize,
         &lens[..n],
         &groups[..m],
         &given[..e],
     )
 }
 
-// Makes the record's call. A kind above 4 has at most 255 floats.
+// Makes the record's call; one that doesn't fit is declined with 2. A kind above 4 has at most 255 floats.
 pub fn make(
     s: &[u8],
     r: Rec,
@@ -88,12 +97,17 @@ pub fn make(
     marks: &mut [u8],
     head: Head,
 ) -> Reply
-    requires { ⌜ Whole (now s) r ⌝ }
-    ensures { λ o. ⌜ after (memory (now (values .exit)) (now (cells .exit)) (now (marks .exit))) (o .head) (o .answer) ≡ afterCall (memory (now (values .entry)) (now (cells .entry)) (now (marks .entry))) head (callOf (now (s .entry)) r) ⌝ }
+    ensures { λ o. ⌜ after (memory (now (values .exit)) (now (cells .exit)) (now (marks .exit))) (o .head) (o .answer) ≡ made (now (s .entry)) r (memory (now (values .entry)) (now (cells .entry)) (now (marks .entry))) head (callOf (now (s .entry)) r) ⌝ }
 {
     let kind = r.kind;
     if kind < 5 {
         return load(s, r, values, &cells[..], marks, head);
+    }
+    if !does_fit(s, r) {
+        return Reply {
+            head: head,
+            answer: Answer::Refused(2),
+        };
     }
     let body = r.body;
     let k = r.floats;
@@ -108,9 +122,11 @@ pub fn make(
             &given[..k],
         );
     }
+    let i = r.i as usize;
+    let j = r.j as usize;
     if kind == 11 {
-        return mixture::query::query(&values[..], cells, marks, head, quantity_of(r.i, r.j));
+        return mixture::query::query(&values[..], cells, marks, head, quantity_of(i, j));
     }
-    let q = setting_of(kind, r.i, r.j, five_at(&given, 0));
+    let q = setting_of(kind, i, j, five_at(&given, 0));
     mixture::set::set(values, &cells[..], marks, head, q)
 }

@@ -1,11 +1,10 @@
 // The group lists of a kind 4: a kind 12 for each component, and its kinds 13, each with its count.
 ghost use mathlib.Core.Path.{_≡_};
-ghost use Prim.Native.Nat.{_+_, _*_, _≤_};
+ghost use Prim.Native.Nat.{_+_};
 ghost use lib.Dec.{leb};
-ghost use lib.ListN.{length, take};
-ghost use Rattle.strip.specs.Words.{mostBytes};
+ghost use lib.ListN.{length, set};
 ghost use Rattle.strip.specs.Lists.{isWord, listsAt};
-ghost use Rattle.strip.specs.Inner.{Listed};
+ghost use Rattle.strip.specs.Inner.{Stored};
 use crate::words::i_of;
 use crate::words::j_of;
 use crate::words::kind_of;
@@ -13,8 +12,14 @@ use crate::words::rest_of;
 use arithmetic::bytes::float_at;
 use arithmetic::bytes::word_at;
 
+// How many lists were met, and how many groups in them.
+pub struct Met {
+    pub lists: usize,
+    pub groups: usize,
+}
+
 // Whether n bytes stand from p on.
-fn has(s: &[u8], p: usize, n: usize) -> bool
+pub fn has(s: &[u8], p: usize, n: usize) -> bool
     ensures { λ r. ⌜ r ≡ leb (p + n) (length (now (s .entry))) ⌝ }
 {
     if s.len() < n {
@@ -78,8 +83,28 @@ pub fn lists_end(s: &[u8], at: usize, n: usize) -> usize
     }
 }
 
-// Puts the lengths of n lists into `lens`, their groups into `groups`, and their counts after the first k floats of `a`. It
-// answers how many groups there are.
+// Stores a byte where there is a place for it.
+fn store(l: &mut [u8], at: usize, v: u8)
+    ensures { λ _. ⌜ now (l .exit) ≡ set (now (l .entry)) at v ⌝ }
+{
+    if at < l.len() {
+        l[at] = v;
+    }
+}
+
+// Stores a float m places past k, where there is a place for it.
+fn store_float(a: &mut [f64], k: usize, m: usize, v: f64)
+    ensures { λ _. ⌜ now (a .exit) ≡ set (now (a .entry)) (k + m) v ⌝ }
+{
+    if k < a.len() {
+        if m < a.len() - k {
+            a[k + m] = v;
+        }
+    }
+}
+
+// Stores the lengths of n lists in `lens`, their groups in `groups`, and their counts in `a` from place k on, as far as there is
+// room, up to the first word that is missing.
 pub fn fill_lists(
     lens: &mut [u8],
     groups: &mut [u8],
@@ -88,27 +113,41 @@ pub fn fill_lists(
     s: &[u8],
     at: usize,
     n: usize,
-) -> usize
-    requires { ⌜ (length (now s) ≤ mostBytes) × (n ≤ length (now lens)) × (5461 ≤ length (now groups)) × (8192 ≤ length (now a)) × (8 * k ≤ at) × (listsAt (now s) n at .end ≡ 0 → ⊥) × (at ≤ length (now s)) ⌝ }
-    ensures { λ r. ⌜ Listed (listsAt (now (s .entry)) n at) n r k (now (lens .exit)) (now (groups .exit)) (now (a .entry)) (now (a .exit)) × (n ≡ length (take n (now (lens .exit)))) × (r ≡ length (take r (now (groups .exit)))) × (k + r ≡ length (take (k + r) (now (a .exit)))) × (k + r ≤ 8192) × (r ≤ 5461) ⌝ }
+) -> Met
+    ensures { λ r. ⌜ Stored (listsAt (now (s .entry)) n at) k r (now (lens .entry)) (now (groups .entry)) (now (a .entry)) (now (lens .exit)) (now (groups .exit)) (now (a .exit)) ⌝ }
 {
     let mut place = at;
-    let mut left = n;
+    let mut lists: usize = 0;
     let mut pairs: usize = 0;
     let mut filled: usize = 0;
     loop {
         if pairs == 0 {
-            if left == 0 {
-                return filled;
+            if lists == n {
+                return Met {
+                    lists: lists,
+                    groups: filled,
+                };
+            }
+            if !is_word(s, 12, place) {
+                return Met {
+                    lists: lists,
+                    groups: filled,
+                };
             }
             let size = i_of(word_at(s, place));
-            lens[n - left] = size;
+            store(lens, lists, size);
             pairs = size as usize;
-            left -= 1;
+            lists += 1;
             place += 4;
         } else {
-            groups[filled] = i_of(word_at(s, place));
-            a[k + filled] = float_at(s, place + 4);
+            if !is_pair(s, place) {
+                return Met {
+                    lists: lists,
+                    groups: filled,
+                };
+            }
+            store(groups, filled, i_of(word_at(s, place)));
+            store_float(a, k, filled, float_at(s, place + 4));
             filled += 1;
             pairs -= 1;
             place += 12;

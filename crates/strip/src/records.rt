@@ -4,7 +4,10 @@ ghost use mathlib.Core.Bool.{_&&_, _||_};
 ghost use Prim.Native.Nat.{_≤_};
 ghost use lib.Dec.{eqb, ltb};
 ghost use Rattle.strip.specs.Records.{shape, shapeOf, readAt};
+ghost use Rattle.strip.specs.Inner.{fits};
+use crate::lists::has;
 use crate::lists::lists_end;
+use crate::words::MOST_BYTES;
 use crate::words::i_of;
 use crate::words::j_of;
 use crate::words::kind_of;
@@ -21,8 +24,8 @@ pub struct Shape {
 
 pub struct Rec {
     pub kind: usize,
-    pub i: usize,
-    pub j: usize,
+    pub i: u8,
+    pub j: u8,
     pub floats: usize,
     pub lists: usize,
     // where the floats start, and where the next record does
@@ -124,11 +127,31 @@ pub fn read_at(s: &[u8], at: usize) -> Read
     }
     Read::Record(Rec {
         kind: kind,
-        i: i as usize,
-        j: j as usize,
+        i: i,
+        j: j,
         floats: k.floats,
         lists: k.lists,
         body: body,
         next: next,
     })
+}
+
+// Whether a record has its kind's floats and lists, and its floats lie in a strip that isn't over-long.
+pub fn does_fit(s: &[u8], r: Rec) -> bool
+    ensures { λ b. ⌜ b ≡ fits (now (s .entry)) r ⌝ }
+{
+    if MOST_BYTES < s.len() {
+        return false;
+    }
+    let k = shape_of(r.kind, r.i, r.j);
+    if !k.formed {
+        return false;
+    }
+    if k.floats != r.floats {
+        return false;
+    }
+    if k.lists != r.lists {
+        return false;
+    }
+    has(s, r.body, 8 * k.floats)
 }

@@ -1,16 +1,41 @@
 -- Fills three buffers with a load's lists and floats and makes the call: what the buffers hold is the definition's load.
 -- Assumes nothing.
-use Rattle.strip.proofs.CallLaws.{whole-lists, load-is}
+use Prim.Native.Nat.{_+_}
 use native.Mathlib.Omega.{arith}
+use mathlib.Core.Path.{_≡_, sym, _∙_}
+use mathlib.Core.Bool.{true}
+use lib.Seq.{length-take-le}
+use borrow.Author.Tests.{not-true, not-false}
 use borrow.Author.Needs.{needs}
+use Rattle.strip.specs.Inner.{fits}
+use Rattle.strip.proofs.RecordLaws.{Fitting, fitting}
+use Rattle.strip.proofs.CallLaws.{fit-lists, load-is, made-call, made-none}
 use Rattle.strip.proofs.calls.load.Statement.{statement}
 use Rattle.strip.proofs.calls.load.Tie as tie
+
+it-fits : (c : tie.Else1) → fits (c .before .before .before .before .before .before .args .s .now) (c .before .before .before .before .before .before .args .r) ≡ true
+it-fits c = sym (c .before .does-fit .ensures) ∙ not-false _ (c .if1 .left)
+
+fit : (c : tie.Else1) → Fitting (c .before .before .before .before .before .before .args .s .now) (c .before .before .before .before .before .before .args .r)
+fit c = fitting _ _ (it-fits c)
+
+does-fit-requires : tie.Need-does-fit-requires
+does-fit-requires c κs = tt
+
+returns : tie.Need-returns
+returns c = made-none _ (c .before .before .before .before .before .before .args .r) _ _ _ (sym (c .before .does-fit .ensures) ∙ not-true _ (c .if1 .taken))
 
 slice-aggregate-fill-floats : tie.Need-slice-aggregate-fill-floats
 slice-aggregate-fill-floats c = search needs
 
 fill-floats-requires : tie.Need-fill-floats-requires
-fill-floats-requires c κs = search needs
+fill-floats-requires c κs = let w = fit (c .before) in (omega (arith, w .floats, w .short), w .floats)
+
+mul-at : tie.Need-mul-at
+mul-at c = let w = fit (c .before .before .before) in omega (arith, w .floats, w .short)
+
+add-at : tie.Need-add-at
+add-at c = let w = fit (c .before .before .before) in omega (arith, w .floats, w .short)
 
 slice-aggregate-fill-lists : tie.Need-slice-aggregate-fill-lists
 slice-aggregate-fill-lists c = search needs
@@ -21,43 +46,41 @@ slice-aggregate-fill-lists-2 c = search needs
 slice-aggregate-fill-lists-3 : tie.Need-slice-aggregate-fill-lists-3
 slice-aggregate-fill-lists-3 c = search needs
 
-mul-fill-lists : tie.Need-mul-fill-lists
-mul-fill-lists c = search needs
-
-add-fill-lists : tie.Need-add-fill-lists
-add-fill-lists c = search needs
-
 fill-lists-requires : tie.Need-fill-lists-requires
-fill-lists-requires c κs =
-    let w = c .before .before .before .before .before .before .before .before .before .before .pre in
-    (w .short, omega (arith, whole-lists _ _ w), omega arith, omega (arith, c .before .before .before .before .fill-floats .kept .0), omega arith, w .lists, w .floats)
+fill-lists-requires c κs = tt
 
 add-e : tie.Need-add-e
-add-e c = search needs
+add-e c = omega (arith, fit-lists _ _ (fit (c .before .before .before .before .before .before .before .before .before .before)) (omega arith) (c .before .before .before .fill-lists .ensures) .2)
 
 model-of-requires : tie.Need-model-of-requires
 model-of-requires c κs = tt
 
+cast-load : tie.Need-cast-load
+cast-load c = search needs
+
+cast-load-2 : tie.Need-cast-load-2
+cast-load-2 c = search needs
+
 array-share-prefix-lens : tie.Need-array-share-prefix-lens
-array-share-prefix-lens c = let h = whole-lists _ _ (c .before .before .before .before .before .before .before .before .before .before .before .before .before .before .before .before .before .pre) in search needs
+array-share-prefix-lens c = omega (arith, fit-lists _ _ (fit (c .before .before .before .before .before .before .before .before .before .before .before .before .before .before .before)) (omega arith) (c .before .before .before .before .before .before .before .before .fill-lists .ensures) .0)
 
 slice-aggregate-load : tie.Need-slice-aggregate-load
-slice-aggregate-load c = search needs
+slice-aggregate-load c = let f = c .before .before .before .before .before .before .before .before .before .fill-lists in sym (length-take-le (f .result .lists) _ (omega (arith, fit-lists _ _ (fit (c .before .before .before .before .before .before .before .before .before .before .before .before .before .before .before .before)) (omega arith) (f .ensures) .0, f .kept .0)))
 
 array-share-prefix-groups : tie.Need-array-share-prefix-groups
-array-share-prefix-groups c = search needs
+array-share-prefix-groups c = omega (arith, fit-lists _ _ (fit (c .before .before .before .before .before .before .before .before .before .before .before .before .before .before .before .before)) (omega arith) (c .before .before .before .before .before .before .before .before .before .fill-lists .ensures) .1)
 
 slice-aggregate-load-2 : tie.Need-slice-aggregate-load-2
-slice-aggregate-load-2 c = search needs
+slice-aggregate-load-2 c = let f = c .before .before .before .before .before .before .before .before .before .before .fill-lists in sym (length-take-le (f .result .groups) _ (omega (arith, fit-lists _ _ (fit (c .before .before .before .before .before .before .before .before .before .before .before .before .before .before .before .before .before)) (omega arith) (f .ensures) .1, f .kept .1 .0)))
 
 array-share-prefix-given : tie.Need-array-share-prefix-given
-array-share-prefix-given c = search needs
+array-share-prefix-given c = omega (arith, fit-lists _ _ (fit (c .before .before .before .before .before .before .before .before .before .before .before .before .before .before .before .before .before)) (omega arith) (c .before .before .before .before .before .before .before .before .before .before .fill-lists .ensures) .2)
 
 slice-aggregate-load-3 : tie.Need-slice-aggregate-load-3
-slice-aggregate-load-3 c = search needs
+slice-aggregate-load-3 c = let f = c .before .before .before .before .before .before .before .before .before .before .before .fill-lists in sym (length-take-le (c .before .before .before .before .before .before .before .before .before .before .before .before .before .before .before .before .before .before .before .before .before .before .before .before .args .r .floats + f .result .groups) _ (omega (arith, fit-lists _ _ (fit (c .before .before .before .before .before .before .before .before .before .before .before .before .before .before .before .before .before .before)) (omega arith) (f .ensures) .2, f .kept .1 .1 .0, c .before .before .before .before .before .before .before .before .before .before .before .before .before .before .before .before .fill-floats .kept .0)))
 
 load-requires : tie.Need-load-requires
-load-requires c κs = search needs
+load-requires c κs = tt
 
 same-length : tie.Need-same-length
 same-length c = search needs
@@ -65,25 +88,32 @@ same-length c = search needs
 same-length-2 : tie.Need-same-length-2
 same-length-2 c = search needs
 
-returns : tie.Need-returns
-returns c =
-    let r = c .before .before .before .before .before .before .before .before .before .before .before .before .before .before .before .before .before .before .before .before .before .before .before .before .before .args .r in
-    load-is (c .before .before .before .before .before .before .before .before .before .before .before .before .before .before .before .before .before .before .before .before .before .before .before .before .before .args .s .now) r _ (r .lists) (c .before .before .before .before .before .before .before .before .before .before .before .before .before .before .fill-lists .result) (r .floats) _ _ _ _ _ _ _ (c .before .before .before .before .load .ensures) (c .before .before .before .before .before .before .before .before .model-of .ensures) (c .before .before .before .before .before .before .before .before .before .before .before .before .before .before .before .before .before .before .before .fill-floats .ensures .1) (c .before .before .before .before .before .before .before .before .before .before .before .before .before .before .fill-lists .ensures .0)
+returns-2 : tie.Need-returns-2
+returns-2 c =
+    let a = c .before .before .before .before .before .before .before .before .before .before .before .before .before .before .before .before .before .before .before .before .before .before .before .before .before .before .before .before .before .args in
+    let f = c .before .before .before .before .before .before .before .before .before .before .before .before .before .before .before .before .fill-lists in
+    let room = fit-lists _ _ (fit (c .before .before .before .before .before .before .before .before .before .before .before .before .before .before .before .before .before .before .before .before .before .before .before)) (omega arith) (f .ensures) in
+    made-call (a .s .now) (a .r) _ _ _ (it-fits (c .before .before .before .before .before .before .before .before .before .before .before .before .before .before .before .before .before .before .before .before .before .before .before))
+    (load-is (a .s .now) (a .r) _ (f .result) _ _ _ _ _ _ (c .before .before .before .before .load .ensures) (c .before .before .before .before .before .before .before .before .before .before .model-of .ensures) (c .before .before .before .before .before .before .before .before .before .before .before .before .before .before .before .before .before .before .before .before .before .fill-floats .ensures .1) (f .ensures) (omega (arith, room .0)) (omega (arith, room .1)) (omega (arith, room .2, c .before .before .before .before .before .before .before .before .before .before .before .before .before .before .before .before .before .before .before .before .before .fill-floats .kept .0)))
 
 pub load-spec : {M : Type 1} → statement M
 load-spec =
     tie.close
     (tie.spec
+    does-fit-requires
+    returns
     slice-aggregate-fill-floats
     fill-floats-requires
+    mul-at
+    add-at
     slice-aggregate-fill-lists
     slice-aggregate-fill-lists-2
     slice-aggregate-fill-lists-3
-    mul-fill-lists
-    add-fill-lists
     fill-lists-requires
     add-e
     model-of-requires
+    cast-load
+    cast-load-2
     array-share-prefix-lens
     slice-aggregate-load
     array-share-prefix-groups
@@ -93,4 +123,4 @@ load-spec =
     load-requires
     same-length
     same-length-2
-    returns)
+    returns-2)

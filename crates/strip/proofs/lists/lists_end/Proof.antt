@@ -6,12 +6,12 @@ use mathlib.Core.Bool.{true}
 use lib.ListN.{length}
 use borrow.Author.Tests.{not-true, not-false}
 use Rattle.strip.specs.Lists.{isWord, pairsAt, listsAt}
-use Rattle.strip.proofs.ListLaws.{scan-end, scan-12, scan-no-12, scan-13, scan-no-13, word-in, i-is}
+use Rattle.strip.proofs.ListLaws.{word-in, i-is, ahead, no-more, no-12, one-12, no-13, one-13, ends}
 use Rattle.strip.proofs.lists.lists_end.Statement.{statement}
 use Rattle.strip.proofs.lists.lists_end.Tie as tie
 
 abbrev Inv-loop : tie.InvT-loop
-Inv-loop s at n p₀ left₀ pairs₀ p left pairs = pairsAt s pairs (listsAt s left) p .end ≡ listsAt s n at .end
+Inv-loop s at n p₀ left₀ pairs₀ p left pairs = ahead s left pairs p .end ≡ listsAt s n at .end
 
 abbrev μ-loop : tie.MeasureT-loop
 μ-loop s at n p₀ left₀ pairs₀ p left pairs = length s - p
@@ -28,13 +28,13 @@ unfolding pairsAt
 loop-holds c = refl
 
 returns : tie.Need-returns Inv-loop μ-loop
-returns c = let l = c .before .before .loop in scan-end _ (l .left) (l .pairs) _ _ (c .before .if1 .taken) (c .if2 .taken) (l .inv)
+returns c = let l = c .before .before .loop in ends (no-more _ (l .left) (l .pairs) _ (c .before .if1 .taken) (c .if2 .taken)) (l .inv)
 
 is-word-requires : tie.Need-is-word-requires Inv-loop μ-loop
 is-word-requires c κs = tt
 
 returns-2 : tie.Need-returns-2 Inv-loop μ-loop
-returns-2 c = let l = c .before .before .before .before .loop in scan-no-12 _ (l .left) (l .pairs) _ _ (l .inv) (c .before .before .before .if1 .taken) (c .before .before .if2 .left) (sym (c .before .is-word .ensures) ∙ not-true _ (c .if3 .taken))
+returns-2 c = let l = c .before .before .before .before .loop in ends (no-12 _ (l .left) (l .pairs) _ (c .before .before .before .if1 .taken) (l .left - 1) (omega (arith, c .before .before .if2 .left)) (sym (c .before .is-word .ensures) ∙ not-true _ (c .if3 .taken))) (l .inv)
 
 word-at-requires : tie.Need-word-at-requires Inv-loop μ-loop
 word-at-requires c κs = word-in _ 12 4 (c .before .before .before .before .loop .p) (is-12 c)
@@ -57,13 +57,13 @@ loop-less c = omega (arith, word-in _ 12 4 (c .before .before .before .before .b
 loop-again : tie.Need-loop-again Inv-loop μ-loop
 loop-again c =
     let l = c .before .before .before .before .before .before .loop in
-    scan-12 _ (l .left) (l .pairs) (l .p) _ (l .inv) (c .before .before .before .before .before .if1 .taken) (c .before .before .before .before .if2 .left) (is-12 (c .before .before)) _ (i-is _ _ _ (c .before .word-at .ensures .0) (c .i-of .ensures))
+    ends (one-12 _ (l .left) (l .pairs) (l .p) (c .before .before .before .before .before .if1 .taken) (l .left - 1) (omega (arith, c .before .before .before .before .if2 .left)) (is-12 (c .before .before)) _ (i-is _ _ _ (c .before .word-at .ensures .0) (c .i-of .ensures))) (l .inv)
 
 is-pair-requires : tie.Need-is-pair-requires Inv-loop μ-loop
 is-pair-requires c κs = tt
 
 returns-3 : tie.Need-returns-3 Inv-loop μ-loop
-returns-3 c = let l = c .before .before .before .loop in scan-no-13 _ (l .left) (l .pairs) _ _ (l .inv) (c .before .before .if1 .left) (sym (c .before .is-pair .ensures) ∙ not-true _ (c .if4 .taken))
+returns-3 c = let l = c .before .before .before .loop in ends (no-13 _ (l .left) (l .pairs) _ (c .before .before .if1 .left) (sym (c .before .is-pair .ensures) ∙ not-true _ (c .if4 .taken))) (l .inv)
 
 sub-pairs : tie.Need-sub-pairs Inv-loop μ-loop
 sub-pairs c = omega arith
@@ -75,7 +75,7 @@ loop-less-2 : tie.Need-loop-less-2 Inv-loop μ-loop
 loop-less-2 c = omega (arith, word-in _ 13 12 (c .before .before .before .loop .p) (is-13 c))
 
 loop-again-2 : tie.Need-loop-again-2 Inv-loop μ-loop
-loop-again-2 c = let l = c .before .before .before .loop in scan-13 _ (l .left) (l .pairs) (l .p) _ (l .inv) (c .before .before .if1 .left) (is-13 c)
+loop-again-2 c = let l = c .before .before .before .loop in ends (one-13 _ (l .left) (l .pairs) (l .p) (c .before .before .if1 .left) (is-13 c) _ refl _ refl) (l .inv)
 
 pub lists-end-spec : {M : Type 1} → statement M
 lists-end-spec =

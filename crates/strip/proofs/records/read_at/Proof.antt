@@ -56,12 +56,6 @@ returns-5 c = read-missing _ _ (c .before .before .before .before .before .befor
 returns-6 : tie.Need-returns-6
 returns-6 c = read-long _ _ (c .before .before .before .before .before .before .before .before .before .before .before .before .word-at .result) (c .before .before .before .before .before .before .before .before .before .before .before .kind-of .result) (c .before .before .before .before .before .before .before .before .before .before .i-of .result) (c .before .before .before .before .before .before .before .before .before .j-of .result) (c .before .before .before .before .before .before .before .before .shape-of .result) (c .before .before .before .before .before .before .before .before .before .before .before .before .before .before .if1 .left) (c .before .before .before .before .before .before .before .before .before .before .before .before .before .if2 .left) (c .before .before .before .before .before .before .before .before .before .before .before .before .word-at .ensures .0) (c .before .before .before .before .before .before .before .before .before .before .before .kind-of .ensures) (c .before .before .before .before .before .before .before .before .before .before .i-of .ensures) (c .before .before .before .before .before .before .before .before .before .j-of .ensures) (c .before .before .before .before .before .before .before .before .shape-of .ensures .0) (c .before .before .before .before .before .before .before .rest-of .result) (c .before .before .before .before .before .before .before .rest-of .ensures) (c .before .before .before .before .before .before .if3 .left) (not-false _ (c .before .before .before .before .if4 .left)) (c .before .before .lists-end .result) (c .before .before .lists-end .ensures) (c .before .if5 .left) (c .if6 .taken)
 
-cast-t12 : tie.Need-cast-t12
-cast-t12 c = search needs
-
-cast-t10 : tie.Need-cast-t10
-cast-t10 c = search needs
-
 returns-7 : tie.Need-returns-7
 returns-7 c = read-record _ _ (c .before .before .before .before .before .before .before .before .before .before .before .before .word-at .result) (c .before .before .before .before .before .before .before .before .before .before .before .kind-of .result) (c .before .before .before .before .before .before .before .before .before .before .i-of .result) (c .before .before .before .before .before .before .before .before .before .j-of .result) (c .before .before .before .before .before .before .before .before .shape-of .result) (c .before .before .before .before .before .before .before .before .before .before .before .before .before .before .if1 .left) (c .before .before .before .before .before .before .before .before .before .before .before .before .before .if2 .left) (c .before .before .before .before .before .before .before .before .before .before .before .before .word-at .ensures .0) (c .before .before .before .before .before .before .before .before .before .before .before .kind-of .ensures) (c .before .before .before .before .before .before .before .before .before .before .i-of .ensures) (c .before .before .before .before .before .before .before .before .before .j-of .ensures) (c .before .before .before .before .before .before .before .before .shape-of .ensures .0) (c .before .before .before .before .before .before .before .rest-of .result) (c .before .before .before .before .before .before .before .rest-of .ensures) (c .before .before .before .before .before .before .if3 .left) (not-false _ (c .before .before .before .before .if4 .left)) (c .before .before .lists-end .result) (c .before .before .lists-end .ensures) (c .before .if5 .left) (c .if6 .left)
 
@@ -86,6 +80,4 @@ read-at-spec =
     lists-end-requires
     returns-5
     returns-6
-    cast-t12
-    cast-t10
     returns-7)

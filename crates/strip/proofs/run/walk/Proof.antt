@@ -7,7 +7,8 @@ use borrow.Author.Needs.{needs}
 use Rattle.mixture.specs.Memory.{memory}
 use Rattle.strip.specs.Text.{broken}
 use Rattle.strip.specs.Inner.{rest}
-use Rattle.strip.proofs.RecordLaws.{found, found-whole, read-done}
+use Rattle.strip.proofs.RecordLaws.{found, read-done}
+use Rattle.strip.proofs.CallLaws.{found-call}
 use Rattle.strip.proofs.RunLaws.{Walked, walk-starts, walk-turn, walk-ends, walk-breaks, walked-long, walked-short}
 use Rattle.strip.proofs.run.walk.Statement.{statement}
 use Rattle.strip.proofs.run.walk.Tie as tie
@@ -91,7 +92,7 @@ enum-known-r : tie.Need-enum-known-r Inv-loop μ-loop
 enum-known-r c = search needs
 
 make-requires : tie.Need-make-requires Inv-loop μ-loop
-make-requires c κs = found-whole _ (c .before .before .before .before .before .before .before .loop .at) _ (c .before .before .before .before .before .before .before .before .if1 .left) (sym (c .before .before .before .before .before .before .read-at .ensures) ∙ c .before .before .before .before .r .given .1)
+make-requires c κs = tt
 
 put-answer-requires : tie.Need-put-answer-requires Inv-loop μ-loop
 put-answer-requires c κs = tt
@@ -118,7 +119,7 @@ loop-again c =
       m .kept .1 .1 .1 .1 .0 ∙ l .inv .4,
       p .kept .0 ∙ l .inv .5,
       refl,
-      walk-turn _ _ _ (l .at) _ _ _ _ (l .inv .7) _ e _ (m .ensures) _ _ (p .ensures .0),
+      walk-turn _ _ _ (l .at) _ _ _ _ (l .inv .7) _ e _ (found-call _ (l .at) _ _ _ _ (c .before .before .before .before .before .before .before .before .before .before .before .before .before .before .before .before .before .before .before .before .if1 .left) e (m .ensures)) _ _ (p .ensures .0),
     )
 
 pub walk-spec : {M : Type 1} → statement M
