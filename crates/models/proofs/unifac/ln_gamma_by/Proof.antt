@@ -2,7 +2,7 @@
 use native.Mathlib.Omega.{arith}
 use borrow.Author.Needs.{needs}
 use Rattle.models.proofs.ListLaws.{listed-wider}
-use Rattle.models.proofs.UnifacLaws.{ln-by, listed-same}
+use Rattle.models.proofs.UnifacLaws.{ln-by}
 use Rattle.models.proofs.unifac.ln_gamma_by.Statement.{statement}
 use Rattle.models.proofs.unifac.ln_gamma_by.Tie as tie
 
@@ -21,9 +21,7 @@ combinatorial-requires : tie.Need-combinatorial-requires
 combinatorial-requires c κs = tt
 
 returns : tie.Need-returns
-returns c =
-    let start = c .before .before .before .before .before .before .before .before .before .before in
-    ln-by _ _ _ _ (start .args .ng) (listed-same (start .pre .0) (start .args .i) (omega arith)) (c .combinatorial .ensures) (c .before .residual .ensures) (c .before .before .before .pure .ensures)
+returns c = ln-by _ _ _ _ (c .combinatorial .ensures) (c .before .residual .ensures) (c .before .before .before .pure .ensures)
 
 pub ln-gamma-by-spec : {M : Type 1} → statement M
 ln-gamma-by-spec =

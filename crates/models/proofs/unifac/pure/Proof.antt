@@ -1,8 +1,9 @@
--- The fractions of the groups in pure i, then Θ, then ln Γ.
+-- The fractions of the groups in pure i, then Θ, then ln Γ of the groups listed.
+use native.Mathlib.Omega.{arith}
 use borrow.Author.Needs.{needs}
 use Rattle.models.specs.Unifac as Unifac
 use Rattle.models.proofs.ListLaws.{listed-wider}
-use Rattle.models.proofs.UnifacLaws.{groups-from}
+use Rattle.models.proofs.UnifacLaws.{groups-from, listed-same}
 use Rattle.models.proofs.unifac.pure.Statement.{statement}
 use Rattle.models.proofs.unifac.pure.Tie as tie
 
@@ -15,15 +16,17 @@ slice-aggregate-theta c = search needs
 theta-requires : tie.Need-theta-requires
 theta-requires c κs = search needs
 
-slice-aggregate-gamma-k : tie.Need-slice-aggregate-gamma-k
-slice-aggregate-gamma-k c = search needs
+slice-aggregate-listed-gammas : tie.Need-slice-aggregate-listed-gammas
+slice-aggregate-listed-gammas c = search needs
 
-gamma-k-requires : tie.Need-gamma-k-requires
-gamma-k-requires c κs = search needs
+listed-gammas-requires : tie.Need-listed-gammas-requires
+listed-gammas-requires c κs = search needs
 
 returns : tie.Need-returns
 unfolding Unifac.pure
-returns c = groups-from _ _ _ _ (c .before .before .before .before .group-fractions-pure .ensures) (c .before .before .theta .ensures) (c .gamma-k .ensures)
+returns c =
+    let start = c .before .before .before .before .before .before .before .before .before .before in
+    groups-from _ _ _ _ _ _ (listed-same (start .pre .0) (start .args .i) (omega arith) .below) (c .before .before .before .before .group-fractions-pure .ensures) (c .before .before .theta .ensures) (c .listed-gammas .ensures)
 
 pub pure-spec : {M : Type 1} → statement M
 pure-spec =
@@ -32,6 +35,6 @@ pure-spec =
     group-fractions-pure-requires
     slice-aggregate-theta
     theta-requires
-    slice-aggregate-gamma-k
-    gamma-k-requires
+    slice-aggregate-listed-gammas
+    listed-gammas-requires
     returns)
