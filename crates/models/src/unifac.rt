@@ -183,7 +183,7 @@ fn theta_mixed(
 }
 
 // ln Γ of the groups that component i lists, in pure i.
-fn pure(
+fn pure_listed(
     lens: &[u8],
     groups: &[u8],
     counts: &[f64],
@@ -261,7 +261,7 @@ fn ln_gamma_by(
     requires { ⌜ (Listed (i + 1) ng (now lens) (now groups) (now counts)) × (i < 12) × (ng ≤ 32) × (ng ≤ length (now q)) × (ng * ng ≤ length (now psi)) × (length (now gamma) ≡ 32) ⌝ }
     ensures { λ r. ⌜ r ≡ combinatorialBy qi (ri ⊘ rs) (qi ⊘ qs) ⊕ residual (lists (now (lens .entry)) (now (groups .entry)) (now (counts .entry))) (at (now (gamma .entry))) (Unifac·pure ng (lists (now (lens .entry)) (now (groups .entry)) (now (counts .entry))) (at (now (q .entry))) (grid ng (now (psi .entry)))) i ⌝ }
 {
-    let gamma_p = pure(lens, groups, counts, q, psi, ng, i);
+    let gamma_p = pure_listed(lens, groups, counts, q, psi, ng, i);
     let resid = crate::groups::residual(lens, groups, counts, gamma, &gamma_p[..], i);
     combinatorial(qi, ri / rs, qi / qs) + resid
 }

@@ -37,8 +37,12 @@ part-row-sum-end c = search needs
 
 row-sum-requires : tie.Need-row-sum-requires
 row-sum-requires c κs =
-    let start = c .before .before .before .before in
-    (start .pre .2, omega (arith, from-length (start .args .k * start .args .ng) (now (start .args .psi)), ends start), start .pre .4, start .pre .0)
+    let start = c .before .before .before .before in (
+      omega (arith, start .pre .2, start .pre .4),
+      omega (arith, from-length (start .args .k * start .args .ng) (now (start .args .psi)), ends start),
+      omega (arith, start .pre .2, start .pre .4),
+      start .pre .0,
+    )
 
 returns : tie.Need-returns
 unfolding one dec round ofBits
