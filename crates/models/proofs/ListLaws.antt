@@ -1,27 +1,27 @@
 -- Group lists that stand list after list: where they start, that their places lie within the slices, and sums kept for
 -- every group at once. Assumes nothing.
-use mathlib.Core.Path.{_≡_, refl, sym, _∙_}
+use mathlib.Core.Path.{_≡_, refl, sym, ap, _∙_}
 use mathlib.Core.Bool.{Bool, true, false, _&&_, cond, and-false}
 use mathlib.Core.Logic.{⊎-elim}
 use mathlib.Core.List.{List}
-use Prim.Native.Nat.{ℕ, zero, suc, _+_, _<_, _≤_}
-use native.Mathlib.Nat.{eq-or-lt-of-le, le-of-suc-le-suc}
+use Prim.Native.Nat.{ℕ, zero, suc, _+_, _-_, _<_, _≤_}
+use native.Mathlib.Nat.{eq-or-lt-of-le, le-of-suc-le-suc, le-antisymm}
 use native.Mathlib.Numerals.{add-one}
 use native.Mathlib.Omega.{arith}
 use lib.Dec.{leb, eqb}
 use lib.ListN.{length, getD, set, replicate, getD-replicate}
-use lib.Seq.{getD-set-same, getD-set-other}
+use lib.Seq.{getD-set-same, getD-set-other, getD-take, getD-drop}
 use lib.Ieee.{Float, nan, binary64, ofBits, lt}
 use borrow.Author.Tests.{eqb-true, eqb-false}
 use Rattle.arithmetic.specs.Floats.{_⊕_, _⊖_, _⊗_, _⊘_, +0}
 use Rattle.arithmetic.specs.Sums.{fold, sum, total}
 use Rattle.arithmetic.specs.Tables.{at, from, part, Filled}
 use Rattle.arithmetic.proofs.SumLaws.{fold-more, sum-same}
-use Rattle.arithmetic.proofs.TableLaws.{part-length, part-at, from-length}
+use Rattle.arithmetic.proofs.TableLaws.{part-length, part-at, from-length, by-place}
 use Rattle.models.specs.Plain.{between, allTo, listsFault}
 use Rattle.models.specs.Unifac.{Groups, size, residual, counts, amount, amounts, fraction, pureCount, pureFraction}
 use Rattle.models.specs.Values.{start, countsAt, unifacSize, lists}
-use Rattle.models.specs.Lists.{Listed, Sized, Loaded, gathered, added, put}
+use Rattle.models.specs.Lists.{Listed, Sized, Loaded, Named, gathered, added, put}
 
 -- ---- where a list starts
 
@@ -70,6 +70,22 @@ module _ (i : ℕ) {ng : ℕ} {lens groups : List ℕ} {counts : List Float} {s 
   pub list-group : (p : ℕ) → p < getD lens i 0 → getD groups (s + p) 0 < ng
   list-group p h = all .below (s + p) (omega (arith, start-more lens i here refl))
 
+  -- the list lent as a part
+  list-part : (p : ℕ) → p < getD lens i 0 → getD (part s (s + getD lens i 0) groups) p 0 ≡ getD groups (s + p) 0
+  list-part p h = let b : p < s + getD lens i 0 - s = omega arith in rw (getD-take, getD-drop)
+
+  list-part-length : length (part s (s + getD lens i 0) groups) ≡ getD lens i 0
+  list-part-length = part-length s (s + getD lens i 0) groups (list-ends .0) ∙ omega arith
+
+  pub list-part-group : (p : ℕ) → p < length (part s (s + getD lens i 0) groups) → getD (part s (s + getD lens i 0) groups) p 0 < ng
+  list-part-group p h = let b : p < getD lens i 0 = omega (arith, list-part-length) in rw (list-part p b) (list-group p b)
+
+  pub list-part-named : {F : ℕ → Float} {g : List Float} → Named (length (part s (s + getD lens i 0) groups)) (λ p. getD (part s (s + getD lens i 0) groups) p 0) F g → Named (lists lens groups counts .length i) (lists lens groups counts .group i) F g
+  unfolding lists
+  list-part-named {F} {g} named = record {
+    each = λ p h. let e : getD (part s (s + getD lens i 0) groups) p 0 ≡ getD groups (start lens i + p) 0 = list-part p h ∙ rw here in rw (← e) (named .each p (omega (arith, list-part-length)));
+  }
+
 -- ---- a sum kept for every group at once
 
 pub gathered-none : (group : ℕ → ℕ) (f : ℕ → Float → Float) (l : List Float) (m : ℕ) → Filled (λ k. gathered 0 group f k (at l k)) m l
@@ -88,6 +104,28 @@ gathered-more group f old p m g {num} {v} e b w long all = record {
     by-test : (k : ℕ) (t : Bool) → eqb g k ≡ t → at (set num g v) k ≡ cond (eqb (group p) k) (f p (at num k)) (at num k)
     by-test k true t = let q : g ≡ k = eqb-true g k t in rw (← e, t, ← q) (getD-set-same num g v nan b ∙ w)
     by-test k false t = rw (← e, t) (getD-set-other num g k v nan (λ q. eqb-false g k t (sym q)))
+
+-- ---- an array that has F of the groups named
+
+module _ (group : ℕ → ℕ) (F : ℕ → Float) where
+  pub named-none : (g : List Float) → Named 0 group F g
+  named-none g = record { each = λ p h. absurd (omega arith) }
+
+  -- one group more, perhaps one that was named before
+  pub named-more : (p k : ℕ) {g : List Float} {v : Float} → k ≡ group p → k < length g → v ≡ F k → Named p group F g → Named (p + 1) group F (set g k v)
+  named-more p k {g} {v} e b w all = record { each = λ o h. by-test o h (eqb k (group o)) refl }
+    where
+      by-test : (o : ℕ) → o < p + 1 → (t : Bool) → eqb k (group o) ≡ t → at (set g k v) (group o) ≡ F (group o)
+      by-test o h true t = let q : k ≡ group o = eqb-true k (group o) t in rw (← q) (getD-set-same g k v nan b ∙ w)
+      by-test o h false t =
+          let d : k ≡ group o → ⊥ = eqb-false k (group o) t in
+          by-place o p (λ c. getD-set-other g k (group o) v nan (λ q. d (sym q)) ∙ all .each o c) (λ q. absurd (d (e ∙ ap group q))) (λ c. absurd (omega arith))
+
+  pub named-done : (p m : ℕ) {g : List Float} → p ≤ m → m ≤ p → Named p group F g → Named m group F g
+  named-done p m a b all = rw (le-antisymm a b) at all
+
+  pub filled-named : (m ng : ℕ) {g : List Float} → ((p : ℕ) → p < m → group p < ng) → Filled F ng g → Named m group F g
+  filled-named m ng below all = record { each = λ p h. all .each (group p) (below p h) }
 
 -- ---- what the sums over a list come to, s being where the list starts
 

@@ -23,8 +23,8 @@ use Rattle.models.specs.declared.unifac.Shared.{Shared}
 use Rattle.models.specs.Answers.{indexFault, quantity}
 use Rattle.models.specs.Columns.{columnSum}
 use Rattle.models.specs.Exponentials.{groupEnergy}
-use Rattle.models.specs.Lists.{Listed, Loaded}
-use Rattle.models.specs.Unifac.{Groups, size, sizeSum, combinatorial, counts, amount, amounts, fraction, pureCount, pureFraction, theta, lnGroup, mixed, pure, residual, lnGamma, excess, unifac, unifacAt}
+use Rattle.models.specs.Lists.{Listed, Loaded, Named}
+use Rattle.models.specs.Unifac.{Groups, size, sizeSum, combinatorial, combinatorialBy, counts, amount, amounts, fraction, pureCount, pureFraction, theta, lnGroup, mixed, pure, residual, lnGamma, excess, unifac, unifacAt}
 use Rattle.models.specs.UnifacSteps.{psiBy, Shares, lnFrom}
 use Rattle.models.specs.Values.{fiveAt, countsAt, groupRs, groupQs, groupAs, lists}
 use Rattle.models.proofs.AnswerLaws.{quantity-ln, quantity-gamma, quantity-excess, quantity-same}
@@ -56,15 +56,18 @@ table-filled ng values T h a all = filled-as (λ k b. ap (λ (v : Float). expOf 
 
 -- ---- ln Γ
 
--- the column sums, worked out once, serve every group; the row k is lent as a part
-pub group-hoisted : (ng : ℕ) (Q Θ D : ℕ → Float) (psi : List Float) (k : ℕ) {l s : Float} → k < ng → ng * ng ≤ length psi →
-    ((m : ℕ) → m < ng → D m ≡ columnSum ng (grid ng psi) Θ m) → l ≡ logOf (D k) → s ≡ sum ng (λ m. Θ m ⊗ at (from (k * ng) psi) m ⊘ D m) →
-    Q k ⊗ (one ⊖ l ⊖ s) ≡ lnGroup ng Q (grid ng psi) Θ k
+-- the row k is lent as a part
+pub row-lent : (ng : ℕ) (Θ D : ℕ → Float) (psi : List Float) (k : ℕ) → k < ng → ng * ng ≤ length psi →
+    sum ng (λ m. Θ m ⊗ at (from (k * ng) psi) m ⊘ D m) ≡ sum ng (λ m. Θ m ⊗ grid ng psi k m ⊘ D m)
+row-lent ng Θ D psi k b h = sum-same ng _ _ (λ m c. rw (from-at psi (k * ng) m (omega (arith, row-end ng ng k b))))
+
+-- the column sums D, worked out once, serve every group
+pub group-hoisted : (ng : ℕ) (Q Θ : ℕ → Float) (Ψ : ℕ → ℕ → Float) (k : ℕ) {D : List Float} {l v : Float} → k < ng → Filled (columnSum ng Ψ Θ) ng D →
+    l ≡ logOf (at D k) → v ≡ Q k ⊗ (one ⊖ l ⊖ sum ng (λ m. Θ m ⊗ Ψ k m ⊘ at D m)) → v ≡ lnGroup ng Q Ψ Θ k
 unfolding lnGroup
-group-hoisted ng Q Θ D psi k b h all p q =
-    let S : sum ng (λ m. Θ m ⊗ at (from (k * ng) psi) m ⊘ D m) ≡ sum ng (λ m. Θ m ⊗ grid ng psi k m ⊘ columnSum ng (grid ng psi) Θ m) =
-    sum-same ng _ _ (λ m c. rw (from-at psi (k * ng) m (omega (arith, row-end ng ng k b)), all m c)) in
-    rw (p, q, all k b, S)
+group-hoisted ng Q Θ Ψ k {D} b all p q =
+    let S : sum ng (λ m. Θ m ⊗ Ψ k m ⊘ at D m) ≡ sum ng (λ m. Θ m ⊗ Ψ k m ⊘ columnSum ng Ψ Θ m) = sum-same ng _ _ (λ m c. rw (all .each m c)) in
+    q ∙ rw (p, all .each k b, S)
 
 theta-same : (ng : ℕ) (Q U X Y : ℕ → Float) (k : ℕ) → k < ng → ((m : ℕ) → m < ng → Q m ≡ U m) → ((m : ℕ) → m < ng → X m ≡ Y m) → theta ng Q X k ≡ theta ng U Y k
 unfolding theta
@@ -81,14 +84,19 @@ group-same ng Q U Ψ Φ Θ Ω k b q p e =
     sum-same ng _ _ (λ m c. rw (e m c, p k m b c, D m c)) in
     rw (q k b, D k b, S)
 
--- the group fractions, then Θ, then ln Γ, each in an array
-pub groups-from : (ng : ℕ) (Q : ℕ → Float) (Ψ : ℕ → ℕ → Float) (X : ℕ → Float) {xg th g : List Float} →
-    Filled X ng xg → Filled (theta ng Q (at xg)) ng th → Filled (lnGroup ng Q Ψ (at th)) ng g → Filled (lnGroup ng Q Ψ (theta ng Q X)) ng g
-groups-from ng Q Ψ X {xg} {th} fractions thetas gammas = record {
-  each = λ k b.
-      gammas .each k b ∙
-      group-same ng Q Q Ψ Ψ (at th) (theta ng Q X) k b (λ m c. refl) (λ m n c d. refl)
-      (λ m c. thetas .each m c ∙ theta-same ng Q Q (at xg) X m c (λ n d. refl) (fractions .each));
+-- the group fractions in an array
+pub theta-from : (ng : ℕ) (Q X : ℕ → Float) {xg th : List Float} → Filled X ng xg → Filled (theta ng Q (at xg)) ng th → Filled (theta ng Q X) ng th
+theta-from ng Q X {xg} fractions = filled-as (λ k b. theta-same ng Q Q (at xg) X k b (λ m c. refl) (fractions .each))
+
+-- Θ in an array
+group-from : (ng : ℕ) (Q : ℕ → Float) (Ψ : ℕ → ℕ → Float) (Θ : ℕ → Float) {th : List Float} → Filled Θ ng th → (k : ℕ) → k < ng → lnGroup ng Q Ψ (at th) k ≡ lnGroup ng Q Ψ Θ k
+group-from ng Q Ψ Θ {th} all k b = group-same ng Q Q Ψ Ψ (at th) Θ k b (λ m c. refl) (λ m n c d. refl) (all .each)
+
+-- the group fractions, then Θ, then ln Γ of the groups named, each in an array
+pub groups-from : (ng : ℕ) (Q : ℕ → Float) (Ψ : ℕ → ℕ → Float) (X : ℕ → Float) (m : ℕ) (group : ℕ → ℕ) {xg th g : List Float} → ((p : ℕ) → p < m → group p < ng) →
+    Filled X ng xg → Filled (theta ng Q (at xg)) ng th → Named m group (lnGroup ng Q Ψ (at th)) g → Named m group (lnGroup ng Q Ψ (theta ng Q X)) g
+groups-from ng Q Ψ X m group below fractions thetas gammas = record {
+  each = λ p h. gammas .each p h ∙ group-from ng Q Ψ (theta ng Q X) (theta-from ng Q X fractions thetas) (group p) (below p h);
 }
 
 -- ---- equal inputs, equal values
@@ -182,49 +190,64 @@ module _ (n ng : ℕ) (c d : Groups) (lists : (i : ℕ) → i < n → SameList n
 
 -- ---- ln γ from what the components share
 
-pub shares-from : (n ng : ℕ) (c : Groups) (R Q : ℕ → Float) (Ψ : ℕ → ℕ → Float) (x : ℕ → Float) {r q g : List Float} {rs qs : Float} →
-    Filled (size c R) n r → Filled (size c Q) n q → rs ≡ sum n (λ j. x j ⊗ at r j) → qs ≡ sum n (λ j. x j ⊗ at q j) → Filled (mixed n ng c Q Ψ x) ng g →
-    Shares n ng c R Q Ψ x (record { r = r; q = q; rs = rs; qs = qs; gamma = g })
+pub shares-from : (n ng : ℕ) (c : Groups) (R Q : ℕ → Float) (x : ℕ → Float) {r q t : List Float} {rs qs : Float} →
+    Filled (size c R) n r → Filled (size c Q) n q → rs ≡ sum n (λ j. x j ⊗ at r j) → qs ≡ sum n (λ j. x j ⊗ at q j) → Filled (theta ng Q (fraction n c x)) ng t →
+    Shares n ng c R Q x (record { r = r; q = q; rs = rs; qs = qs; theta = t })
 unfolding sizeSum
-shares-from n ng c R Q Ψ x rAll qAll rSum qSum gAll = record {
+shares-from n ng c R Q x rAll qAll rSum qSum tAll = record {
   rEach = rAll;
   qEach = qAll;
   rSum = rSum ∙ sum-same n _ _ (λ j h. rw (rAll .each j h));
   qSum = qSum ∙ sum-same n _ _ (λ j h. rw (qAll .each j h));
-  groups = gAll;
+  thetas = tAll;
 }
 
--- what `ln_gamma_by` puts together: g has the pure ln Γ of component i
-pub ln-by : (c : Groups) (M : ℕ → Float) (P : ℕ → ℕ → Float) (i ng : ℕ) {g : List Float} {u v w : Float} → SameList ng c c i →
-    u ≡ w → v ≡ residual c M (λ j. at g) i → Filled (P i) ng g → u ⊕ v ≡ w ⊕ residual c M P i
-ln-by c M P i ng {g} l p q all = rw (p, q, residual-same l M M (λ j. at g) P (λ k b. refl) (all .each))
+-- the residual sum reads ln Γ of the groups that i lists alone: g has that in the mixture, p in pure i
+pub residual-mixed : (c : Groups) (M : ℕ → Float) (P : ℕ → ℕ → Float) (i : ℕ) {g : List Float} → Named (c .length i) (c .group i) M g → residual c (at g) P i ≡ residual c M P i
+unfolding residual
+residual-mixed c M P i all = sum-same (c .length i) _ _ (λ p h. rw (all .each p h))
 
-module _ (n ng : ℕ) (c : Groups) (R Q : ℕ → Float) (Ψ : ℕ → ℕ → Float) (x : ℕ → Float) {s : Shared} (all : Shares n ng c R Q Ψ x s) (lists : (i : ℕ) → i < n → SameList ng c c i) where
-  ln-shared : (P : ℕ → ℕ → Float) (i : ℕ) → i < n → lnFrom s c P i ≡ lnGamma n ng c R Q Ψ P x i
-  unfolding lnFrom lnGamma combinatorial
-  ln-shared P i h =
+pub residual-pure : (c : Groups) (M : ℕ → Float) (P : ℕ → ℕ → Float) (i : ℕ) {g : List Float} → Named (c .length i) (c .group i) (P i) g → residual c M (λ j. at g) i ≡ residual c M P i
+unfolding residual
+residual-pure c M P i all = sum-same (c .length i) _ _ (λ p h. rw (all .each p h))
+
+-- what `ln_gamma_by` puts together: g has the pure ln Γ of component i
+pub ln-by : (c : Groups) (M : ℕ → Float) (P : ℕ → ℕ → Float) (i : ℕ) {g : List Float} {u v w : Float} →
+    u ≡ w → v ≡ residual c M (λ j. at g) i → Named (c .length i) (c .group i) (P i) g → u ⊕ v ≡ w ⊕ residual c M P i
+ln-by c M P i p q all = rw (p, q, residual-pure c M P i all)
+
+-- what `ln_gamma_by` gives where g has ln Γ in the mixture
+pub ln-from : (s : Shared) (ng : ℕ) (c : Groups) (Q : ℕ → Float) (Ψ : ℕ → ℕ → Float) (i : ℕ) {g : List Float} {v : Float} → Named (c .length i) (c .group i) (lnGroup ng Q Ψ (at (s .theta))) g →
+    v ≡ combinatorialBy (at (s .q) i) (at (s .r) i ⊘ s .rs) (at (s .q) i ⊘ s .qs) ⊕ residual c (at g) (pure ng c Q Ψ) i → v ≡ lnFrom s ng c Q Ψ i
+unfolding lnFrom
+ln-from s ng c Q Ψ i all p = p ∙ rw (residual-mixed c _ (pure ng c Q Ψ) i all)
+
+module _ (n ng : ℕ) (c : Groups) (R Q : ℕ → Float) (Ψ : ℕ → ℕ → Float) (x : ℕ → Float) {s : Shared} (all : Shares n ng c R Q x s) (lists : (i : ℕ) → i < n → SameList ng c c i) where
+  ln-shared : (i : ℕ) → i < n → lnFrom s ng c Q Ψ i ≡ lnGamma n ng c R Q Ψ (pure ng c Q Ψ) x i
+  unfolding lnFrom lnGamma combinatorial mixed
+  ln-shared i h =
       rw (
         all .rEach .each i h,
         all .qEach .each i h,
         all .rSum,
         all .qSum,
-        residual-same (lists i h) (at (s .gamma)) (mixed n ng c Q Ψ x) P P (all .groups .each) (λ k b. refl),
+        residual-same (lists i h) _ _ (pure ng c Q Ψ) (pure ng c Q Ψ) (group-from ng Q Ψ _ (all .thetas)) (λ k b. refl),
       )
 
   unifac-shared : (q : Quantity) → indexFault n q ≡ 0 →
-      quantity q (lnFrom s c (pure ng c Q Ψ)) (sum n (λ i. x i ⊗ lnFrom s c (pure ng c Q Ψ) i)) ≡ unifac n ng c R Q Ψ x q
+      quantity q (lnFrom s ng c Q Ψ) (sum n (λ i. x i ⊗ lnFrom s ng c Q Ψ i)) ≡ unifac n ng c R Q Ψ x q
   unfolding unifac excess
-  unifac-shared q z = quantity-same n q _ _ _ _ z (ln-shared (pure ng c Q Ψ)) (sum-same n _ _ (λ i h. rw (ln-shared (pure ng c Q Ψ) i h)))
+  unifac-shared q z = quantity-same n q _ _ _ _ z ln-shared (sum-same n _ _ (λ i h. rw (ln-shared i h)))
 
   -- what `over` answers for each quantity
-  pub unifac-ln : {q : Quantity} {i : ℕ} {v : Float} → q ≡ LnGamma i → indexFault n q ≡ 0 → v ≡ lnFrom s c (pure ng c Q Ψ) i → v ≡ unifac n ng c R Q Ψ x q
+  pub unifac-ln : {q : Quantity} {i : ℕ} {v : Float} → q ≡ LnGamma i → indexFault n q ≡ 0 → v ≡ lnFrom s ng c Q Ψ i → v ≡ unifac n ng c R Q Ψ x q
   unifac-ln {q} e z p = quantity-ln _ _ e p ∙ unifac-shared q z
 
-  pub unifac-gamma : {q : Quantity} {i : ℕ} {v w : Float} → q ≡ Gamma i → indexFault n q ≡ 0 → w ≡ lnFrom s c (pure ng c Q Ψ) i → v ≡ expOf w → v ≡ unifac n ng c R Q Ψ x q
+  pub unifac-gamma : {q : Quantity} {i : ℕ} {v w : Float} → q ≡ Gamma i → indexFault n q ≡ 0 → w ≡ lnFrom s ng c Q Ψ i → v ≡ expOf w → v ≡ unifac n ng c R Q Ψ x q
   unifac-gamma {q} e z p r = quantity-gamma _ _ e p r ∙ unifac-shared q z
 
-  pub unifac-excess : {q : Quantity} {v : Float} → q ≡ ExcessGibbs → indexFault n q ≡ 0 → v ≡ sum n (λ i. x i ⊗ lnFrom s c (pure ng c Q Ψ) i) → v ≡ unifac n ng c R Q Ψ x q
-  unifac-excess {q} e z p = quantity-excess (lnFrom s c (pure ng c Q Ψ)) _ e p ∙ unifac-shared q z
+  pub unifac-excess : {q : Quantity} {v : Float} → q ≡ ExcessGibbs → indexFault n q ≡ 0 → v ≡ sum n (λ i. x i ⊗ lnFrom s ng c Q Ψ i) → v ≡ unifac n ng c R Q Ψ x q
+  unifac-excess {q} e z p = quantity-excess (lnFrom s ng c Q Ψ) _ e p ∙ unifac-shared q z
 
 -- ---- lists and values in slices
 

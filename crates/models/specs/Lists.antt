@@ -8,7 +8,7 @@ use lib.ListN.{length, getD}
 use lib.Ieee.{Float}
 use Rattle.arithmetic.specs.Floats.{_⊕_, _⊗_}
 use Rattle.arithmetic.specs.Sums.{fold}
-use Rattle.arithmetic.specs.Tables.{from}
+use Rattle.arithmetic.specs.Tables.{at, from}
 use Rattle.models.specs.Unifac.{Groups}
 use Rattle.models.specs.Values.{start, countsAt}
 
@@ -37,6 +37,10 @@ pub record Loaded (n ng : ℕ) (lens groups : List ℕ) (values : List Float) : 
   pub fewGroups : ng ≤ 32
   pub tables : countsAt ng ≤ length values
   pub listed : Listed n ng lens groups (from (countsAt ng) values)
+
+-- g has F of each of the first m groups named, at the group's own place
+pub record Named (m : ℕ) (group : ℕ → ℕ) (F : ℕ → Float) (g : List Float) : Type 0 where
+  pub each : (p : ℕ) → p < m → at g (group p) ≡ F (group p)
 
 -- s at group k, changed by f at each of the first m places that name k
 unfoldable pub gathered : ℕ → (ℕ → ℕ) → (ℕ → Float → Float) → ℕ → Float → Float

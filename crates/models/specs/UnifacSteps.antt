@@ -8,21 +8,21 @@ use Rattle.arithmetic.specs.Exponential.{expOf}
 use Rattle.arithmetic.specs.Parameters.{tdBy}
 use Rattle.arithmetic.specs.Tables.{at, Filled}
 use Rattle.models.specs.declared.unifac.Shared.{Shared}
-use Rattle.models.specs.Unifac.{Groups, size, sizeSum, combinatorialBy, mixed, residual}
+use Rattle.models.specs.Unifac.{Groups, size, sizeSum, combinatorialBy, fraction, theta, lnGroup, pure, residual}
 use Rattle.models.specs.Values.{fiveAt}
 
 -- Ψ of column k, from a row of td entries and L = log(T)
 unfoldable pub psiBy : List Float → Float → Float → ℕ → Float
 psiBy row T L k = expOf (neg (tdBy (fiveAt row (k * 5)) T L) ⊘ T)
 
--- s has what the components share: their sizes r and q, the sums of these, and ln Γ of each group in the mixture
-pub record Shares (n ng : ℕ) (c : Groups) (R Q : ℕ → Float) (Ψ : ℕ → ℕ → Float) (x : ℕ → Float) (s : Shared) : Type 0 where
+-- s has what the components share: their sizes r and q, the sums of these, and Θ of each group in the mixture
+pub record Shares (n ng : ℕ) (c : Groups) (R Q : ℕ → Float) (x : ℕ → Float) (s : Shared) : Type 0 where
   pub rEach : Filled (size c R) n (s .r)
   pub qEach : Filled (size c Q) n (s .q)
   pub rSum : s .rs ≡ sizeSum n c R x
   pub qSum : s .qs ≡ sizeSum n c Q x
-  pub groups : Filled (mixed n ng c Q Ψ x) ng (s .gamma)
+  pub thetas : Filled (theta ng Q (fraction n c x)) ng (s .theta)
 
--- ln γ of component i from that, P the pure ln Γ
-unfoldable pub lnFrom : Shared → Groups → (ℕ → ℕ → Float) → ℕ → Float
-lnFrom s c P i = combinatorialBy (at (s .q) i) (at (s .r) i ⊘ s .rs) (at (s .q) i ⊘ s .qs) ⊕ residual c (at (s .gamma)) P i
+-- ln γ of component i from that
+unfoldable pub lnFrom : Shared → ℕ → Groups → (ℕ → Float) → (ℕ → ℕ → Float) → ℕ → Float
+lnFrom s ng c Q Ψ i = combinatorialBy (at (s .q) i) (at (s .r) i ⊘ s .rs) (at (s .q) i ⊘ s .qs) ⊕ residual c (lnGroup ng Q Ψ (at (s .theta))) (pure ng c Q Ψ) i

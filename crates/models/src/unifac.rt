@@ -1,19 +1,19 @@
 // UNIFAC: A. Fredenslund, R. L. Jones, J. M. Prausnitz, AIChE J. 21 (1975) 1086.
 ghost use mathlib.Core.Path.{_≡_};
-ghost use Prim.Native.Nat.{_+_, _*_, _≤_, _<_};
-ghost use lib.ListN.{length};
+ghost use Prim.Native.Nat.{ℕ, _+_, _*_, _≤_, _<_};
+ghost use lib.ListN.{length, getD};
 ghost use lib.Ieee.{neg};
 ghost use Rattle.arithmetic.specs.Exponential.{expOf};
-ghost use Rattle.arithmetic.specs.Floats.{_⊕_, _⊗_, _⊘_};
+ghost use Rattle.arithmetic.specs.Floats.{_⊕_, _⊖_, _⊗_, _⊘_, one};
 ghost use Rattle.arithmetic.specs.Sums.{sum};
 ghost use Rattle.arithmetic.specs.Parameters.{tdAt};
 ghost use Rattle.arithmetic.specs.Tables.{at, grid, flat, from, Filled};
 ghost use Rattle.models.specs.Answers.{indexFault};
 ghost use Rattle.models.specs.Columns.{columnSum};
 ghost use Rattle.models.specs.Exponentials.{groupEnergy};
-ghost use Rattle.models.specs.Lists.{Listed, Loaded};
+ghost use Rattle.models.specs.Lists.{Listed, Loaded, Named};
 ghost use Rattle.models.specs.Plain.{unifacFault, unifacPlain};
-ghost use Rattle.models.specs.Unifac.{theta as Unifac·theta, mixed as Unifac·mixed, pure as Unifac·pure, lnGroup, combinatorialBy, residual, unifac, unifacAt};
+ghost use Rattle.models.specs.Unifac.{theta as Unifac·theta, pure as Unifac·pure, fraction, lnGroup, combinatorialBy, residual, unifac, unifacAt};
 ghost use Rattle.models.specs.UnifacSteps.{psiBy, lnFrom, Shares};
 ghost use Rattle.models.specs.Values.{lists, countsAt, groupRs, groupQs, groupAs};
 use crate::answers::Answer;
@@ -99,6 +99,23 @@ fn row_sum(theta: &[f64], row: &[f64], denom: &[f64], ng: usize) -> f64
     arithmetic::sum(&terms[..ng])
 }
 
+// ln Γ of group k from its Q, the log of its column sum, and all column sums.
+fn group_gamma(
+    q: f64,
+    log: f64,
+    theta: &[f64],
+    psi: &[f64],
+    denom: &[f64],
+    ng: usize,
+    k: usize,
+) -> f64
+    requires { ⌜ (ng ≤ 32) × (k < ng) × (ng ≤ length (now theta)) × (ng * ng ≤ length (now psi)) × (ng ≤ length (now denom)) ⌝ }
+    ensures { λ r. ⌜ r ≡ q ⊗ (one ⊖ log ⊖ sum ng (λ m. at (now (theta .entry)) m ⊗ grid ng (now (psi .entry)) k m ⊘ at (now (denom .entry)) m)) ⌝ }
+{
+    let place = k * ng;
+    q * (1.0 - log - row_sum(theta, &psi[place..], denom, ng))
+}
+
 // ln Γ of each group; the column sums that every one divides by, and their logs, are worked out once.
 fn gamma_k(q: &[f64], theta: &[f64], psi: &[f64], ng: usize) -> [f64; 32]
     requires { ⌜ (ng ≤ 32) × (ng ≤ length (now q)) × (ng ≤ length (now theta)) × (ng * ng ≤ length (now psi)) ⌝ }
@@ -109,34 +126,64 @@ fn gamma_k(q: &[f64], theta: &[f64], psi: &[f64], ng: usize) -> [f64; 32]
     arithmetic::log_each(&mut logs[..], ng);
     let mut gamma = [0.0; 32];
     for k in 0..ng {
-        let place = k * ng;
-        let s = row_sum(theta, &psi[place..], &denom[..], ng);
-        gamma[k] = q[k] * (1.0 - logs[k] - s);
+        gamma[k] = group_gamma(q[k], logs[k], theta, psi, &denom[..], ng, k);
     }
     gamma
 }
 
-// ln Γ of each group in the mixture.
-fn mixed(
+// ln Γ of the groups named, each at its own place.
+fn gammas_of(named: &[u8], q: &[f64], theta: &[f64], psi: &[f64], ng: usize) -> [f64; 32]
+    requires { ⌜ (ng ≤ 32) × (ng ≤ length (now q)) × (ng ≤ length (now theta)) × (ng * ng ≤ length (now psi)) × ((p : ℕ) → p < length (now named) → getD (now named) p 0 < ng) ⌝ }
+    ensures { λ r. ⌜ Named (length (now (named .entry))) (λ p. getD (now (named .entry)) p 0) (lnGroup ng (at (now (q .entry))) (grid ng (now (psi .entry))) (at (now (theta .entry)))) r ⌝ }
+{
+    let denom = column_sums(theta, psi, ng);
+    let mut gamma = [0.0; 32];
+    for p in 0..named.len() {
+        let k = named[p] as usize;
+        let log = arithmetic::log(denom[k]);
+        gamma[k] = group_gamma(q[k], log, theta, psi, &denom[..], ng, k);
+    }
+    gamma
+}
+
+// ln Γ of the groups that component i lists: the only ones that its ln γ reads.
+fn listed_gammas(
     lens: &[u8],
     groups: &[u8],
     counts: &[f64],
     q: &[f64],
+    theta: &[f64],
     psi: &[f64],
+    ng: usize,
+    i: usize,
+) -> [f64; 32]
+    requires { ⌜ (Listed (i + 1) ng (now lens) (now groups) (now counts)) × (i < 12) × (ng ≤ 32) × (ng ≤ length (now q)) × (ng ≤ length (now theta)) × (ng * ng ≤ length (now psi)) ⌝ }
+    ensures { λ r. ⌜ Named (lists (now (lens .entry)) (now (groups .entry)) (now (counts .entry)) .length i) (lists (now (lens .entry)) (now (groups .entry)) (now (counts .entry)) .group i) (lnGroup ng (at (now (q .entry))) (grid ng (now (psi .entry))) (at (now (theta .entry)))) r ⌝ }
+{
+    let start = crate::groups::start_of(lens, i);
+    let end = start + (lens[i] as usize);
+    gammas_of(&groups[start..end], q, theta, psi, ng)
+}
+
+// Θ of each group in the mixture.
+fn theta_mixed(
+    lens: &[u8],
+    groups: &[u8],
+    counts: &[f64],
+    q: &[f64],
     x: &[f64],
     n: usize,
     ng: usize,
 ) -> [f64; 32]
-    requires { ⌜ (Listed n ng (now lens) (now groups) (now counts)) × (n ≤ 12) × (ng ≤ 32) × (ng ≤ length (now q)) × (ng * ng ≤ length (now psi)) × (n ≤ length (now x)) ⌝ }
-    ensures { λ r. ⌜ Filled (Unifac·mixed n ng (lists (now (lens .entry)) (now (groups .entry)) (now (counts .entry))) (at (now (q .entry))) (grid ng (now (psi .entry))) (at (now (x .entry)))) ng r ⌝ }
+    requires { ⌜ (Listed n ng (now lens) (now groups) (now counts)) × (n ≤ 12) × (ng ≤ 32) × (ng ≤ length (now q)) × (n ≤ length (now x)) ⌝ }
+    ensures { λ r. ⌜ Filled (Unifac·theta ng (at (now (q .entry))) (fraction n (lists (now (lens .entry)) (now (groups .entry)) (now (counts .entry))) (at (now (x .entry))))) ng r ⌝ }
 {
     let xg = crate::groups::group_fractions(lens, groups, counts, x, n, ng);
-    let theta = theta(q, &xg[..], ng);
-    gamma_k(q, &theta[..], psi, ng)
+    theta(q, &xg[..], ng)
 }
 
-// ln Γ of each group in pure component i.
-pub fn pure(
+// ln Γ of the groups that component i lists, in pure i.
+fn pure_listed(
     lens: &[u8],
     groups: &[u8],
     counts: &[f64],
@@ -146,11 +193,11 @@ pub fn pure(
     i: usize,
 ) -> [f64; 32]
     requires { ⌜ (Listed (i + 1) ng (now lens) (now groups) (now counts)) × (i < 12) × (ng ≤ 32) × (ng ≤ length (now q)) × (ng * ng ≤ length (now psi)) ⌝ }
-    ensures { λ r. ⌜ Filled (Unifac·pure ng (lists (now (lens .entry)) (now (groups .entry)) (now (counts .entry))) (at (now (q .entry))) (grid ng (now (psi .entry))) i) ng r ⌝ }
+    ensures { λ r. ⌜ Named (lists (now (lens .entry)) (now (groups .entry)) (now (counts .entry)) .length i) (lists (now (lens .entry)) (now (groups .entry)) (now (counts .entry)) .group i) (Unifac·pure ng (lists (now (lens .entry)) (now (groups .entry)) (now (counts .entry))) (at (now (q .entry))) (grid ng (now (psi .entry))) i) r ⌝ }
 {
     let xg = crate::groups::group_fractions_pure(lens, groups, counts, ng, i);
     let theta = theta(q, &xg[..], ng);
-    gamma_k(q, &theta[..], psi, ng)
+    listed_gammas(lens, groups, counts, q, &theta[..], psi, ng, i)
 }
 
 // 1 - v + ln v - 5·q·(1 - v/f + ln(v/f))
@@ -160,13 +207,13 @@ fn combinatorial(q: f64, v: f64, f: f64) -> f64
     1.0 - v + arithmetic::log(v) - 5.0 * q * (1.0 - v / f + arithmetic::log(v / f))
 }
 
-// What the components share: their sizes r and q, the sums of these over the fractions, ln Γ of each group.
+// What the components share: their sizes r and q, the sums of these over the fractions, Θ of each group.
 pub struct Shared {
     pub r: [f64; 12],
     pub q: [f64; 12],
     pub rs: f64,
     pub qs: f64,
-    pub gamma: [f64; 32],
+    pub theta: [f64; 32],
 }
 
 fn share(
@@ -175,29 +222,28 @@ fn share(
     counts: &[f64],
     r: &[f64],
     q: &[f64],
-    psi: &[f64],
     x: &[f64],
     n: usize,
     ng: usize,
 ) -> Shared
-    requires { ⌜ (Listed n ng (now lens) (now groups) (now counts)) × (n ≤ 12) × (ng ≤ 32) × (ng ≤ length (now r)) × (ng ≤ length (now q)) × (ng * ng ≤ length (now psi)) × (n ≤ length (now x)) ⌝ }
-    ensures { λ s. ⌜ Shares n ng (lists (now (lens .entry)) (now (groups .entry)) (now (counts .entry))) (at (now (r .entry))) (at (now (q .entry))) (grid ng (now (psi .entry))) (at (now (x .entry))) s ⌝ }
+    requires { ⌜ (Listed n ng (now lens) (now groups) (now counts)) × (n ≤ 12) × (ng ≤ 32) × (ng ≤ length (now r)) × (ng ≤ length (now q)) × (n ≤ length (now x)) ⌝ }
+    ensures { λ s. ⌜ Shares n ng (lists (now (lens .entry)) (now (groups .entry)) (now (counts .entry))) (at (now (r .entry))) (at (now (q .entry))) (at (now (x .entry))) s ⌝ }
 {
     let r_each = crate::groups::sizes(lens, groups, counts, r, n);
     let q_each = crate::groups::sizes(lens, groups, counts, q, n);
     let rs = arithmetic::dot(x, &r_each[..], n);
     let qs = arithmetic::dot(x, &q_each[..], n);
-    let gamma = mixed(lens, groups, counts, q, psi, x, n, ng);
+    let theta = theta_mixed(lens, groups, counts, q, x, n, ng);
     Shared {
         r: r_each,
         q: q_each,
         rs,
         qs,
-        gamma,
+        theta,
     }
 }
 
-// ln γ of component i from its sizes r and q, their sums over the fractions, and ln Γ of each group in the mixture.
+// ln γ of component i from its sizes r and q, their sums over the fractions, and ln Γ of its groups in the mixture.
 fn ln_gamma_by(
     ri: f64,
     qi: f64,
@@ -215,7 +261,7 @@ fn ln_gamma_by(
     requires { ⌜ (Listed (i + 1) ng (now lens) (now groups) (now counts)) × (i < 12) × (ng ≤ 32) × (ng ≤ length (now q)) × (ng * ng ≤ length (now psi)) × (length (now gamma) ≡ 32) ⌝ }
     ensures { λ r. ⌜ r ≡ combinatorialBy qi (ri ⊘ rs) (qi ⊘ qs) ⊕ residual (lists (now (lens .entry)) (now (groups .entry)) (now (counts .entry))) (at (now (gamma .entry))) (Unifac·pure ng (lists (now (lens .entry)) (now (groups .entry)) (now (counts .entry))) (at (now (q .entry))) (grid ng (now (psi .entry)))) i ⌝ }
 {
-    let gamma_p = pure(lens, groups, counts, q, psi, ng, i);
+    let gamma_p = pure_listed(lens, groups, counts, q, psi, ng, i);
     let resid = crate::groups::residual(lens, groups, counts, gamma, &gamma_p[..], i);
     combinatorial(qi, ri / rs, qi / qs) + resid
 }
@@ -232,11 +278,12 @@ fn ln_gamma(
     i: usize,
 ) -> f64
     requires { ⌜ (Listed (i + 1) ng (now lens) (now groups) (now counts)) × (i < 12) × (ng ≤ 32) × (ng ≤ length (now q)) × (ng * ng ≤ length (now psi)) ⌝ }
-    ensures { λ r. ⌜ r ≡ lnFrom s (lists (now (lens .entry)) (now (groups .entry)) (now (counts .entry))) (Unifac·pure ng (lists (now (lens .entry)) (now (groups .entry)) (now (counts .entry))) (at (now (q .entry))) (grid ng (now (psi .entry)))) i ⌝ }
+    ensures { λ r. ⌜ r ≡ lnFrom s ng (lists (now (lens .entry)) (now (groups .entry)) (now (counts .entry))) (at (now (q .entry))) (grid ng (now (psi .entry))) i ⌝ }
 {
     let r_each = s.r;
     let q_each = s.q;
-    let gamma = s.gamma;
+    let theta = s.theta;
+    let gamma = listed_gammas(lens, groups, counts, q, &theta[..], psi, ng, i);
     ln_gamma_by(
         r_each[i],
         q_each[i],
@@ -266,11 +313,12 @@ fn excess_gibbs(
     ng: usize,
 ) -> f64
     requires { ⌜ (Listed n ng (now lens) (now groups) (now counts)) × (n ≤ 12) × (ng ≤ 32) × (ng ≤ length (now q)) × (ng * ng ≤ length (now psi)) × (n ≤ length (now x)) ⌝ }
-    ensures { λ r. ⌜ r ≡ sum n (λ i. at (now (x .entry)) i ⊗ lnFrom s (lists (now (lens .entry)) (now (groups .entry)) (now (counts .entry))) (Unifac·pure ng (lists (now (lens .entry)) (now (groups .entry)) (now (counts .entry))) (at (now (q .entry))) (grid ng (now (psi .entry)))) i) ⌝ }
+    ensures { λ r. ⌜ r ≡ sum n (λ i. at (now (x .entry)) i ⊗ lnFrom s ng (lists (now (lens .entry)) (now (groups .entry)) (now (counts .entry))) (at (now (q .entry))) (grid ng (now (psi .entry))) i) ⌝ }
 {
     let r_each = s.r;
     let q_each = s.q;
-    let gamma = s.gamma;
+    let theta = s.theta;
+    let gamma = gamma_k(q, &theta[..], psi, ng);
     let mut total = 0.0;
     for i in 0..n {
         total = total
@@ -309,7 +357,7 @@ fn over(
     requires { ⌜ (Listed n ng (now lens) (now groups) (now counts)) × (n ≤ 12) × (ng ≤ 32) × (ng ≤ length (now r)) × (ng ≤ length (now q)) × (ng * ng ≤ length (now psi)) × (n ≤ length (now x)) × (indexFault n asked ≡ 0) ⌝ }
     ensures { λ v. ⌜ v ≡ unifac n ng (lists (now (lens .entry)) (now (groups .entry)) (now (counts .entry))) (at (now (r .entry))) (at (now (q .entry))) (grid ng (now (psi .entry))) (at (now (x .entry))) asked ⌝ }
 {
-    let s = share(lens, groups, counts, r, q, psi, x, n, ng);
+    let s = share(lens, groups, counts, r, q, x, n, ng);
     match asked {
         Quantity::LnGamma(i) => ln_gamma(s, lens, groups, counts, q, psi, ng, i),
         Quantity::Gamma(i) => arithmetic::exp(ln_gamma(s, lens, groups, counts, q, psi, ng, i)),

@@ -10,18 +10,27 @@ use Rattle.arithmetic.specs.Floats.{_⊗_}
 use Rattle.arithmetic.proofs.SumLaws.{sum-none, sum-more, sum-done}
 use Rattle.models.specs.Values.{lists}
 use Rattle.models.specs.UnifacSteps.{lnFrom}
-use Rattle.models.specs.Unifac.{pure}
-use Rattle.models.proofs.ListLaws.{listed-less}
+use Rattle.models.proofs.ListLaws.{listed-less, filled-named}
+use Rattle.models.proofs.UnifacLaws.{listed-same, ln-from}
 use Rattle.models.proofs.unifac.excess_gibbs.Statement.{statement}
 use Rattle.models.proofs.unifac.excess_gibbs.Tie as tie
 
 abbrev Inv-loop : tie.InvT-loop
 Inv-loop s lens groups counts q psi x n ng r-each q-each gamma total₀ i₀ total i =
     (i ≤ n) × (length r-each ≡ 12) × (length q-each ≡ 12) × (length gamma ≡ 32)
-    × (total ≡ sum i (λ k. at x k ⊗ lnFrom s (lists lens groups counts) (pure ng (lists lens groups counts) (at q) (grid ng psi)) k))
+    × (total ≡ sum i (λ k. at x k ⊗ lnFrom s ng (lists lens groups counts) (at q) (grid ng psi) k))
 
 abbrev μ-loop : tie.MeasureT-loop
 μ-loop s lens groups counts q psi x n ng r-each q-each gamma total₀ i₀ total i = n - i
+
+slice-aggregate-gamma-k : tie.Need-slice-aggregate-gamma-k Inv-loop μ-loop
+slice-aggregate-gamma-k c = search needs
+
+gamma-k-requires : tie.Need-gamma-k-requires Inv-loop μ-loop
+gamma-k-requires c κs =
+    let start = c .before .before .before .before .before .before .before .before .before .before in
+    let long : length (start .args .s .theta) ≡ 32 = search needs in
+    (start .pre .2, start .pre .3, omega (arith, long, start .pre .2), start .pre .4)
 
 loop-holds : tie.Need-loop-holds Inv-loop μ-loop
 loop-holds c = (omega arith, search needs, search needs, search needs, sum-none _)
@@ -49,7 +58,7 @@ slice-aggregate-ln-gamma-by c = search needs
 
 ln-gamma-by-requires : tie.Need-ln-gamma-by-requires Inv-loop μ-loop
 ln-gamma-by-requires c κs =
-    let start = c .before .before .before .before .before .before .before .before .before .before .before .before .before in
+    let start = c .before .before .before .before .before .before .before .before .before .before .before .before .before .before .before in
     let top = c .before .before .before in
     (listed-less (start .pre .0) (top .loop .i) (start .args .ng) (c .before .before .loop-test .taken) (omega arith), omega arith, start .pre .2, start .pre .3, start .pre .4, top .loop .inv .3)
 
@@ -60,10 +69,12 @@ loop-less : tie.Need-loop-less Inv-loop μ-loop
 loop-less c = omega arith
 
 loop-again : tie.Need-loop-again Inv-loop μ-loop
-unfolding lnFrom
 loop-again c =
-    let inv = c .before .before .before .before .loop .inv in
-    (omega arith, inv .1, inv .2, inv .3, sum-more _ _ (inv .4) (rw (c .ln-gamma-by .ensures)))
+    let top = c .before .before .before .before in
+    let start = c .before .before .before .before .before .before .before .before .before .before .before .before .before .before .before .before in
+    let inv = top .loop .inv in
+    let below = listed-same (start .pre .0) (top .loop .i) (c .before .before .before .loop-test .taken) .below in
+    (omega arith, inv .1, inv .2, inv .3, sum-more _ _ (inv .4) (rw (ln-from (start .args .s) _ _ _ _ (top .loop .i) (filled-named _ _ _ _ below (top .before .gamma-k .ensures)) (c .ln-gamma-by .ensures))))
 
 returns : tie.Need-returns Inv-loop μ-loop
 returns c = sum-done _ _ _ (c .before .loop .inv .4) (c .before .loop .inv .0) (c .loop-test .left)
@@ -74,6 +85,8 @@ excess-gibbs-spec =
     (tie.spec
     Inv-loop
     μ-loop
+    slice-aggregate-gamma-k
+    gamma-k-requires
     loop-holds
     mul-total
     shared-slice-read-total

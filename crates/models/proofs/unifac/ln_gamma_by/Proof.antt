@@ -2,12 +2,12 @@
 use native.Mathlib.Omega.{arith}
 use borrow.Author.Needs.{needs}
 use Rattle.models.proofs.ListLaws.{listed-wider}
-use Rattle.models.proofs.UnifacLaws.{ln-by, listed-same}
+use Rattle.models.proofs.UnifacLaws.{ln-by}
 use Rattle.models.proofs.unifac.ln_gamma_by.Statement.{statement}
 use Rattle.models.proofs.unifac.ln_gamma_by.Tie as tie
 
-pure-requires : tie.Need-pure-requires
-pure-requires c κs = search needs
+pure-listed-requires : tie.Need-pure-listed-requires
+pure-listed-requires c κs = search needs
 
 slice-aggregate-residual : tie.Need-slice-aggregate-residual
 slice-aggregate-residual c = search needs
@@ -15,21 +15,19 @@ slice-aggregate-residual c = search needs
 residual-requires : tie.Need-residual-requires
 residual-requires c κs =
     let start = c .before .before .before .before .before .before .before .before in
-    (listed-wider (start .pre .0) _ (omega (arith, start .pre .5, start .pre .2)), start .pre .1, omega (arith, start .pre .5, c .before .pure .ok))
+    (listed-wider (start .pre .0) _ (omega (arith, start .pre .5, start .pre .2)), start .pre .1, omega (arith, start .pre .5, c .before .pure-listed .ok))
 
 combinatorial-requires : tie.Need-combinatorial-requires
 combinatorial-requires c κs = tt
 
 returns : tie.Need-returns
-returns c =
-    let start = c .before .before .before .before .before .before .before .before .before .before in
-    ln-by _ _ _ _ (start .args .ng) (listed-same (start .pre .0) (start .args .i) (omega arith)) (c .combinatorial .ensures) (c .before .residual .ensures) (c .before .before .before .pure .ensures)
+returns c = ln-by _ _ _ _ (c .combinatorial .ensures) (c .before .residual .ensures) (c .before .before .before .pure-listed .ensures)
 
 pub ln-gamma-by-spec : {M : Type 1} → statement M
 ln-gamma-by-spec =
     tie.close
     (tie.spec
-    pure-requires
+    pure-listed-requires
     slice-aggregate-residual
     residual-requires
     combinatorial-requires

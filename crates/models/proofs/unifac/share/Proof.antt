@@ -6,10 +6,10 @@ use Rattle.models.proofs.unifac.share.Statement.{statement}
 use Rattle.models.proofs.unifac.share.Tie as tie
 
 sizes-requires : tie.Need-sizes-requires
-sizes-requires c κs = let start = c .before .before .before .before .before .before .before in (listed-wider (start .pre .0) _ (start .pre .3), start .pre .1)
+sizes-requires c κs = let start = c .before .before .before .before .before .before in (listed-wider (start .pre .0) _ (start .pre .3), start .pre .1)
 
 sizes-requires-2 : tie.Need-sizes-requires-2
-sizes-requires-2 c κs = let start = c .before .before .before .before .before .before .before .before in (listed-wider (start .pre .0) _ (start .pre .4), start .pre .1)
+sizes-requires-2 c κs = let start = c .before .before .before .before .before .before .before in (listed-wider (start .pre .0) _ (start .pre .4), start .pre .1)
 
 slice-aggregate-dot : tie.Need-slice-aggregate-dot
 slice-aggregate-dot c = search needs
@@ -23,11 +23,11 @@ slice-aggregate-dot-2 c = search needs
 dot-requires-2 : tie.Need-dot-requires-2
 dot-requires-2 c κs = search needs
 
-mixed-requires : tie.Need-mixed-requires
-mixed-requires c κs = search needs
+theta-mixed-requires : tie.Need-theta-mixed-requires
+theta-mixed-requires c κs = search needs
 
 returns : tie.Need-returns
-returns c = shares-from _ _ _ _ _ _ _ (c .before .before .before .before .before .before .sizes .ensures) (c .before .before .before .before .before .sizes2 .ensures) (c .before .before .before .dot .ensures) (c .before .dot2 .ensures) (c .mixed .ensures)
+returns c = shares-from _ _ _ _ _ _ (c .before .before .before .before .before .before .sizes .ensures) (c .before .before .before .before .before .sizes2 .ensures) (c .before .before .before .dot .ensures) (c .before .dot2 .ensures) (c .theta-mixed .ensures)
 
 pub share-spec : {M : Type 1} → statement M
 share-spec =
@@ -39,5 +39,5 @@ share-spec =
     dot-requires
     slice-aggregate-dot-2
     dot-requires-2
-    mixed-requires
+    theta-mixed-requires
     returns)

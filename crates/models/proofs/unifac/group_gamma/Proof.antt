@@ -1,0 +1,63 @@
+-- The row of the group is lent to the second sum; what is left is the formula.
+use mathlib.Core.Path.{_∙_}
+use Prim.Native.Nat.{_+_, _*_, _≤_}
+use native.Mathlib.Nat.{mul-le-mul}
+use native.Mathlib.Omega.{arith}
+use denote.Ref.{now}
+use lib.ListN.{length}
+use lib.Ieee.{ofBits, round}
+use borrow.Author.Needs.{needs}
+use Rattle.arithmetic.specs.Floats.{one, dec}
+use Rattle.arithmetic.specs.Tables.{at}
+use Rattle.arithmetic.proofs.TableLaws.{row-end, from-length}
+use Rattle.models.proofs.UnifacLaws.{row-lent}
+use Rattle.models.proofs.unifac.group_gamma.Statement.{statement}
+use Rattle.models.proofs.unifac.group_gamma.Tie as tie
+
+-- row k ends within the table, and starts within 1,024 places
+ends : (c : tie.Start) → (c .args .k * c .args .ng + c .args .ng ≤ length (now (c .args .psi))) × (c .args .k * c .args .ng ≤ 1024)
+ends c =
+    let row = row-end _ (c .args .ng) _ (c .pre .1) in
+    (omega (arith, row, c .pre .3), omega (arith, row, mul-le-mul (c .pre .0) (c .pre .0)))
+
+mul-place : tie.Need-mul-place
+mul-place c = omega (arith, ends (c .before .before .before))
+
+mul-row-sum : tie.Need-mul-row-sum
+mul-row-sum c = omega (arith, ends (c .before .before .before))
+
+sub-row-sum : tie.Need-sub-row-sum
+sub-row-sum c = omega (arith, ends (c .before .before .before))
+
+part-row-sum-start : tie.Need-part-row-sum-start
+part-row-sum-start c = omega (arith, ends (c .before .before .before))
+
+part-row-sum-end : tie.Need-part-row-sum-end
+part-row-sum-end c = search needs
+
+row-sum-requires : tie.Need-row-sum-requires
+row-sum-requires c κs =
+    let start = c .before .before .before .before in (
+      omega (arith, start .pre .2, start .pre .4),
+      omega (arith, from-length (start .args .k * start .args .ng) (now (start .args .psi)), ends start),
+      omega (arith, start .pre .2, start .pre .4),
+      start .pre .0,
+    )
+
+returns : tie.Need-returns
+unfolding one dec round ofBits
+returns c =
+    let start = c .before .before .before .before .before in
+    rw (c .row-sum .ensures ∙ row-lent (start .args .ng) (at (now (start .args .theta))) (at (now (start .args .denom))) (now (start .args .psi)) (start .args .k) (start .pre .1) (start .pre .3))
+
+pub group-gamma-spec : {M : Type 1} → statement M
+group-gamma-spec =
+    tie.close
+    (tie.spec
+    mul-place
+    mul-row-sum
+    sub-row-sum
+    part-row-sum-start
+    part-row-sum-end
+    row-sum-requires
+    returns)

@@ -1,0 +1,60 @@
+-- The list of i is lent as a part of the groups.
+use Prim.Native.Nat.{_+_, _≤_}
+use native.Mathlib.Omega.{arith}
+use denote.Ref.{now}
+use lib.ListN.{length, getD}
+use borrow.Author.Needs.{needs}
+use Rattle.models.proofs.ListLaws.{list-ends, list-part-group, list-part-named}
+use Rattle.models.proofs.unifac.listed_gammas.Statement.{statement}
+use Rattle.models.proofs.unifac.listed_gammas.Tie as tie
+
+abbrev entry : tie.After-shared-slice-known7 → tie.Start
+entry c = c .before .before .before .before .before .before .before .before
+
+ends : (c : tie.After-shared-slice-known7) → c .before .start-of .result + getD (now (entry c .args .lens)) (entry c .args .i) 0 ≤ length (now (entry c .args .groups))
+ends c = list-ends (entry c .args .i) (entry c .pre .0) (c .before .start-of .ensures) .0
+
+start-of-requires : tie.Need-start-of-requires
+start-of-requires c κs = search needs
+
+shared-slice-read-end : tie.Need-shared-slice-read-end
+shared-slice-read-end c = search needs
+
+cast-end : tie.Need-cast-end
+cast-end c = omega (arith, c .shared-slice-known7 .given (entry c .args .i))
+
+add-end : tie.Need-add-end
+add-end c = omega (arith, ends c, entry c .good)
+
+sub-gammas-of : tie.Need-sub-gammas-of
+sub-gammas-of c = search needs
+
+part-gammas-of-start : tie.Need-part-gammas-of-start
+part-gammas-of-start c = search needs
+
+part-gammas-of-end : tie.Need-part-gammas-of-end
+part-gammas-of-end c = omega (arith, ends c)
+
+gammas-of-requires : tie.Need-gammas-of-requires
+gammas-of-requires c κs =
+    let start = entry (c .before) in
+    (start .pre .2, start .pre .3, start .pre .4, start .pre .5, list-part-group (start .args .i) (start .pre .0) (c .before .before .start-of .ensures))
+
+returns : tie.Need-returns
+returns c =
+    let known = c .before .before in
+    list-part-named (entry known .args .i) (entry known .pre .0) (known .before .start-of .ensures) (c .gammas-of .ensures)
+
+pub listed-gammas-spec : {M : Type 1} → statement M
+listed-gammas-spec =
+    tie.close
+    (tie.spec
+    start-of-requires
+    shared-slice-read-end
+    cast-end
+    add-end
+    sub-gammas-of
+    part-gammas-of-start
+    part-gammas-of-end
+    gammas-of-requires
+    returns)
