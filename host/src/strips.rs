@@ -6,6 +6,7 @@ use crate::memory::Memory;
 use crate::random::Random;
 use crate::steps::Steps;
 use crate::strip::{self, put_head, MOST};
+use std::panic::{catch_unwind, AssertUnwindSafe};
 
 /// What is done to a strip of whole records.
 const CHANGES: [&str; 12] = [
@@ -202,9 +203,18 @@ struct Tally {
 }
 
 impl Tally {
+    /// What is done with the reader of strips; where the reader panics, that is a difference and nothing more.
+    fn read<T>(&mut self, what: impl FnOnce() -> T) -> Option<T> {
+        let done = catch_unwind(AssertUnwindSafe(what)).ok();
+        self.differ += usize::from(done.is_none());
+        done
+    }
+
     /// Runs a strip into a buffer that has room for the text, or `less` bytes less; past the text nothing is written.
     fn run(&mut self, bytes: &[u8], less: usize) {
-        let text = strip::text(bytes);
+        let Some(text) = self.read(|| strip::text(bytes)) else {
+            return;
+        };
         let mut out = vec![0xA5; (text.len() + 32).saturating_sub(less)];
         let length = exports::run(bytes, &mut out);
         let fits = length.min(out.len());
@@ -262,7 +272,9 @@ pub fn compare_all(count: usize, seed: u64) -> bool {
     for (change, name) in CHANGES.iter().enumerate() {
         let mut tally = Tally::default();
         for _ in 0..count / CHANGES.len() + 1 {
-            let bytes = strips.next(change);
+            let Some(bytes) = tally.read(|| strips.next(change)) else {
+                continue;
+            };
             let less = if strips.below(8) == 0 {
                 strips.below(400)
             } else {
@@ -277,15 +289,17 @@ pub fn compare_all(count: usize, seed: u64) -> bool {
     }
     let mut tally = Tally::default();
     for _ in 0..12 {
-        let bytes = strips.sound(12, 1200).bytes;
-        (0..=bytes.len()).for_each(|length| tally.run(&bytes[..length], 0));
+        if let Some(drawn) = tally.read(|| strips.sound(12, 1200)) {
+            (0..=drawn.bytes.len()).for_each(|length| tally.run(&drawn.bytes[..length], 0));
+        }
     }
     add("every length of some", &tally);
     let mut tally = Tally::default();
     for length in [0, 65_532, 65_535, 65_536, 65_537, 65_540, 131_072] {
-        let bytes = strips.long(length);
-        tally.run(&bytes, 0);
-        tally.run(&bytes, 1000);
+        if let Some(bytes) = tally.read(|| strips.long(length)) {
+            tally.run(&bytes, 0);
+            tally.run(&bytes, 1000);
+        }
     }
     add("lengths about the limit", &tally);
     println!(
