@@ -73,7 +73,38 @@ fn uniquac(
     Worked { value, count }
 }
 
-// τ at T, which no cell keeps, is worked out once for the cells and the value.
+// NRTL's over a table that τ at T is written to: no cell keeps it, and it is worked out once for the cells and the value.
+fn nrtl_over(
+    n: usize,
+    t: f64,
+    x: [f64; 12],
+    q: Quantity,
+    values: &[f64],
+    tau: &mut [f64],
+    cells: &mut [f64],
+    marks: &mut [u8],
+) -> Worked
+    requires { ⌜ (n ≤ 12) × (n * n ≤ length (now tau)) × (indexFault n q ≡ 0) × (leastValues ≤ length (now values)) × (leastCells ≤ length (now cells)) × (leastMarks ≤ length (now marks)) ⌝ }
+    ensures { λ r. ⌜ Solved Model.Nrtl n (nonrandomness (alphas n (now (values .entry))) (λ i j. tdAt (taus n (now (values .entry)) i j) t)) (λ G. N·nrtl n (λ i j. tdAt (taus n (now (values .entry)) i j) t) G (at x) q) (now (cells .entry)) (now (marks .entry)) (now (cells .exit)) (now (marks .exit)) r ⌝ }
+{
+    models::nrtl::fill_taus(n, values, t, tau);
+    let place = n * n * 5;
+    let count = refill::refill(
+        Model::Nrtl,
+        n,
+        n,
+        &values[place..],
+        tau,
+        t,
+        0.0,
+        cells,
+        marks,
+    );
+    let value = models::nrtl::value_over(n, tau, &cells[..], &x[..], q);
+    Worked { value, count }
+}
+
+// A table of τ for up to four components is a small one.
 fn nrtl(
     n: usize,
     t: f64,
@@ -86,22 +117,12 @@ fn nrtl(
     requires { ⌜ (n ≤ 12) × (indexFault n q ≡ 0) × (leastValues ≤ length (now values)) × (leastCells ≤ length (now cells)) × (leastMarks ≤ length (now marks)) ⌝ }
     ensures { λ r. ⌜ Solved Model.Nrtl n (nonrandomness (alphas n (now (values .entry))) (λ i j. tdAt (taus n (now (values .entry)) i j) t)) (λ G. N·nrtl n (λ i j. tdAt (taus n (now (values .entry)) i j) t) G (at x) q) (now (cells .entry)) (now (marks .entry)) (now (cells .exit)) (now (marks .exit)) r ⌝ }
 {
+    if n < 5 {
+        let mut few = [0.0; 16];
+        return nrtl_over(n, t, x, q, values, &mut few[..], cells, marks);
+    }
     let mut tau = [0.0; 144];
-    models::nrtl::fill_taus(n, values, t, &mut tau[..]);
-    let place = n * n * 5;
-    let count = refill::refill(
-        Model::Nrtl,
-        n,
-        n,
-        &values[place..],
-        &tau[..],
-        t,
-        0.0,
-        cells,
-        marks,
-    );
-    let value = models::nrtl::value_over(n, &tau[..], &cells[..], &x[..], q);
-    Worked { value, count }
+    nrtl_over(n, t, x, q, values, &mut tau[..], cells, marks)
 }
 
 fn unifac(

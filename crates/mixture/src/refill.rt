@@ -149,8 +149,18 @@ fn refill_at_once(
     take_stale(model, w, i, &worked[..], cells, marks)
 }
 
-// Works out the stale cells of row i, and counts them: one by one where fewer than three marks are other than 1, an unused
-// diagonal's too, else the row at once.
+// Whether a row's stale cells are worked out one by one: it is short, or fewer than three of its marks are other than 1, an
+// unused diagonal's too.
+fn one_by_one(marks: &[u8], w: usize) -> bool
+    requires { ⌜ (w ≤ 1024) × (w ≤ length (now marks)) ⌝ }
+{
+    if w < 4 {
+        return true;
+    }
+    count_unmarked(marks, w) < 3
+}
+
+// Works out the stale cells of row i, and counts them: one by one where they are few, else the row at once.
 fn refill_row(
     model: Model,
     w: usize,
@@ -165,7 +175,7 @@ fn refill_row(
     requires { ⌜ (i < w) × (w ≤ 32) × (w * 5 ≤ length (now row)) × (w ≤ length (now tau)) × (w ≤ length (now cells)) × (w ≤ length (now marks)) ⌝ }
     ensures { λ r. ⌜ Refilled w (λ j. staleCell model (getD (now (marks .entry)) j 0) i j) (rowCell model (now (row .entry)) (now (tau .entry)) t ln i) (now (cells .entry)) (now (marks .entry)) (now (cells .exit)) (now (marks .exit)) r ⌝ }
 {
-    if count_unmarked(marks, w) < 3 {
+    if one_by_one(marks, w) {
         return refill_cells(model, w, i, row, tau, t, ln, cells, marks);
     }
     refill_at_once(model, w, i, row, tau, t, ln, cells, marks)
@@ -185,12 +195,15 @@ fn count_diagonal(marks: &[u8], w: usize) -> u16
     count
 }
 
-// Whether no cell is stale: no mark is other than 1, or where the diagonal has no cells, only marks on it are. They are
-// counted, not looked for one by one.
+// Whether a look at the marks shows that no cell is stale: none is other than 1, or where the diagonal has no cells, only marks
+// on it are. They are counted, not looked for one by one. Of a few short rows there is no look: they are gone through.
 fn all_fresh(model: Model, w: usize, marks: &[u8]) -> bool
     requires { ⌜ (w ≤ 32) × (w * w ≤ length (now marks)) ⌝ }
     ensures { λ r. ⌜ (r ≡ true → (c : ℕ) → c < w * w → staleCell model (getD (now (marks .entry)) c 0) (c / w) (c % w) ≡ false) ⌝ }
 {
+    if w < 4 {
+        return false;
+    }
     let count = count_unmarked(marks, w * w);
     if has_diagonal(model) {
         return count == 0;
@@ -232,7 +245,7 @@ fn refill_rows(
     count
 }
 
-// The same; where nothing is stale, no row is gone through.
+// The same; where a look shows that nothing is stale, no row is gone through.
 pub fn refill(
     model: Model,
     w: usize,
