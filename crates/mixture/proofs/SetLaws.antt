@@ -19,19 +19,20 @@ use Rattle.mixture.specs.declared.head.Model.{Model}
 use Rattle.mixture.specs.declared.head.Model.the-variants.{Wilson, Uniquac, Nrtl, Unifac}
 use Rattle.mixture.specs.declared.setting.Setting.{Setting}
 use Rattle.mixture.specs.declared.setting.Setting.the-variants.{Temperature, Entry, TdEntry, Size, Count}
-use Rattle.mixture.specs.declared.answers.Answer.the-variants.{Done}
+use Rattle.mixture.specs.declared.answers.Answer.{Answer}
+use Rattle.mixture.specs.declared.answers.Answer.the-variants.{Done, Refused}
 use Rattle.mixture.specs.declared.stale.Block.{Block}
 use Rattle.mixture.specs.Lists.{written}
 use Rattle.mixture.specs.Names.{byModel, Held, held, width, isCell}
 use Rattle.mixture.specs.Faults.{below, hasEntry, hasTdEntry, hasSize, hasCount, caseFault}
-use Rattle.mixture.specs.Memory.{Memory, memory, leastValues, leastMarks, after}
+use Rattle.mixture.specs.Memory.{Memory, memory, leastValues, leastMarks, After, after}
 use Rattle.mixture.specs.Layout.{modelOf, dataIn, place, numbers, cellAt}
-use Rattle.mixture.specs.Calls.{inRange, headFault, settingFault, stales, stalesAt, setMemory, setHead, afterSetting}
+use Rattle.mixture.specs.Calls.{inRange, headWith, headFault, settingFault, stales, stalesAt, setMemory, setHead, afterSetting}
 use Rattle.mixture.specs.Blocks.{inBlock, block, blockOf, headOnly, Settable}
 use Rattle.mixture.proofs.ListLaws.{never}
 use Rattle.mixture.proofs.PlaceLaws.{below-is, passed, nought, store-in}
 use Rattle.mixture.proofs.RangeLaws.{first-is, Bounds, bounds}
-use Rattle.mixture.proofs.CallLaws.{lists-in, in-range, head-passed}
+use Rattle.mixture.proofs.CallLaws.{refused, lists-in, in-range, head-passed}
 use Rattle.mixture.proofs.BlockLaws.{one-cell, one-row, no-cells, every-cell}
 use Rattle.mixture.proofs.StaleLaws.{written-same}
 
@@ -372,3 +373,29 @@ set-done m h s {a} {v} {k} {g} e p q r t =
     rw (eq-eqb (settingFault m h s) 0 e, t, q, p, place-only m h s)
     (ap (λ (l : List ℕ). after (memory (sets (m .values) (place (headOnly h) s) (numbers s)) (m .cells) l) (setHead h s) Done)
     (r ∙ written-same _ _ (λ c. 0) (m .marks) (λ c. sym (stales-only m h s c))))
+
+-- ---- the reply
+
+module _ (m : Memory) (h : Head) (s : Setting) where
+  pub set-refused : {k : ℕ} → k ≡ settingFault m h s → (k ≡ 0 → ⊥) → after m (cond (eqb k 0) (setHead h s) h) (cond (eqb k 0) Done (Refused k)) ≡ afterSetting m h s
+  unfolding afterSetting
+  set-refused {k} e n = rw (ne-eqb k 0 n) (refused m h _ e n)
+
+module _ (h : Head) (s : Setting) (k : ℕ) where
+  pub head-kept : setHead h s ≡ h → h ≡ cond (eqb k 0) (setHead h s) h
+  head-kept e = rw e (go (eqb k 0))
+    where
+      go : (b : Bool) → h ≡ cond b h h
+      go true = refl
+      go false = refl
+
+  pub head-changed : {t : Float} {b : Bool} {g : Head} → setHead h s ≡ headWith h (setHead h s .t) true (h .x) (h .«has_x»)
+      → t ≡ cond (eqb k 0) (setHead h s .t) (h .t) → b ≡ cond (eqb k 0) true (h .«has_t») → g ≡ headWith h t b (h .x) (h .«has_x») → g ≡ cond (eqb k 0) (setHead h s) h
+  head-changed e p q r = r ∙ rw (p, q) (go (eqb k 0))
+    where
+      go : (b : Bool) → headWith h (cond b (setHead h s .t) (h .t)) (cond b true (h .«has_t»)) (h .x) (h .«has_x») ≡ cond b (setHead h s) h
+      go true = sym e
+      go false = refl
+
+pub replied : {m : Memory} {g h : Head} {a b : Answer} {z : After} → g ≡ h → a ≡ b → after m h b ≡ z → after m g a ≡ z
+replied {m} p q r = rw (p, q) r

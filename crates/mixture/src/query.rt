@@ -195,20 +195,31 @@ fn solve(values: &[f64], cells: &mut [f64], marks: &mut [u8], head: Head, q: Qua
     }
 }
 
-// Works out every stale cell and answers with the value and their number.
-pub fn query(values: &[f64], cells: &mut [f64], marks: &mut [u8], head: Head, q: Quantity) -> Reply
-    ensures { λ r. ⌜ after (memory (now (values .entry)) (now (cells .exit)) (now (marks .exit))) (r .head) (r .answer) ≡ afterQuery (memory (now (values .entry)) (now (cells .entry)) (now (marks .entry))) head q ⌝ }
+// What a query does to cells and marks, and its answer.
+fn answered(values: &[f64], cells: &mut [f64], marks: &mut [u8], head: Head, q: Quantity) -> Answer
+    ensures { λ r. ⌜ after (memory (now (values .entry)) (now (cells .exit)) (now (marks .exit))) head r ≡ afterQuery (memory (now (values .entry)) (now (cells .entry)) (now (marks .entry))) head q ⌝ }
 {
     let fault = query_fault(values.len(), cells.len(), marks.len(), head, q);
     if fault != 0 {
-        return Reply {
-            head: head,
-            answer: Answer::Refused(fault),
-        };
+        return Answer::Refused(fault);
     }
     let worked = solve(values, cells, marks, head, q);
+    Answer::Value(worked.value, worked.count)
+}
+
+// Works out every stale cell and answers with the value and their number. `answered` is called in two places, so that the
+// compiler keeps it apart and puts this function into its callers, where the head needn't be copied.
+pub fn query(values: &[f64], cells: &mut [f64], marks: &mut [u8], head: Head, q: Quantity) -> Reply
+    ensures { λ r. ⌜ after (memory (now (values .entry)) (now (cells .exit)) (now (marks .exit))) (r .head) (r .answer) ≡ afterQuery (memory (now (values .entry)) (now (cells .entry)) (now (marks .entry))) head q ⌝ }
+{
+    if head.has_t {
+        return Reply {
+            head: head,
+            answer: answered(values, cells, marks, head, q),
+        };
+    }
     Reply {
         head: head,
-        answer: Answer::Value(worked.value, worked.count),
+        answer: answered(values, cells, marks, head, q),
     }
 }

@@ -1,6 +1,6 @@
 // Settings: document 01, "Mixture".
 ghost use mathlib.Core.Path.{_≡_};
-ghost use mathlib.Core.Bool.{cond};
+ghost use mathlib.Core.Bool.{true, false, cond};
 ghost use Prim.Native.Nat.{_+_, _*_, _<_, _≤_};
 ghost use lib.Dec.{eqb};
 ghost use lib.ListN.{length, getD};
@@ -8,12 +8,13 @@ ghost use lib.Seq.{sets};
 ghost use lib.Ieee.{lt};
 ghost use Rattle.arithmetic.specs.Floats.{+0};
 ghost use Rattle.models.specs.Values.{countsAt, start};
+ghost use Rattle.mixture.specs.declared.answers.Answer.the-variants.{Refused, Done};
 ghost use Rattle.mixture.specs.Lists.{written};
 ghost use Rattle.mixture.specs.Names.{byModel, held};
 ghost use Rattle.mixture.specs.Faults.{below, caseFault};
 ghost use Rattle.mixture.specs.Memory.{Memory, memory, after};
 ghost use Rattle.mixture.specs.Layout.{dataIn, numbers, place};
-ghost use Rattle.mixture.specs.Calls.{settingFault, stalesAt, setHead, afterSetting};
+ghost use Rattle.mixture.specs.Calls.{headWith, settingFault, stalesAt, setHead, afterSetting};
 ghost use Rattle.mixture.specs.Blocks.{headOnly, Settable, block, blockOf};
 use crate::answers::Answer;
 use crate::answers::Reply;
@@ -249,38 +250,87 @@ fn stale_by(marks: &mut [u8], head: Head, s: Setting)
     stale(marks, w, diagonal, block);
 }
 
-// The head after a setting: another T, or the same.
-fn set_head(head: Head, s: Setting) -> Head
-    ensures { λ r. ⌜ r ≡ setHead head s ⌝ }
+// Whether a setting is of T, which alone changes the head.
+fn sets_t(s: Setting) -> bool
+    ensures { λ r. ⌜ (r ≡ true → (h : Head) → setHead h s ≡ headWith h (setHead h s .t) true (h .x) (h .«has_x»)) × (r ≡ false → (h : Head) → setHead h s ≡ h) ⌝ }
 {
     match s {
-        Setting::Temperature(t) => {
-            let x = head.x;
-            head_with(head, t, true, x, head.has_x)
-        }
-        Setting::Entry(_, _, _) => head,
-        Setting::TdEntry(_, _, _) => head,
-        Setting::Size(_, _, _) => head,
-        Setting::Count(_, _, _) => head,
+        Setting::Temperature(_) => true,
+        Setting::Entry(_, _, _) => false,
+        Setting::TdEntry(_, _, _) => false,
+        Setting::Size(_, _, _) => false,
+        Setting::Count(_, _, _) => false,
     }
 }
 
-// Replaces what the setting names and makes the cells that it is an input of stale.
-pub fn set(values: &mut [f64], cells: &[f64], marks: &mut [u8], head: Head, s: Setting) -> Reply
-    ensures { λ r. ⌜ after (memory (now (values .exit)) (now (cells .entry)) (now (marks .exit))) (r .head) (r .answer) ≡ afterSetting (memory (now (values .entry)) (now (cells .entry)) (now (marks .entry))) head s ⌝ }
+// The head's T after a setting that may have been declined.
+fn t_after(head: Head, fault: u8, s: Setting) -> f64
+    ensures { λ r. ⌜ r ≡ cond (eqb fault 0) (setHead head s .t) (head .t) ⌝ }
+{
+    if fault != 0 {
+        return head.t;
+    }
+    match s {
+        Setting::Temperature(t) => t,
+        Setting::Entry(_, _, _) => head.t,
+        Setting::TdEntry(_, _, _) => head.t,
+        Setting::Size(_, _, _) => head.t,
+        Setting::Count(_, _, _) => head.t,
+    }
+}
+
+// Whether T is set after a setting of T that may have been declined.
+fn has_t_after(has_t: bool, fault: u8) -> bool
+    ensures { λ r. ⌜ r ≡ cond (eqb fault 0) true «has_t» ⌝ }
+{
+    if fault != 0 {
+        return has_t;
+    }
+    true
+}
+
+// The answer: done, or the number of what it was declined for.
+fn answer_by(fault: u8) -> Answer
+    ensures { λ r. ⌜ r ≡ cond (eqb fault 0) Done (Refused fault) ⌝ }
+{
+    if fault != 0 {
+        return Answer::Refused(fault);
+    }
+    Answer::Done
+}
+
+// What a setting does to values and marks; the number of what it is declined for, in which case it does nothing.
+fn change(values: &mut [f64], cells: &[f64], marks: &mut [u8], head: Head, s: Setting) -> u8
+    ensures { λ r. ⌜ after (memory (now (values .exit)) (now (cells .entry)) (now (marks .exit))) (cond (eqb r 0) (setHead head s) head) (cond (eqb r 0) Done (Refused r)) ≡ afterSetting (memory (now (values .entry)) (now (cells .entry)) (now (marks .entry))) head s ⌝ }
 {
     let fault = setting_fault(values.len(), cells.len(), marks.len(), head, s);
     if fault != 0 {
-        return Reply {
-            head: head,
-            answer: Answer::Refused(fault),
-        };
+        return fault;
     }
     let at = store_at(head, s);
     put(values, at, s);
     stale_by(marks, head, s);
+    0
+}
+
+// Replaces what the setting names and makes the cells that it is an input of stale. `change` is called in two places, so that
+// the compiler keeps it apart and puts this function into its callers, where the head needn't be copied.
+pub fn set(values: &mut [f64], cells: &[f64], marks: &mut [u8], head: Head, s: Setting) -> Reply
+    ensures { λ r. ⌜ after (memory (now (values .exit)) (now (cells .entry)) (now (marks .exit))) (r .head) (r .answer) ≡ afterSetting (memory (now (values .entry)) (now (cells .entry)) (now (marks .entry))) head s ⌝ }
+{
+    if sets_t(s) {
+        let fault = change(values, cells, marks, head, s);
+        let t = t_after(head, fault, s);
+        let has_t = has_t_after(head.has_t, fault);
+        let x = head.x;
+        return Reply {
+            head: head_with(head, t, has_t, x, head.has_x),
+            answer: answer_by(fault),
+        };
+    }
+    let fault = change(values, cells, marks, head, s);
     Reply {
-        head: set_head(head, s),
-        answer: Answer::Done,
+        head: head,
+        answer: answer_by(fault),
     }
 }

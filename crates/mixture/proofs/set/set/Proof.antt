@@ -1,42 +1,26 @@
--- The fault's number where there is one; else values, marks and head as the callees leave them.
-use mathlib.Core.Path.{_≡_, refl, sym, _∙_}
-use native.Mathlib.Omega.{arith}
-use denote.Ref.{now}
+-- What `change` says of memory; the head is changed for T alone, and the answer is by the number.
 use borrow.Author.Needs.{needs}
-use Rattle.mixture.specs.Memory.{Memory, memory}
-use Rattle.mixture.specs.Calls.{settingFault, afterSetting}
-use Rattle.mixture.proofs.CallLaws.{refused}
-use Rattle.mixture.proofs.SetLaws.{SetFits, set-fits, set-done}
+use Rattle.mixture.proofs.SetLaws.{head-kept, head-changed, replied}
 use Rattle.mixture.proofs.set.set.Statement.{statement}
 use Rattle.mixture.proofs.set.set.Tie as tie
 
-abbrev memOf : tie.Start → Memory
-memOf s = memory (s .args .values .now) (now (s .args .cells)) (s .args .marks .now)
+sets-t-requires : tie.Need-sets-t-requires
+sets-t-requires c κs = search needs
 
-fault-none : (c : tie.Else1) → settingFault (memOf (c .before .before .before .before .before)) (c .before .before .before .before .before .args .head) (c .before .before .before .before .before .args .s) ≡ 0
-fault-none c = sym (c .before .setting-fault .ensures (memOf (c .before .before .before .before .before)) (refl, refl, refl)) ∙ c .if1 .left
+change-requires : tie.Need-change-requires
+change-requires c κs = search needs
 
-pass : (c : tie.Else1) → SetFits (memOf (c .before .before .before .before .before)) (c .before .before .before .before .before .args .head) (c .before .before .before .before .before .args .s)
-pass c = set-fits _ _ _ (fault-none c)
+t-after-requires : tie.Need-t-after-requires
+t-after-requires c κs = search needs
 
-setting-fault-requires : tie.Need-setting-fault-requires
-setting-fault-requires c κs = tt
+has-t-after-requires : tie.Need-has-t-after-requires
+has-t-after-requires c κs = search needs
 
-returns : tie.Need-returns
-unfolding afterSetting
-returns c = refused (memOf (c .before .before .before .before .before)) _ _ (c .before .setting-fault .ensures (memOf (c .before .before .before .before .before)) (refl, refl, refl)) (c .if1 .taken)
+head-with-requires : tie.Need-head-with-requires
+head-with-requires c κs = search needs
 
-store-at-requires : tie.Need-store-at-requires
-store-at-requires c κs = pass c .ok
-
-put-requires : tie.Need-put-requires
-put-requires c κs = omega (arith, pass (c .before .before) .values, c .before .store-at .ensures)
-
-stale-by-requires : tie.Need-stale-by-requires
-stale-by-requires c κs = let p = pass (c .before .before .before .before .before .before) in (p .ok, p .marks)
-
-set-head-requires : tie.Need-set-head-requires
-set-head-requires c κs = tt
+answer-by-requires : tie.Need-answer-by-requires
+answer-by-requires c κs = search needs
 
 same-length : tie.Need-same-length
 same-length c = search needs
@@ -44,21 +28,43 @@ same-length c = search needs
 same-length-2 : tie.Need-same-length-2
 same-length-2 c = search needs
 
+returns : tie.Need-returns
+returns c =
+    let s = c .before .before .before .before .before .before .before .before .before .before .before .before .before .before .before .before .before in
+    replied (head-changed (s .args .head) (s .args .s) (c .before .before .before .before .before .before .before .before .before .change .result) (c .before .before .before .before .before .before .before .before .before .before .before .before .before .sets-t .ensures .0 (c .before .before .before .before .before .before .before .before .before .before .before .before .if1 .taken) (s .args .head)) (c .before .before .before .before .t-after .ensures) (c .before .before .before .has-t-after .ensures) (c .before .head-with .ensures)) (c .answer-by .ensures) (c .before .before .before .before .before .before .before .before .before .change .ensures)
+
+change-requires-2 : tie.Need-change-requires-2
+change-requires-2 c κs = search needs
+
+answer-by-requires-2 : tie.Need-answer-by-requires-2
+answer-by-requires-2 c κs = search needs
+
+same-length-3 : tie.Need-same-length-3
+same-length-3 c = search needs
+
+same-length-4 : tie.Need-same-length-4
+same-length-4 c = search needs
+
 returns-2 : tie.Need-returns-2
 returns-2 c =
-    let s = c .before .before .before .before .before .before .before .before .before .before .before .before .before .before .before in
-    set-done (memOf s) (s .args .head) (s .args .s) (fault-none (c .before .before .before .before .before .before .before .before .before .before)) (c .before .before .before .before .before .before .before .before .before .store-at .ensures) (c .before .before .before .before .before .before .before .put .ensures) (c .before .before .before .stale-by .ensures) (c .set-head .ensures)
+    let s = c .before .before .before .before .before .before .before .before .before .before .before .before .before in
+    replied (head-kept (s .args .head) (s .args .s) (c .before .before .before .before .before .change2 .result) (c .before .before .before .before .before .before .before .before .before .sets-t .ensures .1 (c .before .before .before .before .before .before .before .before .if1 .left) (s .args .head))) (c .answer-by2 .ensures) (c .before .before .before .before .before .change2 .ensures)
 
 pub set-spec : {M : Type 1} → statement M
 set-spec =
     tie.close
     (tie.spec
-    setting-fault-requires
-    returns
-    store-at-requires
-    put-requires
-    stale-by-requires
-    set-head-requires
+    sets-t-requires
+    change-requires
+    t-after-requires
+    has-t-after-requires
+    head-with-requires
+    answer-by-requires
     same-length
     same-length-2
+    returns
+    change-requires-2
+    answer-by-requires-2
+    same-length-3
+    same-length-4
     returns-2)

@@ -5,8 +5,8 @@ use denote.Ref.{now}
 use Rattle.mixture.specs.Memory.{Memory, memory}
 use Rattle.mixture.specs.Calls.{queryFault}
 use Rattle.mixture.proofs.QueryLaws.{query-refused, query-answered}
-use Rattle.mixture.proofs.query.query.Statement.{statement}
-use Rattle.mixture.proofs.query.query.Tie as tie
+use Rattle.mixture.proofs.query.answered.Statement.{statement}
+use Rattle.mixture.proofs.query.answered.Tie as tie
 
 abbrev memOf : tie.Start → Memory
 memOf s = memory (now (s .args .values)) (now (s .args .cells)) (now (s .args .marks))
@@ -32,7 +32,7 @@ same-length-2 c = search needs
 returns-2 : tie.Need-returns-2
 returns-2 c = query-answered (memOf (c .before .before .before .before .before .before .before .before .before .before .before .before)) _ _ (fault-none (c .before .before .before .before .before .before .before)) (c .before .before .before .before .solve .ensures)
 
-pub query-spec : {M : Type 1} → statement M
-query-spec =
+pub answered-spec : {M : Type 1} → statement M
+answered-spec =
     tie.close
     (tie.spec query-fault-requires returns solve-requires same-length same-length-2 returns-2)
