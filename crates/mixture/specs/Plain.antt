@@ -55,7 +55,8 @@ plainCall d T x q =
     (unifacPlain (d .n) (d .ng) (d .lens) (d .groups) (d .values) T x q)
 
 -- After any calls, where the book holds a model, T and fractions and has the component asked for, the plain call on its
--- holdings is not refused; its value is the one that the book answers, with the number of cells touched.
+-- holdings is not refused; its value is the one that the book answers, with the number of cells touched. (`bookAnswers` hands on the
+-- list `since` that it keeps; here it may be any.)
 abbrev pub PlainCall : Type 0
 PlainCall = (calls since : List Call) (d : Held) (T : Float) (x : List Float) (q : Quantity)
     → bookOf empty [] calls ≡ book (some d) (some T) (some x) → indexFault (d .n) q ≡ 0

@@ -73,7 +73,7 @@ fn uniquac(
     Worked { value, count }
 }
 
-// NRTL's over a table that τ at T is written to: no cell keeps it, and it is worked out once for the cells and the value.
+// NRTL's value and count, with a table that τ at T is written to: no cell keeps it, and it is worked out once for both.
 fn nrtl_over(
     n: usize,
     t: f64,
@@ -104,7 +104,7 @@ fn nrtl_over(
     Worked { value, count }
 }
 
-// A table of τ for up to four components is a small one.
+// NRTL's value and count. Up to four components take a small table of τ.
 fn nrtl(
     n: usize,
     t: f64,
@@ -207,8 +207,8 @@ fn answered(values: &[f64], cells: &mut [f64], marks: &mut [u8], head: Head, q: 
     Answer::Value(worked.value, worked.count)
 }
 
-// Works out every stale cell and answers with the value and their number. `answered` is called in two places, so that the
-// compiler keeps it apart and puts this function into its callers, where the head needn't be copied.
+// Works out every stale cell and answers with the value and their number. Both ways are the same on purpose: `answered` is
+// called in two places, so that the compiler keeps it apart and puts this function into its callers.
 pub fn query(values: &[f64], cells: &mut [f64], marks: &mut [u8], head: Head, q: Quantity) -> Reply
     ensures { λ r. ⌜ after (memory (now (values .entry)) (now (cells .exit)) (now (marks .exit))) (r .head) (r .answer) ≡ afterQuery (memory (now (values .entry)) (now (cells .entry)) (now (marks .entry))) head q ⌝ }
 {

@@ -1,4 +1,4 @@
-// A query's stale cells: each is worked out from T and its inputs, and marked 1.
+// A query's stale cells: each is worked out from its inputs, and marked 1.
 ghost use mathlib.Core.Path.{_≡_};
 ghost use mathlib.Core.Bool.{true, false};
 ghost use Prim.Native.Nat.{ℕ, _+_, _*_, _-_, _/_, _%_, _≤_, _<_};
@@ -150,7 +150,7 @@ fn refill_at_once(
 }
 
 // Whether a row's stale cells are worked out one by one: it is short, or fewer than three of its marks are other than 1, an
-// unused diagonal's too.
+// unused diagonal's too. Either way gives the same, so nothing is promised of it.
 fn one_by_one(marks: &[u8], w: usize) -> bool
     requires { ⌜ (w ≤ 1024) × (w ≤ length (now marks)) ⌝ }
 {
@@ -195,8 +195,8 @@ fn count_diagonal(marks: &[u8], w: usize) -> u16
     count
 }
 
-// Whether a look at the marks shows that no cell is stale: none is other than 1, or where the diagonal has no cells, only marks
-// on it are. They are counted, not looked for one by one. Of a few short rows there is no look: they are gone through.
+// Whether counting the marks shows that no cell is stale: none is other than 1, or, where the diagonal has no cells, only marks
+// on it are. Fewer than four rows aren't counted: they are gone through.
 fn all_fresh(model: Model, w: usize, marks: &[u8]) -> bool
     requires { ⌜ (w ≤ 32) × (w * w ≤ length (now marks)) ⌝ }
     ensures { λ r. ⌜ (r ≡ true → (c : ℕ) → c < w * w → staleCell model (getD (now (marks .entry)) c 0) (c / w) (c % w) ≡ false) ⌝ }
@@ -245,7 +245,7 @@ fn refill_rows(
     count
 }
 
-// The same; where a look shows that nothing is stale, no row is gone through.
+// The same; where counting the marks shows that nothing is stale, no row is gone through.
 pub fn refill(
     model: Model,
     w: usize,

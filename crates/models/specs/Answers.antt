@@ -20,7 +20,7 @@ unfoldable pub valuesOf : Answer → List Float
 valuesOf (Value v) = v ∷ []
 valuesOf (Refused k) = []
 
--- the answer of a call that declines with the number k, or not at all where k is 0, and else gives v
+-- a refusal with the number k, or where k is 0 the value v
 unfoldable pub answer : ℕ → Float → Answer
 answer k v = cond (eqb k 0) (Value v) (Refused k)
 

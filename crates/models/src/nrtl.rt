@@ -19,8 +19,7 @@ use crate::answers::Quantity;
 use crate::columns;
 use crate::parameters;
 
-// How many values n components have: τ by rows, five each, α. Past 12, which `plain_fault` refuses,
-// it says nothing.
+// How many values n components have: τ by rows, five each, α. Past 12, which `shape_fault` refuses, it answers 0.
 pub fn size(n: usize) -> usize
     ensures { λ r. ⌜ (n ≤ 12 → r ≡ nrtlSize n) ⌝ }
 {

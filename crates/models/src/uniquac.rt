@@ -19,7 +19,7 @@ use crate::answers::Quantity;
 // The coordination number.
 const Z: f64 = 10.0;
 
-// How many values n components have: a by rows, r's, q's. Past 12, which `plain_fault` refuses, it says nothing.
+// How many values n components have: a by rows, r's, q's. Past 12, which `shape_fault` refuses, it answers 0.
 pub fn size(n: usize) -> usize
     ensures { λ v. ⌜ (n ≤ 12 → v ≡ uniquacSize n) ⌝ }
 {

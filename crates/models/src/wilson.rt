@@ -14,7 +14,7 @@ ghost use Rattle.models.specs.Wilson.{wilson as W·wilson};
 use crate::answers::Answer;
 use crate::answers::Quantity;
 
-// How many values n components have: a by rows, V. Past 12, which `plain_fault` refuses, it says nothing.
+// How many values n components have: a by rows, V. Past 12, which `shape_fault` refuses, it answers 0.
 pub fn size(n: usize) -> usize
     ensures { λ r. ⌜ (n ≤ 12 → r ≡ wilsonSize n) ⌝ }
 {

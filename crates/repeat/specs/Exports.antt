@@ -1,5 +1,5 @@
 -- The exported call: a mixture opened on zeros, loaded and given fractions, then asked at one temperature after the other; or the
--- plain call at each. Its result is the last value. Each step is the call's own definition, so `history` of proofs/History holds of it.
+-- plain call at each. Its result is the last value. Each step is the call's own definition, so `history` of mixture's proofs/History holds of it.
 use mathlib.Core.Bool.{cond}
 use mathlib.Core.List.{List, []}
 use Prim.Native.Nat.{ℕ, zero, suc, _*_, _/_}

@@ -1,6 +1,5 @@
 -- The whole row is added, then place i is put right. Assumes nothing.
 use mathlib.Core.Path.{refl}
-use Prim.Native.Nat.{_-_}
 use borrow.Author.Needs.{needs}
 use denote.Ref.{now}
 use lib.Ieee.{round, ofBits}

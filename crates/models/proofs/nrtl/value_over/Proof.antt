@@ -1,5 +1,4 @@
 -- The sums once, then the quantity asked for, by the laws that let them be worked out once. Assumes nothing.
-use Prim.Native.Nat.{_-_}
 use native.Mathlib.Omega.{arith}
 use borrow.Author.Needs.{needs}
 use denote.Ref.{now}

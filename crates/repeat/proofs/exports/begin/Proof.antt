@@ -1,5 +1,4 @@
 -- T and fractions after a load, by the calls' own definitions. Assumes nothing.
-use Prim.Native.Nat.{_-_}
 use borrow.Author.Needs.{needs}
 use Rattle.repeat.proofs.ExportLaws.{begun-is}
 use Rattle.repeat.proofs.exports.begin.Statement.{statement}

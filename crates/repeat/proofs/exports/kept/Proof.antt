@@ -1,5 +1,5 @@
 -- The calls one after another are the definition's. Assumes nothing.
-use Prim.Native.Nat.{_*_, _-_}
+use Prim.Native.Nat.{_*_}
 use borrow.Author.Needs.{needs}
 use denote.Ref.{now}
 use Rattle.arithmetic.specs.Bytes.{floatAt}

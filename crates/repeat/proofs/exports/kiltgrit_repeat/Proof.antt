@@ -1,5 +1,4 @@
 -- The three cases that give 0, and else the decoded values. Assumes nothing.
-use Prim.Native.Nat.{_-_}
 use borrow.Author.Needs.{needs}
 use lib.Ieee.{ofBits}
 use borrow.Author.Tests.{lt-ltb, le-ltb}

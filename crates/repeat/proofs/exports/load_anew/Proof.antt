@@ -1,5 +1,4 @@
 -- An opening and then a load, by the calls' own definitions. Assumes nothing.
-use Prim.Native.Nat.{_-_}
 use borrow.Author.Needs.{needs}
 use Rattle.repeat.proofs.ExportLaws.{loaded-anew}
 use Rattle.repeat.proofs.exports.load_anew.Statement.{statement}

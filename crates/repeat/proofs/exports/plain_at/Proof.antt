@@ -1,6 +1,5 @@
 -- Each model's plain call. Assumes nothing.
 use mathlib.Core.Path.{ap, _∙_}
-use Prim.Native.Nat.{_-_}
 use borrow.Author.Needs.{needs}
 use Rattle.mixture.specs.Plain.{plainCall}
 use Rattle.repeat.specs.Exports.{plainValue}

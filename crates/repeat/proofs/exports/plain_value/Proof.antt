@@ -1,5 +1,4 @@
 -- An answer's value, 0 where it has none: each case is the definition's. Assumes nothing.
-use Prim.Native.Nat.{_-_}
 use borrow.Author.Needs.{needs}
 use lib.Ieee.{ofBits}
 use Rattle.repeat.specs.Exports.{plainValue}

@@ -1,5 +1,4 @@
 -- The two tests in the definition's order. Assumes nothing.
-use Prim.Native.Nat.{_-_}
 use borrow.Author.Tests.{eq-eqb, ne-eqb}
 use Rattle.repeat.specs.Exports.{quantityOf}
 use Rattle.repeat.proofs.exports.quantity_of.Statement.{statement}

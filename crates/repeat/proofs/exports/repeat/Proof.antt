@@ -1,5 +1,4 @@
 -- The plain calls, or the mixture. Assumes nothing.
-use Prim.Native.Nat.{_-_}
 use borrow.Author.Needs.{needs}
 use Rattle.repeat.proofs.ExportLaws.{repeated-plain, repeated-kept}
 use Rattle.repeat.proofs.exports.repeat.Statement.{statement}

@@ -1,5 +1,4 @@
 -- A setting and then a query, by the calls' own definitions. Assumes nothing.
-use Prim.Native.Nat.{_-_}
 use borrow.Author.Needs.{needs}
 use Rattle.repeat.proofs.ExportLaws.{set-asked}
 use Rattle.repeat.proofs.exports.set_and_ask.Statement.{statement}

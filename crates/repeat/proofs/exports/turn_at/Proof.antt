@@ -1,5 +1,4 @@
 -- A query alone, or after a setting. Assumes nothing.
-use Prim.Native.Nat.{_-_}
 use borrow.Author.Needs.{needs}
 use Rattle.repeat.proofs.ExportLaws.{turn-none, turn-set}
 use Rattle.repeat.proofs.exports.turn_at.Statement.{statement}
