@@ -61,6 +61,17 @@ is-none false h = refl
 pub none-of : (n : ℕ) (p : ℕ → Bool) → howMany n p ≡ 0 → (c : ℕ) → c < n → p c ≡ false
 none-of n p e c h = is-none (p c) (omega (arith, one-of n c p h))
 
+-- where one passes, and i does, no other does
+pub only-own : (n i : ℕ) (p : ℕ → Bool) → i < n → p i ≡ true → howMany n p ≡ 1 → (j : ℕ) → j < n → not (eqb i j) && p j ≡ false
+only-own n i p h own e j b =
+    elim (either (eqb i j)) [
+      | inl d ↦ rw d refl
+      | inr d ↦ rw d (is-none (p j) (omega (arith, one own, two-of n i j p h b (eqb-false i j d))))
+    ]
+  where
+    one : p i ≡ true → _≡_ {A = ℕ} (cond (p i) 1 0) 1
+    one t = rw t refl
+
 -- ---- a square whose diagonal has all that pass
 
 diagonal-least : (m n : ℕ) (p : ℕ → ℕ → Bool) → m ≤ n → howMany m (λ i. p i i) ≤ howManyPairs m n p

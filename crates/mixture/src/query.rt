@@ -77,15 +77,15 @@ fn uniquac(
 fn nrtl_over(
     n: usize,
     t: f64,
-    x: [f64; 12],
+    x: &[f64],
     q: Quantity,
     values: &[f64],
     tau: &mut [f64],
     cells: &mut [f64],
     marks: &mut [u8],
 ) -> Worked
-    requires { ⌜ (n ≤ 12) × (n * n ≤ length (now tau)) × (indexFault n q ≡ 0) × (leastValues ≤ length (now values)) × (leastCells ≤ length (now cells)) × (leastMarks ≤ length (now marks)) ⌝ }
-    ensures { λ r. ⌜ Solved Model.Nrtl n (nonrandomness (alphas n (now (values .entry))) (λ i j. tdAt (taus n (now (values .entry)) i j) t)) (λ G. N·nrtl n (λ i j. tdAt (taus n (now (values .entry)) i j) t) G (at x) q) (now (cells .entry)) (now (marks .entry)) (now (cells .exit)) (now (marks .exit)) r ⌝ }
+    requires { ⌜ (n ≤ 12) × (n * n ≤ length (now tau)) × (indexFault n q ≡ 0) × (leastValues ≤ length (now values)) × (leastCells ≤ length (now cells)) × (leastMarks ≤ length (now marks)) × (n ≤ length (now x)) ⌝ }
+    ensures { λ r. ⌜ Solved Model.Nrtl n (nonrandomness (alphas n (now (values .entry))) (λ i j. tdAt (taus n (now (values .entry)) i j) t)) (λ G. N·nrtl n (λ i j. tdAt (taus n (now (values .entry)) i j) t) G (at (now (x .entry))) q) (now (cells .entry)) (now (marks .entry)) (now (cells .exit)) (now (marks .exit)) r ⌝ }
 {
     models::nrtl::fill_taus(n, values, t, tau);
     let place = n * n * 5;
@@ -100,7 +100,7 @@ fn nrtl_over(
         cells,
         marks,
     );
-    let value = models::nrtl::value_over(n, tau, &cells[..], &x[..], q);
+    let value = models::nrtl::value_over(n, tau, &cells[..], x, q);
     Worked { value, count }
 }
 
@@ -119,10 +119,10 @@ fn nrtl(
 {
     if n < 5 {
         let mut few = [0.0; 16];
-        return nrtl_over(n, t, x, q, values, &mut few[..], cells, marks);
+        return nrtl_over(n, t, &x[..], q, values, &mut few[..], cells, marks);
     }
     let mut tau = [0.0; 144];
-    nrtl_over(n, t, x, q, values, &mut tau[..], cells, marks)
+    nrtl_over(n, t, &x[..], q, values, &mut tau[..], cells, marks)
 }
 
 fn unifac(
@@ -208,18 +208,20 @@ fn answered(values: &[f64], cells: &mut [f64], marks: &mut [u8], head: Head, q: 
 }
 
 // Works out every stale cell and answers with the value and their number. Both ways are the same on purpose: `answered` is
-// called in two places, so that the compiler keeps it apart and puts this function into its callers.
+// called in two places, so that the compiler keeps it apart and puts this function into its callers. It is handed a copy of the
+// head, so that the head itself needn't be put together in memory before it goes back.
 pub fn query(values: &[f64], cells: &mut [f64], marks: &mut [u8], head: Head, q: Quantity) -> Reply
     ensures { λ r. ⌜ after (memory (now (values .entry)) (now (cells .exit)) (now (marks .exit))) (r .head) (r .answer) ≡ afterQuery (memory (now (values .entry)) (now (cells .entry)) (now (marks .entry))) head q ⌝ }
 {
+    let copy = head;
     if head.has_t {
         return Reply {
             head: head,
-            answer: answered(values, cells, marks, head, q),
+            answer: answered(values, cells, marks, copy, q),
         };
     }
     Reply {
         head: head,
-        answer: answered(values, cells, marks, head, q),
+        answer: answered(values, cells, marks, copy, q),
     }
 }

@@ -149,18 +149,26 @@ fn refill_at_once(
     take_stale(model, w, i, &worked[..], cells, marks)
 }
 
-// Whether a row's stale cells are worked out one by one: it is short, or fewer than three of its marks are other than 1, an
-// unused diagonal's too. Either way gives the same, so nothing is promised of it.
-fn one_by_one(marks: &[u8], w: usize) -> bool
-    requires { ⌜ (w ≤ 1024) × (w ≤ length (now marks)) ⌝ }
+// Whether counting the marks of row i shows that none of its cells is stale: none is other than 1, or, where the diagonal has no
+// cells, only the one on it is.
+fn row_fresh(model: Model, w: usize, i: usize, marks: &[u8]) -> bool
+    requires { ⌜ (i < w) × (w ≤ 32) × (w ≤ length (now marks)) ⌝ }
+    ensures { λ r. ⌜ (r ≡ true → (j : ℕ) → j < w → staleCell model (getD (now (marks .entry)) j 0) i j ≡ false) ⌝ }
 {
-    if w < 4 {
+    let count = count_unmarked(marks, w);
+    if count == 0 {
         return true;
     }
-    count_unmarked(marks, w) < 3
+    if has_diagonal(model) {
+        return false;
+    }
+    if marks[i] == FRESH {
+        return false;
+    }
+    count == 1
 }
 
-// Works out the stale cells of row i, and counts them: one by one where they are few, else the row at once.
+// Works out the stale cells of row i, and counts them: the row at once, unless none is stale.
 fn refill_row(
     model: Model,
     w: usize,
@@ -175,8 +183,8 @@ fn refill_row(
     requires { ⌜ (i < w) × (w ≤ 32) × (w * 5 ≤ length (now row)) × (w ≤ length (now tau)) × (w ≤ length (now cells)) × (w ≤ length (now marks)) ⌝ }
     ensures { λ r. ⌜ Refilled w (λ j. staleCell model (getD (now (marks .entry)) j 0) i j) (rowCell model (now (row .entry)) (now (tau .entry)) t ln i) (now (cells .entry)) (now (marks .entry)) (now (cells .exit)) (now (marks .exit)) r ⌝ }
 {
-    if one_by_one(marks, w) {
-        return refill_cells(model, w, i, row, tau, t, ln, cells, marks);
+    if row_fresh(model, w, i, marks) {
+        return 0;
     }
     refill_at_once(model, w, i, row, tau, t, ln, cells, marks)
 }
@@ -196,14 +204,11 @@ fn count_diagonal(marks: &[u8], w: usize) -> u16
 }
 
 // Whether counting the marks shows that no cell is stale: none is other than 1, or, where the diagonal has no cells, only marks
-// on it are. Fewer than four rows aren't counted: they are gone through.
+// on it are.
 fn all_fresh(model: Model, w: usize, marks: &[u8]) -> bool
     requires { ⌜ (w ≤ 32) × (w * w ≤ length (now marks)) ⌝ }
     ensures { λ r. ⌜ (r ≡ true → (c : ℕ) → c < w * w → staleCell model (getD (now (marks .entry)) c 0) (c / w) (c % w) ≡ false) ⌝ }
 {
-    if w < 4 {
-        return false;
-    }
     let count = count_unmarked(marks, w * w);
     if has_diagonal(model) {
         return count == 0;
@@ -211,7 +216,41 @@ fn all_fresh(model: Model, w: usize, marks: &[u8]) -> bool
     count == count_diagonal(marks, w)
 }
 
-// Works out every stale cell, row by row, and counts them. Row i of `table` and of `tau` starts at i·stride.
+// Works out every stale cell of a short table, one by one, and counts them. Row i of `table` and of `tau` starts at i·stride.
+fn refill_short(
+    model: Model,
+    w: usize,
+    stride: usize,
+    table: &[f64],
+    tau: &[f64],
+    t: f64,
+    ln: f64,
+    cells: &mut [f64],
+    marks: &mut [u8],
+) -> usize
+    requires { ⌜ (w ≤ 32) × ((w - 1) * stride + w * 5 ≤ length (now table)) × ((w - 1) * stride + w ≤ length (now tau)) × (w * w ≤ length (now cells)) × (w * w ≤ length (now marks)) ⌝ }
+    ensures { λ r. ⌜ Refilled (w * w) (λ c. staleCell model (getD (now (marks .entry)) c 0) (c / w) (c % w)) (λ c. rowCell model (from (c / w * stride) (now (table .entry))) (from (c / w * stride) (now (tau .entry))) t ln (c / w) (c % w)) (now (cells .entry)) (now (marks .entry)) (now (cells .exit)) (now (marks .exit)) r ⌝ }
+{
+    let mut count: usize = 0;
+    for i in 0..w {
+        let place = i * w;
+        let start = i * stride;
+        count += refill_cells(
+            model,
+            w,
+            i,
+            &table[start..],
+            &tau[start..],
+            t,
+            ln,
+            &mut cells[place..],
+            &mut marks[place..],
+        );
+    }
+    count
+}
+
+// The same, row by row.
 fn refill_rows(
     model: Model,
     w: usize,
@@ -245,7 +284,8 @@ fn refill_rows(
     count
 }
 
-// The same; where counting the marks shows that nothing is stale, no row is gone through.
+// Works out every stale cell, and counts them. Of up to three rows each cell is looked at; of more, first all the marks, then those
+// of a row, so that one with a stale cell is worked out at once and the others are passed over.
 pub fn refill(
     model: Model,
     w: usize,
@@ -260,6 +300,9 @@ pub fn refill(
     requires { ⌜ (w ≤ 32) × ((w - 1) * stride + w * 5 ≤ length (now table)) × ((w - 1) * stride + w ≤ length (now tau)) × (w * w ≤ length (now cells)) × (w * w ≤ length (now marks)) ⌝ }
     ensures { λ r. ⌜ Refilled (w * w) (λ c. staleCell model (getD (now (marks .entry)) c 0) (c / w) (c % w)) (λ c. rowCell model (from (c / w * stride) (now (table .entry))) (from (c / w * stride) (now (tau .entry))) t ln (c / w) (c % w)) (now (cells .entry)) (now (marks .entry)) (now (cells .exit)) (now (marks .exit)) r ⌝ }
 {
+    if w < 4 {
+        return refill_short(model, w, stride, table, tau, t, ln, cells, marks);
+    }
     if all_fresh(model, w, marks) {
         return 0;
     }

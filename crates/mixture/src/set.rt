@@ -250,19 +250,6 @@ fn stale_by(marks: &mut [u8], head: Head, s: Setting)
     stale(marks, w, diagonal, block);
 }
 
-// Whether a setting is of T, which alone changes the head.
-fn sets_t(s: Setting) -> bool
-    ensures { λ r. ⌜ (r ≡ true → (h : Head) → setHead h s ≡ headWith h (setHead h s .t) true (h .x) (h .«has_x»)) × (r ≡ false → (h : Head) → setHead h s ≡ h) ⌝ }
-{
-    match s {
-        Setting::Temperature(_) => true,
-        Setting::Entry(_, _, _) => false,
-        Setting::TdEntry(_, _, _) => false,
-        Setting::Size(_, _, _) => false,
-        Setting::Count(_, _, _) => false,
-    }
-}
-
 // The head's T after a setting that may have been declined.
 fn t_after(head: Head, fault: u8, s: Setting) -> f64
     ensures { λ r. ⌜ r ≡ cond (eqb fault 0) (setHead head s .t) (head .t) ⌝ }
@@ -279,14 +266,20 @@ fn t_after(head: Head, fault: u8, s: Setting) -> f64
     }
 }
 
-// Whether T is set after a setting of T that may have been declined.
-fn has_t_after(has_t: bool, fault: u8) -> bool
-    ensures { λ r. ⌜ r ≡ cond (eqb fault 0) true «has_t» ⌝ }
+// Whether T is set after a setting that may have been declined.
+fn has_t_after(head: Head, fault: u8, s: Setting) -> bool
+    ensures { λ r. ⌜ r ≡ cond (eqb fault 0) (setHead head s .«has_t») (head .«has_t») ⌝ }
 {
     if fault != 0 {
-        return has_t;
+        return head.has_t;
     }
-    true
+    match s {
+        Setting::Temperature(_) => true,
+        Setting::Entry(_, _, _) => head.has_t,
+        Setting::TdEntry(_, _, _) => head.has_t,
+        Setting::Size(_, _, _) => head.has_t,
+        Setting::Count(_, _, _) => head.has_t,
+    }
 }
 
 // The answer: done, or the number of what it was declined for.
@@ -313,24 +306,16 @@ fn change(values: &mut [f64], cells: &[f64], marks: &mut [u8], head: Head, s: Se
     0
 }
 
-// Replaces what the setting names and makes the cells that it is an input of stale. `change` is called in two places, so that
-// the compiler keeps it apart and puts this function into its callers, where the head needn't be copied.
+// Replaces what the setting names and makes the cells that it is an input of stale.
 pub fn set(values: &mut [f64], cells: &[f64], marks: &mut [u8], head: Head, s: Setting) -> Reply
     ensures { λ r. ⌜ after (memory (now (values .exit)) (now (cells .entry)) (now (marks .exit))) (r .head) (r .answer) ≡ afterSetting (memory (now (values .entry)) (now (cells .entry)) (now (marks .entry))) head s ⌝ }
 {
-    if sets_t(s) {
-        let fault = change(values, cells, marks, head, s);
-        let t = t_after(head, fault, s);
-        let has_t = has_t_after(head.has_t, fault);
-        let x = head.x;
-        return Reply {
-            head: head_with(head, t, has_t, x, head.has_x),
-            answer: answer_by(fault),
-        };
-    }
     let fault = change(values, cells, marks, head, s);
+    let mut after = head;
+    after.t = t_after(head, fault, s);
+    after.has_t = has_t_after(head, fault, s);
     Reply {
-        head: head,
+        head: after,
         answer: answer_by(fault),
     }
 }

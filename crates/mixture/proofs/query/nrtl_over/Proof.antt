@@ -19,28 +19,28 @@ small c = (mul-le-mul (c .pre .0) (c .pre .0), mul-le-mul-right _ (omega arith))
 fill-taus-requires : tie.Need-fill-taus-requires
 unfolding leastValues leastCells leastMarks nrtlSize
 fill-taus-requires c κs =
-    let start = c .before .before .before .before .before in
+    let start = c .before .before .before .before .before .before in
     (start .pre .0, omega (arith, small start, start .pre .3), start .pre .1)
 
 mul-place : tie.Need-mul-place
 unfolding leastValues leastCells leastMarks
-mul-place c = let start = c .before .before .before .before .before .before .before .before in omega (arith, small start, start .pre .3)
+mul-place c = let start = c .before .before .before .before .before .before .before .before .before in omega (arith, small start, start .pre .3)
 
 mul-place-2 : tie.Need-mul-place-2
 unfolding leastValues leastCells leastMarks
-mul-place-2 c = let start = c .before .before .before .before .before .before .before .before in omega (arith, small start, start .pre .3)
+mul-place-2 c = let start = c .before .before .before .before .before .before .before .before .before in omega (arith, small start, start .pre .3)
 
 mul-refill : tie.Need-mul-refill
 unfolding leastValues leastCells leastMarks
-mul-refill c = let start = c .before .before .before .before .before .before .before .before in omega (arith, small start, start .pre .3)
+mul-refill c = let start = c .before .before .before .before .before .before .before .before .before in omega (arith, small start, start .pre .3)
 
 sub-refill : tie.Need-sub-refill
 unfolding leastValues leastCells leastMarks
-sub-refill c = let start = c .before .before .before .before .before .before .before .before in omega (arith, small start, start .pre .3)
+sub-refill c = let start = c .before .before .before .before .before .before .before .before .before in omega (arith, small start, start .pre .3)
 
 part-refill-start : tie.Need-part-refill-start
 unfolding leastValues leastCells leastMarks
-part-refill-start c = let start = c .before .before .before .before .before .before .before .before in omega (arith, small start, start .pre .3)
+part-refill-start c = let start = c .before .before .before .before .before .before .before .before .before in omega (arith, small start, start .pre .3)
 
 part-refill-end : tie.Need-part-refill-end
 part-refill-end c = search needs
@@ -48,7 +48,7 @@ part-refill-end c = search needs
 refill-requires : tie.Need-refill-requires
 unfolding leastValues leastCells leastMarks
 refill-requires c κs =
-    let start = c .before .before .before .before .before .before .before .before .before .before .before .before in
+    let start = c .before .before .before .before .before .before .before .before .before .before .before .before .before in
     let w = small start in
     let n = start .args .n in (
       omega (arith, start .pre .0),
@@ -58,18 +58,15 @@ refill-requires c κs =
       omega (arith, w, start .pre .5),
     )
 
-slice-aggregate-value-over : tie.Need-slice-aggregate-value-over
-slice-aggregate-value-over c = search needs
-
 value-over-requires : tie.Need-value-over-requires
 unfolding leastValues leastCells leastMarks
 value-over-requires c κs =
     let start = c .before .before .before .before .before .before .before .before .before .before .before .before .before .before .before .before .before .before .before .before in
     let w = small start in (
       start .pre .0,
-      omega (arith, c .before .before .before .before .before .before .before .before .before .before .before .before .before .before .fill-taus .kept, start .pre .1, w),
-      omega (arith, c .before .before .before .before .before .before .before .refill .kept, w, start .pre .4),
-      omega (arith, start .pre .0),
+      omega (arith, c .before .before .before .before .before .before .before .before .before .before .before .before .before .fill-taus .kept, start .pre .1, w),
+      omega (arith, c .before .before .before .before .before .before .refill .kept, w, start .pre .4),
+      start .pre .6,
       start .pre .2,
     )
 
@@ -87,8 +84,8 @@ unfolding leastValues leastCells leastMarks
 returns c =
     let start = c .before .before .before .before .before .before .before .before .before .before .before .before .before .before .before .before .before .before .before .before .before in
     let w = small start in
-    nrtl-solved (start .args .n) (now (start .args .values)) (start .args .t) _ _ _ (start .pre .2) (omega (arith, w, start .pre .3)) (omega (arith, c .before .before .before .before .before .before .before .before .before .before .before .before .before .before .before .fill-taus .kept, start .pre .1, w))
-    (c .before .before .before .before .before .before .before .before .before .before .before .before .before .before .before .fill-taus .ensures) (c .before .before .before .before .before .before .before .before .refill .ensures) (c .value-over .ensures)
+    nrtl-solved (start .args .n) (now (start .args .values)) (start .args .t) _ _ _ (start .pre .2) (omega (arith, w, start .pre .3)) (omega (arith, c .before .before .before .before .before .before .before .before .before .before .before .before .before .before .fill-taus .kept, start .pre .1, w))
+    (c .before .before .before .before .before .before .before .before .before .before .before .before .before .before .fill-taus .ensures) (c .before .before .before .before .before .before .before .refill .ensures) (c .value-over .ensures)
 
 pub nrtl-over-spec : {M : Type 1} → statement M
 nrtl-over-spec =
@@ -102,7 +99,6 @@ nrtl-over-spec =
     part-refill-start
     part-refill-end
     refill-requires
-    slice-aggregate-value-over
     value-over-requires
     same-length
     same-length-2
