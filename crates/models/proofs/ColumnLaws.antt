@@ -7,22 +7,23 @@ use native.Mathlib.Nat.{le-antisymm, ne-of-lt, ne-of-gt}
 use native.Mathlib.Omega.{arith}
 use lib.Dec.{eqb}
 use borrow.Author.Tests.{eq-eqb, ne-eqb, eqb-false}
-use lib.ListN.{length, set, take, replicate, getD-replicate, length-set}
+use lib.ListN.{length, set, take, length-set}
 use lib.Seq.{getD-set-same, getD-set-other, getD-take, length-take-le}
-use lib.Ieee.{Float, nan, binary64, ofBits}
-use Rattle.arithmetic.specs.Floats.{_⊕_, _⊗_, one}
-use Rattle.arithmetic.specs.Sums.{sum, total}
+use lib.Ieee.{Float, nan}
+use Rattle.arithmetic.specs.Floats.{_⊕_, _⊗_, +0, one}
+use Rattle.arithmetic.specs.Sums.{fold, sum, total}
 use Rattle.arithmetic.specs.Tables.{at, grid, from, Filled, upTo}
-use Rattle.arithmetic.proofs.SumLaws.{sum-none, sum-more, sum-same}
+use Rattle.arithmetic.proofs.SumLaws.{sum-more, sum-same}
 use Rattle.arithmetic.proofs.TableLaws.{upto-below, from-at, by-place, filled-less}
 use Rattle.arithmetic.proofs.Differences.{either}
 use Rattle.models.specs.Columns.{unitAt, unitDiagonal, columnSum}
 
 -- terms F k j of row k and column j
 module _ (F : ℕ → ℕ → Float) where
-  -- an array of zeros
-  pub columns-none : (n m : ℕ) → n ≤ m → Filled (λ j. sum 0 (λ k. F k j)) n (replicate m (ofBits binary64 0))
-  columns-none n m h = record { each = λ j b. getD-replicate m j (ofBits binary64 0) nan (omega arith) ∙ sum-none (λ k. F k j) }
+  -- zeros at first
+  pub columns-none : (n : ℕ) {s : List Float} → Filled (λ _. +0) n s → Filled (λ j. sum 0 (λ k. F k j)) n s
+  unfolding sum fold
+  columns-none n all = record { each = all .each }
 
   pub columns-more : (i n : ℕ) (new : ℕ → Float) {s s′ : List Float} → n ≤ length s → ((j : ℕ) → j < n → new j ≡ F i j) →
       Filled (λ j. sum i (λ k. F k j)) n s → Filled (upTo n (λ j. at s j ⊕ new j) (at s)) (length s) s′ → Filled (λ j. sum (i + 1) (λ k. F k j)) n s′

@@ -81,9 +81,15 @@ residual-folded n p θ row sums i g q {w} {l} {r} b h le terms own log t =
     let S : r ≡ sum n (λ j. θ j ⊗ unitAt i row j ⊘ sums j) = terms-put n p i _ _ g b h le (λ k c ne. rw (unit-off i k row ne)) (own ∙ rw (unit-on i row)) terms t in
     rw (log, S)
 
--- column sums over weights that stand in a list
-pub columns-hoisted : (n : ℕ) (E : ℕ → ℕ → Float) (w : ℕ → Float) (theta sums : List Float) → Filled w n theta → Filled (columnSum n E (at theta)) n sums → Filled (columnSum n E w) n sums
-columns-hoisted n E w theta sums all = filled-as (λ j b. column-same n E E (at theta) w j (λ k c. refl) (all .each))
+-- what all components share, from what the callees work out: the column sums are those over the shares that stand in a list
+pub shared : (n : ℕ) (r q : ℕ → Float) (E : ℕ → ℕ → Float) (x : ℕ → Float) {rx lx : Float} {theta sums : List Float} → rx ≡ sum n (λ j. x j ⊗ r j) → lx ≡ sum n (λ j. x j ⊗ l r q j) →
+    Filled (share n q x) n theta → Filled (columnSum n (tau E) (at theta)) n sums → UniquacShared n r q E x rx lx theta sums
+shared n r q E x {rx} {lx} {theta} {sums} s t all columns = record {
+  rSum = s;
+  lSum = t;
+  shares = all;
+  columns = filled-as (λ j b. column-same n (tau E) (tau E) (at theta) (share n q x) j (λ k c. refl) (all .each)) columns;
+}
 
 module _ (n : ℕ) (r q : ℕ → Float) (e : List Float) (x : ℕ → Float) (rx lx : Float) (theta sums : List Float) (S : UniquacShared n r q (grid n e) x rx lx theta sums) (i : ℕ) (b : i < n) where
   combinatorial-hoisted : {phi c : Float} → phi ≡ x i ⊗ r i ⊘ rx →

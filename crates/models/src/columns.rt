@@ -2,7 +2,7 @@
 // run side by side.
 ghost use Prim.Native.Nat.{_+_, _*_, _≤_, _<_};
 ghost use lib.ListN.{length};
-ghost use Rattle.arithmetic.specs.Floats.{_⊕_, _⊗_};
+ghost use Rattle.arithmetic.specs.Floats.{_⊕_, _⊗_, +0};
 ghost use Rattle.arithmetic.specs.Tables.{at, grid, Filled, upTo};
 ghost use Rattle.models.specs.Columns.{unitDiagonal, columnSum, unitAt};
 
@@ -17,7 +17,7 @@ pub fn add_row(row: &[f64], w: f64, n: usize, sums: &mut [f64])
 }
 
 // The same where the row's entry i counts as 1. The row runs without a test for it, then place i is put right.
-fn add_unit_row(sums: &mut [f64], w: f64, row: &[f64], n: usize, i: usize)
+pub fn add_unit_row(sums: &mut [f64], w: f64, row: &[f64], n: usize, i: usize)
     requires { ⌜ (n ≤ length (now sums)) × (n ≤ length (now row)) × (i < n) ⌝ }
     ensures { λ _. ⌜ Filled (upTo n (λ j. at (now (sums .entry)) j ⊕ w ⊗ unitAt i (at (now (row .entry))) j) (at (now (sums .entry)))) (length (now (sums .entry))) (now (sums .exit)) ⌝ }
 {
@@ -26,15 +26,13 @@ fn add_unit_row(sums: &mut [f64], w: f64, row: &[f64], n: usize, i: usize)
     sums[i] = own;
 }
 
-// The column sums of w over a table by rows of n with 1 on its diagonal, whose places aren't read.
-pub fn unit_column_sums(n: usize, table: &[f64], w: &[f64]) -> [f64; 12]
-    requires { ⌜ (n ≤ 12) × (n * n ≤ length (now table)) × (n ≤ length (now w)) ⌝ }
-    ensures { λ r. ⌜ Filled (columnSum n (unitDiagonal (grid n (now (table .entry)))) (at (now (w .entry)))) n r ⌝ }
+// The column sums of w over a table by rows of n with 1 on its diagonal, whose places aren't read; sums has zeros at first.
+pub fn unit_column_sums(n: usize, table: &[f64], w: &[f64], sums: &mut [f64])
+    requires { ⌜ (n * n ≤ length (now table)) × (n ≤ length (now w)) × (n ≤ length (now sums)) × Filled (λ _. +0) n (now sums) ⌝ }
+    ensures { λ _. ⌜ Filled (columnSum n (unitDiagonal (grid n (now (table .entry)))) (at (now (w .entry)))) n (now (sums .exit)) ⌝ }
 {
-    let mut sums = [0.0; 12];
     for i in 0..n {
         let start = i * n;
-        add_unit_row(&mut sums[..], w[i], &table[start..], n, i);
+        add_unit_row(sums, w[i], &table[start..], n, i);
     }
-    sums
 }

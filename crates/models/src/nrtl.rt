@@ -5,10 +5,10 @@ ghost use lib.ListN.{length};
 ghost use lib.Ieee.{neg};
 ghost use Rattle.arithmetic.specs.Exponential.{expOf};
 ghost use Rattle.arithmetic.specs.Parameters.{tdAt};
-ghost use Rattle.arithmetic.specs.Floats.{_⊕_, _⊖_, _⊗_, _⊘_};
+ghost use Rattle.arithmetic.specs.Floats.{_⊕_, _⊖_, _⊗_, _⊘_, +0};
 ghost use Rattle.arithmetic.specs.Tables.{at, grid, Filled, upTo};
 ghost use Rattle.models.specs.Answers.{indexFault};
-ghost use Rattle.models.specs.Columns.{unitAt, unitDiagonal};
+ghost use Rattle.models.specs.Columns.{unitAt, unitDiagonal, columnSum};
 ghost use Rattle.models.specs.Nrtl.{tauAt, numerator, nrtl, nrtlAt};
 ghost use Rattle.models.specs.Plain.{nrtlPlain};
 ghost use Rattle.models.specs.Values.{fiveAt, nrtlSize, taus, alphas};
@@ -77,17 +77,16 @@ fn add_terms(sums: &mut [f64], x: f64, g: &[f64], tau: &[f64], n: usize, i: usiz
     sums[i] = own;
 }
 
-// Σ_m x_m G_mj τ_mj for each j.
-fn numerators(n: usize, tau: &[f64], g: &[f64], x: &[f64]) -> [f64; 12]
-    requires { ⌜ (n ≤ 12) × (n * n ≤ length (now tau)) × (n * n ≤ length (now g)) × (n ≤ length (now x)) ⌝ }
-    ensures { λ r. ⌜ Filled (numerator n (grid n (now (tau .entry))) (grid n (now (g .entry))) (at (now (x .entry)))) n r ⌝ }
+// For each j the numerator Σ_m x_m G_mj τ_mj in u and the denominator Σ_m x_m G_mj in d; both have zeros at first.
+fn column_sums(n: usize, tau: &[f64], g: &[f64], x: &[f64], u: &mut [f64], d: &mut [f64])
+    requires { ⌜ (n * n ≤ length (now tau)) × (n * n ≤ length (now g)) × (n ≤ length (now x)) × (n ≤ length (now u)) × (n ≤ length (now d)) × Filled (λ _. +0) n (now u) × Filled (λ _. +0) n (now d) ⌝ }
+    ensures { λ _. ⌜ Filled (numerator n (grid n (now (tau .entry))) (grid n (now (g .entry))) (at (now (x .entry)))) n (now (u .exit)) × Filled (columnSum n (unitDiagonal (grid n (now (g .entry)))) (at (now (x .entry)))) n (now (d .exit)) ⌝ }
 {
-    let mut sums = [0.0; 12];
     for i in 0..n {
         let start = i * n;
-        add_terms(&mut sums[..], x[i], &g[start..], &tau[start..], n, i);
+        add_terms(u, x[i], &g[start..], &tau[start..], n, i);
+        columns::add_unit_row(d, x[i], &g[start..], n, i);
     }
-    sums
 }
 
 // The second sum of ln γ_i; tau and g are row i of their tables, u the numerators and d the
@@ -131,8 +130,9 @@ pub fn value_over(n: usize, tau: &[f64], g: &[f64], x: &[f64], q: Quantity) -> f
     requires { ⌜ (n ≤ 12) × (n * n ≤ length (now tau)) × (n * n ≤ length (now g)) × (n ≤ length (now x)) × (indexFault n q ≡ 0) ⌝ }
     ensures { λ r. ⌜ r ≡ nrtl n (grid n (now (tau .entry))) (grid n (now (g .entry))) (at (now (x .entry))) q ⌝ }
 {
-    let u = numerators(n, tau, g, x);
-    let d = columns::unit_column_sums(n, g, x);
+    let mut u = [0.0; 12];
+    let mut d = [0.0; 12];
+    column_sums(n, tau, g, x, &mut u[..], &mut d[..]);
     match q {
         Quantity::LnGamma(i) => ln_gamma(n, tau, g, &u[..], &d[..], x, i),
         Quantity::Gamma(i) => arithmetic::exp(ln_gamma(n, tau, g, &u[..], &d[..], x, i)),

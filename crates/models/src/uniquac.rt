@@ -29,17 +29,15 @@ pub fn size(n: usize) -> usize
     n * n + n + n
 }
 
-// x_i s_i / Σ_j x_j s_j: θ for s = q.
-fn shares(n: usize, s: &[f64], x: &[f64]) -> [f64; 12]
-    requires { ⌜ (n ≤ 12) × (n ≤ length (now s)) × (n ≤ length (now x)) ⌝ }
-    ensures { λ v. ⌜ Filled (share n (at (now (s .entry))) (at (now (x .entry)))) n v ⌝ }
+// Writes x_i s_i / Σ_j x_j s_j for each i: θ for s = q.
+fn shares(n: usize, s: &[f64], x: &[f64], shares: &mut [f64])
+    requires { ⌜ (n ≤ length (now s)) × (n ≤ length (now x)) × (n ≤ length (now shares)) ⌝ }
+    ensures { λ _. ⌜ Filled (share n (at (now (s .entry))) (at (now (x .entry)))) n (now (shares .exit)) ⌝ }
 {
-    let mut shares = [0.0; 12];
     let sum = arithmetic::dot(x, s, n);
     for i in 0..n {
         shares[i] = x[i] * s[i] / sum;
     }
-    shares
 }
 
 // l of r and q.
@@ -134,8 +132,10 @@ pub fn value_over(n: usize, r: &[f64], q: &[f64], e: &[f64], x: &[f64], k: Quant
 {
     let rx = arithmetic::dot(x, r, n);
     let lx = l_sum(n, r, q, x);
-    let theta = shares(n, q, x);
-    let sums = crate::columns::unit_column_sums(n, e, &theta[..]);
+    let mut theta = [0.0; 12];
+    shares(n, q, x, &mut theta[..]);
+    let mut sums = [0.0; 12];
+    crate::columns::unit_column_sums(n, e, &theta[..], &mut sums[..]);
     match k {
         Quantity::LnGamma(i) => ln_gamma(n, r, q, e, x, rx, lx, &theta[..], &sums[..], i),
         Quantity::Gamma(i) => arithmetic::exp(ln_gamma(

@@ -39,17 +39,15 @@ fn row_sum(n: usize, v: &[f64], row: &[f64], x: &[f64], i: usize) -> f64
     arithmetic::sum(&terms[..n])
 }
 
-// What all components share: the sum of each row.
-fn row_sums(n: usize, v: &[f64], e: &[f64], x: &[f64]) -> [f64; 12]
-    requires { ⌜ (n ≤ 12) × (n ≤ length (now v)) × (n * n ≤ length (now e)) × (n ≤ length (now x)) ⌝ }
-    ensures { λ r. ⌜ Filled (rowSum n (at (now (v .entry))) (grid n (now (e .entry))) (at (now (x .entry)))) n r ⌝ }
+// What all components share: writes the sum of each row.
+fn row_sums(n: usize, v: &[f64], e: &[f64], x: &[f64], sums: &mut [f64])
+    requires { ⌜ (n ≤ 12) × (n ≤ length (now v)) × (n * n ≤ length (now e)) × (n ≤ length (now x)) × (n ≤ length (now sums)) ⌝ }
+    ensures { λ _. ⌜ Filled (rowSum n (at (now (v .entry))) (grid n (now (e .entry))) (at (now (x .entry)))) n (now (sums .exit)) ⌝ }
 {
-    let mut sums = [0.0; 12];
     for i in 0..n {
         let at = i * n;
         sums[i] = row_sum(n, v, &e[at..], x, i);
     }
-    sums
 }
 
 // Λ_ij off the diagonal.
@@ -91,7 +89,8 @@ pub fn value_over(n: usize, v: &[f64], e: &[f64], x: &[f64], q: Quantity) -> f64
     requires { ⌜ (n ≤ 12) × (n ≤ length (now v)) × (n * n ≤ length (now e)) × (n ≤ length (now x)) × (indexFault n q ≡ 0) ⌝ }
     ensures { λ r. ⌜ r ≡ W·wilson n (at (now (v .entry))) (grid n (now (e .entry))) (at (now (x .entry))) q ⌝ }
 {
-    let mut sums = row_sums(n, v, e, x);
+    let mut sums = [0.0; 12];
+    row_sums(n, v, e, x, &mut sums[..]);
     match q {
         Quantity::LnGamma(i) => ln_gamma(n, v, e, x, &sums[..], i),
         Quantity::Gamma(i) => arithmetic::exp(ln_gamma(n, v, e, x, &sums[..], i)),

@@ -2,11 +2,9 @@
 use mathlib.Core.Path.{_≡_, refl, ap, _∙_}
 use Prim.Native.Nat.{ℕ, _+_, _*_, _-_, _≤_}
 use native.Mathlib.Omega.{arith}
-use borrow.Author.Needs.{needs}
 use lib.ListN.{length}
 use denote.Ref.{now}
 use lib.Ieee.{Float}
-use native.Mathlib.Nat.{mul-le-mul}
 use Rattle.arithmetic.specs.Floats.{_⊗_}
 use Rattle.arithmetic.specs.Sums.{sum}
 use Rattle.arithmetic.specs.Tables.{at, grid, Filled}
@@ -17,30 +15,27 @@ use Rattle.models.proofs.columns.unit_column_sums.Statement.{statement}
 use Rattle.models.proofs.columns.unit_column_sums.Tie as tie
 
 abbrev Inv-loop : tie.InvT-loop
-Inv-loop n table w sums₀ i₀ sums i = (i ≤ n) × (length sums ≡ 12) × Filled (λ j. sum i (λ k. at w k ⊗ unitDiagonal (grid n table) k j)) n sums
+Inv-loop n table w sums₀ i₀ sums i = (i ≤ n) × (length sums ≡ length sums₀) × Filled (λ j. sum i (λ k. at w k ⊗ unitDiagonal (grid n table) k j)) n sums
 
 abbrev μ-loop : tie.MeasureT-loop
 μ-loop n table w sums₀ i₀ sums i = n - i
 
 -- the term of row k and column j
-abbrev term : tie.After-shared-slice-known2 Inv-loop μ-loop → ℕ → ℕ → Float
-term c k j = at (now (c .before .before .args .w)) k ⊗ unitDiagonal (grid (c .before .before .args .n) (now (c .before .before .args .table))) k j
+abbrev term : tie.Start Inv-loop μ-loop → ℕ → ℕ → Float
+term c k j = at (now (c .args .w)) k ⊗ unitDiagonal (grid (c .args .n) (now (c .args .table))) k j
 
--- the row i ends within the table, and the table within 144 places
-ends : (c : tie.In-loop Inv-loop μ-loop) → c .before .loop .i * c .before .before .before .before .args .n + c .before .before .before .before .args .n ≤ c .before .before .before .before .args .n * c .before .before .before .before .args .n
-ends c = row-end _ (c .before .before .before .before .args .n) _ (c .loop-test .taken)
+abbrev entry : tie.In-loop Inv-loop μ-loop → tie.Start Inv-loop μ-loop
+entry c = c .before .before .before .before .before
 
-small : (c : tie.In-loop Inv-loop μ-loop) → c .before .before .before .before .args .n * c .before .before .before .before .args .n ≤ 144
-small c = mul-le-mul (c .before .before .before .before .pre .0) (c .before .before .before .before .pre .0)
+-- row i ends within the table
+ends : (c : tie.In-loop Inv-loop μ-loop) → c .before .loop .i * entry c .args .n + entry c .args .n ≤ length (now (entry c .args .table))
+ends c = omega (arith, row-end (entry c .args .n) (entry c .args .n) (c .before .loop .i) (c .loop-test .taken))
 
 loop-holds : tie.Need-loop-holds Inv-loop μ-loop
-loop-holds c = (omega arith, refl, columns-none (term c) _ 12 (omega arith))
+loop-holds c = (omega arith, refl, columns-none (term (c .before .before .before)) _ (c .before .before .before .pre .3))
 
 mul-start : tie.Need-mul-start Inv-loop μ-loop
-mul-start c = omega (arith, ends c, small c)
-
-slice-aggregate-add-unit-row : tie.Need-slice-aggregate-add-unit-row Inv-loop μ-loop
-slice-aggregate-add-unit-row c = search needs
+mul-start c = omega (arith, ends c)
 
 mul-add-unit-row : tie.Need-mul-add-unit-row Inv-loop μ-loop
 mul-add-unit-row c = omega arith
@@ -49,13 +44,13 @@ shared-slice-read-add-unit-row : tie.Need-shared-slice-read-add-unit-row Inv-loo
 shared-slice-read-add-unit-row c = omega arith
 
 mul-add-unit-row-2 : tie.Need-mul-add-unit-row-2 Inv-loop μ-loop
-mul-add-unit-row-2 c = omega (arith, ends (c .before .before), small (c .before .before))
+mul-add-unit-row-2 c = omega (arith, ends (c .before .before))
 
 sub-add-unit-row : tie.Need-sub-add-unit-row Inv-loop μ-loop
-sub-add-unit-row c = omega (arith, ends (c .before .before), small (c .before .before))
+sub-add-unit-row c = omega (arith, ends (c .before .before))
 
 part-add-unit-row-start : tie.Need-part-add-unit-row-start Inv-loop μ-loop
-part-add-unit-row-start c = omega (arith, ends (c .before .before), small (c .before .before))
+part-add-unit-row-start c = omega (arith, ends (c .before .before))
 
 part-add-unit-row-end : tie.Need-part-add-unit-row-end Inv-loop μ-loop
 part-add-unit-row-end c = omega arith
@@ -63,8 +58,8 @@ part-add-unit-row-end c = omega arith
 add-unit-row-requires : tie.Need-add-unit-row-requires Inv-loop μ-loop
 add-unit-row-requires c κs =
     let turn = c .before .before .before in
-    let start = turn .before .before .before .before in
-    (omega arith, omega (arith, from-length (turn .before .loop .i * start .args .n) (now (start .args .table)), ends turn), turn .loop-test .taken)
+    let start = entry turn in
+    (omega (arith, turn .before .loop .inv .1, start .pre .2), omega (arith, from-length (turn .before .loop .i * start .args .n) (now (start .args .table)), ends turn), turn .loop-test .taken)
 
 add-i : tie.Need-add-i Inv-loop μ-loop
 add-i c = omega arith
@@ -74,15 +69,18 @@ loop-less c = omega arith
 
 loop-again : tie.Need-loop-again Inv-loop μ-loop
 loop-again c =
-    let call = c .before in
+    let call = c .before .before in
     let turn = call .before .before .before .before in
     let top = turn .before in
-    let start = top .before .before .before in
-    (omega arith, call .add-unit-row .kept .0 ∙ top .loop .inv .1, columns-more (term (top .before)) _ _ _ (omega arith) (λ j b. ap (λ (v : Float). at (now (start .args .w)) (top .loop .i) ⊗ v) (unit-row (start .args .n) (now (start .args .table)) (top .loop .i) j (omega (arith, ends turn)) b)) (top .loop .inv .2) (call .add-unit-row .ensures))
+    let start = entry turn in
+    (omega arith, call .add-unit-row .kept .0 ∙ top .loop .inv .1, columns-more (term start) _ _ _ (omega (arith, top .loop .inv .1, start .pre .2)) (λ j b. ap (λ (v : Float). at (now (start .args .w)) (top .loop .i) ⊗ v) (unit-row (start .args .n) (now (start .args .table)) (top .loop .i) j (ends turn) b)) (top .loop .inv .2) (call .add-unit-row .ensures))
+
+same-length : tie.Need-same-length Inv-loop μ-loop
+same-length c = c .before .loop .inv .1
 
 returns : tie.Need-returns Inv-loop μ-loop
 unfolding columnSum
-returns c = columns-done (term (c .before .before)) _ _ (c .before .loop .inv .0) (c .loop-test .left) (c .before .loop .inv .2)
+returns c = columns-done (term (c .before .before .before .before .before)) _ _ (c .before .loop .inv .0) (c .loop-test .left) (c .before .loop .inv .2)
 
 pub unit-column-sums-spec : {M : Type 1} → statement M
 unit-column-sums-spec =
@@ -92,7 +90,6 @@ unit-column-sums-spec =
     μ-loop
     loop-holds
     mul-start
-    slice-aggregate-add-unit-row
     mul-add-unit-row
     shared-slice-read-add-unit-row
     mul-add-unit-row-2
@@ -103,4 +100,5 @@ unit-column-sums-spec =
     add-i
     loop-less
     loop-again
+    same-length
     returns)

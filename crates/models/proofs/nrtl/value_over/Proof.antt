@@ -3,16 +3,27 @@ use native.Mathlib.Omega.{arith}
 use borrow.Author.Needs.{needs}
 use denote.Ref.{now}
 use Rattle.arithmetic.specs.Tables.{at, grid}
+use Rattle.arithmetic.proofs.TableLaws.{filled-less}
 use Rattle.models.proofs.AnswerLaws.{index-ln, index-gamma}
+use Rattle.models.proofs.ListLaws.{zeros}
 use Rattle.models.proofs.NrtlLaws.{nrtl-ln, nrtl-gamma, nrtl-excess}
 use Rattle.models.proofs.nrtl.value_over.Statement.{statement}
 use Rattle.models.proofs.nrtl.value_over.Tie as tie
 
-numerators-requires : tie.Need-numerators-requires
-numerators-requires c κs = search needs
+abbrev entry : tie.After-column-sums → tie.Start
+entry c = c .before .before .before .before .before .before
 
-unit-column-sums-requires : tie.Need-unit-column-sums-requires
-unit-column-sums-requires c κs = search needs
+slice-aggregate-column-sums : tie.Need-slice-aggregate-column-sums
+slice-aggregate-column-sums c = search needs
+
+slice-aggregate-column-sums-2 : tie.Need-slice-aggregate-column-sums-2
+slice-aggregate-column-sums-2 c = search needs
+
+column-sums-requires : tie.Need-column-sums-requires
+column-sums-requires c κs =
+    let pre = c .before .before .before .before .before .pre in
+    let start = filled-less (pre .0) (zeros 12) in
+    (pre .1, pre .2, pre .3, omega (arith, pre .0), omega (arith, pre .0), start, start)
 
 enum-known-q : tie.Need-enum-known-q
 enum-known-q c = search needs
@@ -25,8 +36,9 @@ slice-aggregate-ln-gamma-2 c = search needs
 
 ln-gamma-requires : tie.Need-ln-gamma-requires
 ln-gamma-requires c κs =
-    let pre = c .before .before .before .before .before .before .before .before .before .before .pre in
-    (pre .0, index-ln (c .before .before .before .q .given .1) (pre .4), pre .1, pre .2, omega arith, omega arith, pre .3)
+    let sums = c .before .before .before .before .before .before .before in
+    let pre = entry sums .pre in
+    (pre .0, index-ln (c .before .before .before .q .given .1) (pre .4), pre .1, pre .2, omega (arith, sums .column-sums .kept .1 .1 .1 .1 .0, pre .0), omega (arith, sums .column-sums .kept .1 .1 .1 .1 .1 .0, pre .0), pre .3)
 
 enum-known-q-2 : tie.Need-enum-known-q-2
 enum-known-q-2 c = search needs
@@ -39,8 +51,9 @@ slice-aggregate-ln-gamma-4 c = search needs
 
 ln-gamma-requires-2 : tie.Need-ln-gamma-requires-2
 ln-gamma-requires-2 c κs =
-    let pre = c .before .before .before .before .before .before .before .before .before .before .pre in
-    (pre .0, index-gamma (c .before .before .before .q2 .given .1) (pre .4), pre .1, pre .2, omega arith, omega arith, pre .3)
+    let sums = c .before .before .before .before .before .before .before in
+    let pre = entry sums .pre in
+    (pre .0, index-gamma (c .before .before .before .q2 .given .1) (pre .4), pre .1, pre .2, omega (arith, sums .column-sums .kept .1 .1 .1 .1 .0, pre .0), omega (arith, sums .column-sums .kept .1 .1 .1 .1 .1 .0, pre .0), pre .3)
 
 exp-requires : tie.Need-exp-requires
 exp-requires c κs = tt
@@ -55,24 +68,36 @@ slice-aggregate-excess-by-2 : tie.Need-slice-aggregate-excess-by-2
 slice-aggregate-excess-by-2 c = search needs
 
 excess-by-requires : tie.Need-excess-by-requires
-excess-by-requires c κs = search needs
+excess-by-requires c κs =
+    let sums = c .before .before .before .before .before .before in
+    let pre = entry sums .pre in
+    (omega (arith, sums .column-sums .kept .1 .1 .1 .1 .0, pre .0), omega (arith, sums .column-sums .kept .1 .1 .1 .1 .1 .0, pre .0), pre .3)
 
 returns : tie.Need-returns
-returns c = nrtl-ln (c .before .before .before .before .before .before .before .before .before .before .before .args .n) (grid (c .before .before .before .before .before .before .before .before .before .before .before .args .n) (now (c .before .before .before .before .before .before .before .before .before .before .before .args .tau))) (grid (c .before .before .before .before .before .before .before .before .before .before .before .args .n) (now (c .before .before .before .before .before .before .before .before .before .before .before .args .g))) (at (now (c .before .before .before .before .before .before .before .before .before .before .before .args .x))) (c .before .before .before .before .before .before .before .numerators .ensures) (c .before .before .before .before .before .before .unit-column-sums .ensures) (c .before .before .before .before .q .given .1) (c .before .before .before .before .before .before .before .before .before .before .before .pre .4) (c .ln-gamma .ensures)
+returns c =
+    let sums = c .before .before .before .before .before .before .before .before in
+    let a = entry sums .args in
+    nrtl-ln (a .n) (grid (a .n) (now (a .tau))) (grid (a .n) (now (a .g))) (at (now (a .x))) (sums .column-sums .ensures .0) (sums .column-sums .ensures .1) (c .before .before .before .before .q .given .1) (entry sums .pre .4) (c .ln-gamma .ensures)
 
 returns-2 : tie.Need-returns-2
 returns-2 c =
-    nrtl-gamma (c .before .before .before .before .before .before .before .before .before .before .before .before .args .n) (grid (c .before .before .before .before .before .before .before .before .before .before .before .before .args .n) (now (c .before .before .before .before .before .before .before .before .before .before .before .before .args .tau))) (grid (c .before .before .before .before .before .before .before .before .before .before .before .before .args .n) (now (c .before .before .before .before .before .before .before .before .before .before .before .before .args .g))) (at (now (c .before .before .before .before .before .before .before .before .before .before .before .before .args .x))) (c .before .before .before .before .before .before .before .before .numerators .ensures) (c .before .before .before .before .before .before .before .unit-column-sums .ensures) (c .before .before .before .before .before .q2 .given .1) (c .before .before .before .before .before .before .before .before .before .before .before .before .pre .4) (c .before .ln-gamma2 .ensures) (c .exp .ensures)
+    let sums = c .before .before .before .before .before .before .before .before .before in
+    let a = entry sums .args in
+    nrtl-gamma (a .n) (grid (a .n) (now (a .tau))) (grid (a .n) (now (a .g))) (at (now (a .x))) (sums .column-sums .ensures .0) (sums .column-sums .ensures .1) (c .before .before .before .before .before .q2 .given .1) (entry sums .pre .4) (c .before .ln-gamma2 .ensures) (c .exp .ensures)
 
 returns-3 : tie.Need-returns-3
-returns-3 c = nrtl-excess (c .before .before .before .before .before .before .before .before .before .before .args .n) (grid (c .before .before .before .before .before .before .before .before .before .before .args .n) (now (c .before .before .before .before .before .before .before .before .before .before .args .tau))) (grid (c .before .before .before .before .before .before .before .before .before .before .args .n) (now (c .before .before .before .before .before .before .before .before .before .before .args .g))) (at (now (c .before .before .before .before .before .before .before .before .before .before .args .x))) (c .before .before .before .before .before .before .numerators .ensures) (c .before .before .before .before .before .unit-column-sums .ensures) (c .before .before .before .enum-told .given .1) (c .excess-by .ensures)
+returns-3 c =
+    let sums = c .before .before .before .before .before .before .before in
+    let a = entry sums .args in
+    nrtl-excess (a .n) (grid (a .n) (now (a .tau))) (grid (a .n) (now (a .g))) (at (now (a .x))) (sums .column-sums .ensures .0) (sums .column-sums .ensures .1) (c .before .before .before .enum-told .given .1) (c .excess-by .ensures)
 
 pub value-over-spec : {M : Type 1} → statement M
 value-over-spec =
     tie.close
     (tie.spec
-    numerators-requires
-    unit-column-sums-requires
+    slice-aggregate-column-sums
+    slice-aggregate-column-sums-2
+    column-sums-requires
     enum-known-q
     slice-aggregate-ln-gamma
     slice-aggregate-ln-gamma-2

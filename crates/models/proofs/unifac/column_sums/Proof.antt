@@ -10,9 +10,10 @@ use borrow.Author.Needs.{needs}
 use Rattle.arithmetic.specs.Tables.{at, grid, Filled}
 use Rattle.arithmetic.specs.Sums.{sum}
 use Rattle.arithmetic.specs.Floats.{_⊗_}
-use Rattle.arithmetic.proofs.TableLaws.{row-end, from-at, from-length}
+use Rattle.arithmetic.proofs.TableLaws.{row-end, from-at, from-length, filled-less}
 use Rattle.models.specs.Columns.{columnSum}
 use Rattle.models.proofs.ColumnLaws.{columns-none, columns-more, columns-done}
+use Rattle.models.proofs.ListLaws.{zeros}
 use Rattle.models.proofs.unifac.column_sums.Statement.{statement}
 use Rattle.models.proofs.unifac.column_sums.Tie as tie
 
@@ -36,7 +37,7 @@ ends c =
     (omega (arith, row), omega (arith, row, mul-le-mul (entry c .pre .0) (entry c .pre .0)))
 
 loop-holds : tie.Need-loop-holds Inv-loop μ-loop
-loop-holds c = (omega arith, refl, columns-none (term c) _ 32 (omega arith))
+loop-holds c = (omega arith, refl, columns-none (term c) _ (filled-less (omega arith) (zeros 32)))
 
 mul-place : tie.Need-mul-place Inv-loop μ-loop
 mul-place c = omega (arith, ends c)

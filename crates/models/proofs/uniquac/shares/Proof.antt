@@ -12,7 +12,7 @@ use Rattle.models.proofs.uniquac.shares.Statement.{statement}
 use Rattle.models.proofs.uniquac.shares.Tie as tie
 
 abbrev Inv-loop : tie.InvT-loop
-Inv-loop n s x shares₀ sum i₀ shares i = (i ≤ n) × (length shares ≡ 12) × Filled (share n (at s) (at x)) i shares
+Inv-loop n s x shares₀ sum i₀ shares i = (i ≤ n) × (length shares ≡ length shares₀) × Filled (share n (at s) (at x)) i shares
 
 abbrev μ-loop : tie.MeasureT-loop
 μ-loop n s x shares₀ sum i₀ shares i = n - i
@@ -38,8 +38,8 @@ shared-slice-read-shares-2 c = omega arith
 mul-shares-3 : tie.Need-mul-shares-3 Inv-loop μ-loop
 mul-shares-3 c = omega arith
 
-array-write-shares : tie.Need-array-write-shares Inv-loop μ-loop
-array-write-shares c = omega arith
+slice-write-shares : tie.Need-slice-write-shares Inv-loop μ-loop
+slice-write-shares c = omega arith
 
 add-i : tie.Need-add-i Inv-loop μ-loop
 add-i c = omega arith
@@ -52,6 +52,9 @@ unfolding share
 loop-again c =
     let at-loop = c .before .before .before in
     (omega arith, simp length-set (at-loop .loop .inv .1), filled-more (omega arith) (omega arith) (at-loop .loop .inv .2) (rw (at-loop .before .dot .ensures)))
+
+same-length : tie.Need-same-length Inv-loop μ-loop
+same-length c = c .before .loop .inv .1
 
 returns : tie.Need-returns Inv-loop μ-loop
 returns c = filled-less (c .loop-test .left) (c .before .loop .inv .2)
@@ -69,8 +72,9 @@ shares-spec =
     mul-shares-2
     shared-slice-read-shares-2
     mul-shares-3
-    array-write-shares
+    slice-write-shares
     add-i
     loop-less
     loop-again
+    same-length
     returns)

@@ -12,15 +12,15 @@ use Rattle.models.proofs.wilson.row_sums.Statement.{statement}
 use Rattle.models.proofs.wilson.row_sums.Tie as tie
 
 abbrev Inv-loop : tie.InvT-loop
-Inv-loop n v e x sums₀ i₀ sums i = (i ≤ n) × (length sums ≡ 12) × Filled (rowSum n (at v) (grid n e) (at x)) i sums
+Inv-loop n v e x sums₀ i₀ sums i = (i ≤ n) × (length sums ≡ length sums₀) × Filled (rowSum n (at v) (grid n e) (at x)) i sums
 
 abbrev μ-loop : tie.MeasureT-loop
 μ-loop n v e x sums₀ i₀ sums i = n - i
 
 -- row i ends within the table
-ends : (c : tie.In-loop Inv-loop μ-loop) → c .before .loop .i * c .before .before .before .before .before .args .n + c .before .before .before .before .before .args .n ≤ length (now (c .before .before .before .before .before .args .e))
+ends : (c : tie.In-loop Inv-loop μ-loop) → c .before .loop .i * c .before .before .before .before .before .before .args .n + c .before .before .before .before .before .before .args .n ≤ length (now (c .before .before .before .before .before .before .args .e))
 ends c =
-    let start = c .before .before .before .before .before in
+    let start = c .before .before .before .before .before .before in
     omega (arith, row-end (start .args .n) (start .args .n) (c .before .loop .i) (c .loop-test .taken))
 
 loop-holds : tie.Need-loop-holds Inv-loop μ-loop
@@ -44,15 +44,15 @@ part-row-sum-end c = omega arith
 row-sum-requires : tie.Need-row-sum-requires Inv-loop μ-loop
 row-sum-requires c κs =
     let turn = c .before in
-    let start = turn .before .before .before .before .before in
+    let start = turn .before .before .before .before .before .before in
     let row = from-length (turn .before .loop .i * start .args .n) (now (start .args .e)) in
     (start .pre .1, omega (arith, row, ends turn), start .pre .3, turn .loop-test .taken, start .pre .0)
 
 mul-sums : tie.Need-mul-sums Inv-loop μ-loop
 mul-sums c = omega arith
 
-array-write-sums : tie.Need-array-write-sums Inv-loop μ-loop
-array-write-sums c = omega arith
+slice-write-sums : tie.Need-slice-write-sums Inv-loop μ-loop
+slice-write-sums c = omega arith
 
 add-i : tie.Need-add-i Inv-loop μ-loop
 add-i c = omega arith
@@ -63,10 +63,13 @@ loop-less c = omega arith
 loop-again : tie.Need-loop-again Inv-loop μ-loop
 loop-again c =
     let turn = c .before .before in
-    let start = turn .before .before .before .before .before in
+    let start = turn .before .before .before .before .before .before in
     let i = turn .before .loop .i in
     let row = rowSum-row (start .args .n) (at (now (start .args .v))) (now (start .args .e)) (at (now (start .args .x))) i (ends turn) in
     (omega arith, simp length-set (turn .before .loop .inv .1), filled-more (omega arith) (omega arith) (turn .before .loop .inv .2) (c .row-sum .ensures ∙ row))
+
+same-length : tie.Need-same-length Inv-loop μ-loop
+same-length c = c .before .loop .inv .1
 
 returns : tie.Need-returns Inv-loop μ-loop
 returns c = filled-less (c .loop-test .left) (c .before .loop .inv .2)
@@ -85,8 +88,9 @@ row-sums-spec =
     part-row-sum-end
     row-sum-requires
     mul-sums
-    array-write-sums
+    slice-write-sums
     add-i
     loop-less
     loop-again
+    same-length
     returns)

@@ -8,6 +8,9 @@ use Rattle.models.proofs.WilsonLaws.{excess-hoisted}
 use Rattle.models.proofs.wilson.value_over.Statement.{statement}
 use Rattle.models.proofs.wilson.value_over.Tie as tie
 
+slice-aggregate-row-sums : tie.Need-slice-aggregate-row-sums
+slice-aggregate-row-sums c = search needs
+
 row-sums-requires : tie.Need-row-sums-requires
 row-sums-requires c κs = search needs
 
@@ -19,9 +22,9 @@ slice-aggregate-ln-gamma c = search needs
 
 ln-gamma-requires : tie.Need-ln-gamma-requires
 ln-gamma-requires c κs =
-    let sums = c .before .before .before .before in
-    let start = sums .before .before .before .before in
-    (start .pre .1, start .pre .2, start .pre .3, omega (arith, sums .row-sums .ok, start .pre .0), index-ln (c .before .before .q .given .1) (start .pre .4), start .pre .0, sums .row-sums .ensures)
+    let sums = c .before .before .before .before .before in
+    let start = sums .before .before .before .before .before in
+    (start .pre .1, start .pre .2, start .pre .3, omega (arith, sums .row-sums .kept .1 .1 .1 .1 .0, start .pre .0), index-ln (c .before .before .q .given .1) (start .pre .4), start .pre .0, sums .row-sums .ensures)
 
 enum-known-q-2 : tie.Need-enum-known-q-2
 enum-known-q-2 c = search needs
@@ -31,9 +34,9 @@ slice-aggregate-ln-gamma-2 c = search needs
 
 ln-gamma-requires-2 : tie.Need-ln-gamma-requires-2
 ln-gamma-requires-2 c κs =
-    let sums = c .before .before .before .before in
-    let start = sums .before .before .before .before in
-    (start .pre .1, start .pre .2, start .pre .3, omega (arith, sums .row-sums .ok, start .pre .0), index-gamma (c .before .before .q2 .given .1) (start .pre .4), start .pre .0, sums .row-sums .ensures)
+    let sums = c .before .before .before .before .before in
+    let start = sums .before .before .before .before .before in
+    (start .pre .1, start .pre .2, start .pre .3, omega (arith, sums .row-sums .kept .1 .1 .1 .1 .0, start .pre .0), index-gamma (c .before .before .q2 .given .1) (start .pre .4), start .pre .0, sums .row-sums .ensures)
 
 exp-requires : tie.Need-exp-requires
 exp-requires c κs = tt
@@ -57,12 +60,13 @@ returns-2 c = quantity-gamma _ _ (c .before .before .before .before .q2 .given .
 
 returns-3 : tie.Need-returns-3
 unfolding wilson
-returns-3 c = quantity-excess _ _ (c .before .before .before .enum-told .given .1) (c .before .excess-gibbs .ensures ∙ excess-hoisted _ _ _ _ _ (c .before .before .before .before .before .row-sums .ensures))
+returns-3 c = quantity-excess _ _ (c .before .before .before .enum-told .given .1) (c .before .excess-gibbs .ensures ∙ excess-hoisted _ _ _ _ _ (c .before .before .before .before .before .before .row-sums .ensures))
 
 pub value-over-spec : {M : Type 1} → statement M
 value-over-spec =
     tie.close
     (tie.spec
+    slice-aggregate-row-sums
     row-sums-requires
     enum-known-q
     slice-aggregate-ln-gamma
