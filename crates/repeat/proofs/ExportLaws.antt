@@ -1,8 +1,9 @@
 -- The steps of the exported call, over plain variables: a call after another, one more turn, all turns. Assumes nothing.
-use mathlib.Core.Path.{_≡_, refl, sym, ap, _∙_}
+use mathlib.Core.Path.{_≡_, refl, ap, _∙_}
 use mathlib.Core.List.{List}
-use Prim.Native.Nat.{ℕ, _+_, _*_, _/_, _≤_}
-use native.Mathlib.Nat.{le-antisymm}
+use Prim.Native.Nat.{ℕ, suc, _+_, _-_, _*_, _/_, _≤_}
+use native.Mathlib.Nat.{le-antisymm, sub-self}
+use native.Mathlib.Omega.{arith}
 use native.Mathlib.Numerals.{add-one}
 use lib.ListN.{length, replicate}
 use lib.Ieee.{Float, binary64, ofBits}
@@ -20,41 +21,61 @@ use Rattle.mixture.specs.Memory.{Memory, memory, After, after}
 use Rattle.mixture.specs.Layout.{modelOf}
 use Rattle.mixture.specs.Calls.{afterOpen, afterLoad, afterSetting, afterFractions, afterQuery}
 use Rattle.mixture.specs.Plain.{plainCall}
-use Rattle.repeat.specs.Exports.{quantityOf, valueOf, plainValue, settingOf, setAndAsked, turnAt, turns, loadedAt, begun, zeros, noHead, plainTurns, repeated, repeatedBytes}
+use Rattle.repeat.specs.Exports.{quantityOf, valueOf, plainValue, settingOf, asked, setAndAsked, askedTimes, setTimes, turns, begun, zeros, noHead, plainTurns, repeated, repeatedBytes}
 
-pub set-asked : (m : Memory) (h : Head) (s : Setting) (q : Quantity) {m′ : Memory} {h′ : Head} {a′ : Answer} {r : After} → after m′ h′ a′ ≡ afterSetting m h s → r ≡ afterQuery m′ h′ q → r ≡ setAndAsked m h s q
-unfolding setAndAsked
-set-asked m h s q e p = p ∙ ap (λ (b : After). afterQuery (b .memory) (b .reply .head) q) e
-
-pub loaded-anew : (m : Memory) (h : Head) (d : ModelData) {m′ : Memory} {h′ : Head} {a′ : Answer} {r : After} → after m′ h′ a′ ≡ afterOpen m h → r ≡ afterLoad m′ h′ d → r ≡ loadedAt m h d
-unfolding loadedAt
-loaded-anew m h d e p = p ∙ ap (λ (b : After). afterLoad (b .memory) (b .reply .head) d) e
-
-pub begun-is : (m : Memory) (h : Head) (d : ModelData) (T : Float) (x : List Float) {m₀ m′ : Memory} {h₀ h′ : Head} {a′ : Answer} {r : After} →
-    loadedAt m h d .memory ≡ m₀ → loadedAt m h d .reply .head ≡ h₀ → after m′ h′ a′ ≡ afterSetting m₀ h₀ (Temperature T) → r ≡ afterFractions m′ h′ x → r ≡ begun m h d T x
+pub begun-is : (m : Memory) (h : Head) (d : ModelData) (x : List Float) {m₁ m₂ : Memory} {h₁ h₂ : Head} {a₁ a₂ : Answer} {r : After} →
+    after m₁ h₁ a₁ ≡ afterOpen m h → after m₂ h₂ a₂ ≡ afterLoad m₁ h₁ d → r ≡ afterFractions m₂ h₂ x → r ≡ begun m h d x
 unfolding begun
-begun-is m h d T x p q e f = rw (p, q) (f ∙ ap (λ (b : After). afterFractions (b .memory) (b .reply .head) x) e)
+begun-is m h d x e f p = p ∙ ap (λ (b : After). afterFractions (b .memory) (b .reply .head) x) (f ∙ ap (λ (b : After). afterLoad (b .memory) (b .reply .head) d) e)
 
-module _ (change : ℕ) (k : Model) (v : Float) (q : Quantity) where
-  pub turn-none : (T : Float) (m : Memory) (h : Head) {r : After} → change ≡ 0 → r ≡ afterQuery m h q → r ≡ turnAt change k v q T m h
-  unfolding turnAt
-  turn-none T m h e p = rw (eq-eqb change 0 e) p
+-- queries
+module _ (q : Quantity) (a : After) where
+  pub asked-none : a ≡ askedTimes 0 q a
+  unfolding askedTimes
+  asked-none = refl
 
-  pub turn-set : (T : Float) (m : Memory) (h : Head) {s : Setting} {r : After} → (change ≡ 0 → ⊥) → s ≡ settingOf change k v T → r ≡ setAndAsked m h s q → r ≡ turnAt change k v q T m h
-  unfolding turnAt
-  turn-set T m h ne e p = rw (ne-eqb change 0 ne) (p ∙ ap (λ (s : Setting). setAndAsked m h s q) e)
+  pub asked-more : (n : ℕ) {m : Memory} {h : Head} {p : Answer} {r : After} → after m h p ≡ askedTimes n q a → r ≡ afterQuery m h q → r ≡ askedTimes (n + 1) q a
+  unfolding askedTimes asked
+  asked-more n e p = rw (add-one n) (p ∙ ap (asked q) e)
 
-  module _ (T : ℕ → Float) (a : After) where
-    pub turns-none : a ≡ turns 0 change k v q T a
+  pub asked-done : (j n : ℕ) {b : After} → b ≡ askedTimes j q a → j ≤ n → n ≤ j → valueOf (b .reply .answer) ≡ valueOf (askedTimes n q a .reply .answer)
+  asked-done j n e p s = ap (λ (b : After). valueOf (b .reply .answer)) e ∙ ap (λ (i : ℕ). valueOf (askedTimes i q a .reply .answer)) (le-antisymm p s)
+
+module _ (change : ℕ) (k : Model) (v : Float) (q : Quantity) (T : ℕ → Float) (a : After) where
+  -- settings with a query each, from T i on
+  module _ (i : ℕ) where
+    pub set-none : a ≡ setTimes (i - i) change k v q (λ j. T (i + j)) a
+    unfolding setTimes
+    set-none = rw (sub-self i) refl
+
+    pub set-more : (j : ℕ) {m m₁ : Memory} {h h₁ : Head} {p p₁ : Answer} {t : Float} {s : Setting} {r : After} →
+        i ≤ j → after m h p ≡ setTimes (j - i) change k v q (λ l. T (i + l)) a →
+        t ≡ T j → s ≡ settingOf change k v t → after m₁ h₁ p₁ ≡ afterSetting m h s → r ≡ afterQuery m₁ h₁ q →
+        r ≡ setTimes (j + 1 - i) change k v q (λ l. T (i + l)) a
+    unfolding setTimes setAndAsked asked
+    set-more j {m = m} {h = h} le e et es f p =
+        let one-more : j + 1 - i ≡ suc (j - i) = omega arith in
+        let here : j ≡ i + (j - i) = omega arith in
+        rw one-more
+        (p ∙ ap (asked q) (f ∙ ap (afterSetting m h) (es ∙ ap (settingOf change k v) (et ∙ ap T here)))
+        ∙ ap (setAndAsked (settingOf change k v (T (i + (j - i)))) q) e)
+
+    pub set-done : (j n : ℕ) {b : After} → b ≡ setTimes (j - i) change k v q (λ l. T (i + l)) a → j ≤ n → n ≤ j → b ≡ setTimes (n - i) change k v q (λ l. T (i + l)) a
+    set-done j n e p s = e ∙ ap (λ (l : ℕ). setTimes (l - i) change k v q (λ h. T (i + h)) a) (le-antisymm p s)
+
+  -- the turns after the first
+  module _ (n : ℕ) {b : After} (e : b ≡ setTimes (1 - 0) 2 k v q (λ j. T (0 + j)) a) where
+    first-is : b ≡ setAndAsked (Temperature (T 0)) q a
+    unfolding setTimes settingOf
+    first-is = e
+
+    pub turns-asked : {r : Float} → change ≡ 0 → r ≡ valueOf (askedTimes (n - 1) q b .reply .answer) → r ≡ valueOf (turns n change k v q T a .reply .answer)
     unfolding turns
-    turns-none = refl
+    turns-asked ze p = rw (eq-eqb change 0 ze, ← first-is) p
 
-    pub turns-more : (n : ℕ) {b r : After} → b ≡ turns n change k v q T a → r ≡ turnAt change k v q (T n) (b .memory) (b .reply .head) → r ≡ turns (n + 1) change k v q T a
+    pub turns-set : {c : After} → (change ≡ 0 → ⊥) → c ≡ setTimes (n - 1) change k v q (λ j. T (1 + j)) b → valueOf (c .reply .answer) ≡ valueOf (turns n change k v q T a .reply .answer)
     unfolding turns
-    turns-more n e p = rw (add-one n) (p ∙ ap (λ (b : After). turnAt change k v q (T n) (b .memory) (b .reply .head)) e)
-
-    pub turns-done : (j n : ℕ) {b : After} → b ≡ turns j change k v q T a → j ≤ n → n ≤ j → valueOf (b .reply .answer) ≡ valueOf (turns n change k v q T a .reply .answer)
-    turns-done j n e p s = ap (λ (b : After). valueOf (b .reply .answer)) e ∙ ap (λ (i : ℕ). valueOf (turns i change k v q T a .reply .answer)) (le-antisymm p s)
+    turns-set ne p = rw (ne-eqb change 0 ne, ← first-is) (ap (λ (c : After). valueOf (c .reply .answer)) p)
 
 module _ (d : ModelData) (x : List Float) (q : Quantity) (T : ℕ → Float) where
   pub plain-none : ofBits binary64 0 ≡ plainTurns 0 d x q T
@@ -73,7 +94,7 @@ module _ (d : ModelData) (x : List Float) (q : Quantity) (T : ℕ → Float) whe
     unfolding repeated
     repeated-plain e p = rw (eq-eqb change 3 e) p
 
-    pub repeated-kept : {r : Float} → (change ≡ 3 → ⊥) → r ≡ valueOf (turns n change (d .model) v q T (begun zeros noHead d (T 0) x) .reply .answer) → r ≡ repeated n d x q change v T
+    pub repeated-kept : {r : Float} → (change ≡ 3 → ⊥) → r ≡ valueOf (turns n change (d .model) v q T (begun zeros noHead d x) .reply .answer) → r ≡ repeated n d x q change v T
     unfolding repeated
     repeated-kept ne p = rw (ne-eqb change 3 ne) p
 
@@ -87,17 +108,14 @@ unfolding zeros
 code-zeros = ap (λ (z : Float). memory (replicate 5328 z) (replicate 1024 z) (replicate 1024 0)) zero-is
 
 -- the mixture on zeros, from its opening to its last turn
-pub kept-is : (n change : ℕ) (k : Model) (v : Float) (q : Quantity) (T : ℕ → Float) (d : ModelData) (x : List Float) {m₁ m₂ : Memory} {h₀ h₁ h₂ : Head} {a₁ a₂ : Answer} {t r : Float} →
-    h₀ ≡ noHead → after m₁ h₁ a₁ ≡ loadedAt (memory (replicate 5328 (ofBits binary64 0)) (replicate 1024 (ofBits binary64 0)) (replicate 1024 0)) h₀ d →
-    ((m : Memory) (h : Head) (e : ModelData) → loadedAt m h e .memory ≡ m₁ → loadedAt m h e .reply .head ≡ h₁ → after m₂ h₂ a₂ ≡ begun m h e t x) →
-    t ≡ T 0 → r ≡ valueOf (turns n change k v q T (after m₂ h₂ a₂) .reply .answer) →
-    r ≡ valueOf (turns n change k v q T (begun zeros noHead d (T 0) x) .reply .answer)
-kept-is n change k v q T d x {h₀ = h₀} {t = t} hh p f tt′ e =
-    let m₀ = memory (replicate 5328 (ofBits binary64 0)) (replicate 1024 (ofBits binary64 0)) (replicate 1024 0) in
+pub kept-is : (n change : ℕ) (k : Model) (v : Float) (q : Quantity) (T : ℕ → Float) (d : ModelData) (x : List Float) {h : Head} {b : After} {r : Float} →
+    h ≡ noHead → b ≡ begun (memory (replicate 5328 (ofBits binary64 0)) (replicate 1024 (ofBits binary64 0)) (replicate 1024 0)) h d x →
+    r ≡ valueOf (turns n change k v q T b .reply .answer) →
+    r ≡ valueOf (turns n change k v q T (begun zeros noHead d x) .reply .answer)
+kept-is n change k v q T d x {h = h} hh p e =
     e
     ∙ ap (λ (b : After). valueOf (turns n change k v q T b .reply .answer))
-    (f m₀ h₀ d (sym (ap (λ (b : After). b .memory) p)) (sym (ap (λ (b : After). b .reply .head) p))
-    ∙ ap (λ (m : Memory). begun m h₀ d t x) code-zeros ∙ ap (λ (h : Head). begun zeros h d t x) hh ∙ ap (λ (s : Float). begun zeros noHead d s x) tt′)
+    (p ∙ ap (λ (m : Memory). begun m h d x) code-zeros ∙ ap (λ (h : Head). begun zeros h d x) hh)
 
 -- values and fractions decoded
 pub bytes-are : (model n ng : ℕ) (lens groups values x : List ℕ) (asked i change : ℕ) (v : Float) (temperatures : List ℕ) {k : Model} {l y : List Float} {q : Quantity} {r : Float} →

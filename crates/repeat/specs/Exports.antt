@@ -1,8 +1,9 @@
--- The exported call: a mixture opened on zeros, loaded and given fractions, then asked at one temperature after the other; or the
--- plain call at each. Its result is the last value. Each step is the call's own definition, so `history` of mixture's proofs/History holds of it.
+-- The exported call: a mixture opened on zeros, loaded and given fractions, then T set and a query, then a query in each turn, after what
+-- the change sets; or the plain call at each temperature. Its result is the last value. Each step is the call's own definition, so
+-- `history` of mixture's proofs/History holds of it.
 use mathlib.Core.Bool.{cond}
 use mathlib.Core.List.{List, []}
-use Prim.Native.Nat.{ℕ, zero, suc, _*_, _/_}
+use Prim.Native.Nat.{ℕ, zero, suc, _+_, _-_, _*_, _/_}
 use lib.Dec.{eqb, ltb}
 use lib.ListN.{length, replicate}
 use lib.Ieee.{Float}
@@ -47,28 +48,35 @@ constant v = record { a = v; b = +0; c = +0; d = +0; e = +0 }
 unfoldable pub settingOf : ℕ → Model → Float → Float → Setting
 settingOf change k v T = cond (eqb change 2) (Temperature T) (byModel k (Entry 0 1 v) (Entry 0 1 v) (Entry 0 1 v) (TdEntry 0 1 (constant v)))
 
+-- a query after what a call left
+unfoldable pub asked : Quantity → After → After
+asked q a = afterQuery (a .memory) (a .reply .head) q
+
 -- a setting and then a query
-unfoldable pub setAndAsked : Memory → Head → Setting → Quantity → After
-setAndAsked m h s q = afterQuery (afterSetting m h s .memory) (afterSetting m h s .reply .head) q
+unfoldable pub setAndAsked : Setting → Quantity → After → After
+setAndAsked s q a = asked q (afterSetting (a .memory) (a .reply .head) s)
 
--- a turn at T; where the change is 0 nothing is set
-unfoldable pub turnAt : ℕ → Model → Float → Quantity → Float → Memory → Head → After
-turnAt change k v q T m h = cond (eqb change 0) (afterQuery m h q) (setAndAsked m h (settingOf change k v T) q)
+-- n queries
+unfoldable pub askedTimes : ℕ → Quantity → After → After
+askedTimes zero q a = a
+askedTimes (suc n) q a = asked q (askedTimes n q a)
 
--- n turns, at T 0, T 1, ..
+-- n times a setting and a query, at T 0, T 1, ..
+unfoldable pub setTimes : ℕ → ℕ → Model → Float → Quantity → (ℕ → Float) → After → After
+setTimes zero change k v q T a = a
+setTimes (suc n) change k v q T a = setAndAsked (settingOf change k v (T n)) q (setTimes n change k v q T a)
+
+-- the first turn sets T 0; the n - 1 others, at T 1, T 2, .., set what the change names, and nothing where it is 0
 unfoldable pub turns : ℕ → ℕ → Model → Float → Quantity → (ℕ → Float) → After → After
-turns zero change k v q T a = a
-turns (suc n) change k v q T a =
-    turnAt change k v q (T n) (turns n change k v q T a .memory) (turns n change k v q T a .reply .head)
+turns n change k v q T a =
+    let first = setAndAsked (Temperature (T 0)) q a in
+    cond (eqb change 0) (askedTimes (n - 1) q first) (setTimes (n - 1) change k v q (λ j. T (1 + j)) first)
 
--- opened, loaded, with T and fractions
-unfoldable pub loadedAt : Memory → Head → ModelData → After
-loadedAt m h d = afterLoad (afterOpen m h .memory) (afterOpen m h .reply .head) d
-
-unfoldable pub begun : Memory → Head → ModelData → Float → List Float → After
-begun m h d T x =
-    let a = loadedAt m h d in
-    let b = afterSetting (a .memory) (a .reply .head) (Temperature T) in
+-- opened, loaded, with fractions
+unfoldable pub begun : Memory → Head → ModelData → List Float → After
+begun m h d x =
+    let a = afterOpen m h in
+    let b = afterLoad (a .memory) (a .reply .head) d in
     afterFractions (b .memory) (b .reply .head) x
 
 -- the memory and the head that it starts from
@@ -87,7 +95,7 @@ plainTurns (suc n) d x q T = plainValue (plainCall d (T n) x q)
 unfoldable pub repeated : ℕ → ModelData → List Float → Quantity → ℕ → Float → (ℕ → Float) → Float
 repeated n d x q change v T =
     cond (eqb change 3) (plainTurns n d x q T)
-    (valueOf (turns n change (d .model) v q T (begun zeros noHead d (T 0) x) .reply .answer))
+    (valueOf (turns n change (d .model) v q T (begun zeros noHead d x) .reply .answer))
 
 -- the same for bytes; +0 for more values or fractions than any model has, or no temperature
 unfoldable pub repeatedBytes : ℕ → ℕ → ℕ → List ℕ → List ℕ → List ℕ → List ℕ → ℕ → ℕ → ℕ → Float → List ℕ → Float

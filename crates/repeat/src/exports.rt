@@ -1,14 +1,12 @@
 // For a host that measures: a mixture asked again and again in one call, since a head doesn't cross the C boundary, or the
 // plain call again and again. An f64 stands as eight bytes, lowest first.
 ghost use mathlib.Core.Path.{_≡_};
-ghost use Prim.Native.Nat.{_*_, _/_, _≤_};
+ghost use Prim.Native.Nat.{_+_, _-_, _*_, _/_, _≤_};
 ghost use lib.ListN.{length};
-ghost use lib.Ieee.{Float};
 ghost use Rattle.arithmetic.specs.Bytes.{floatAt};
-ghost use Rattle.mixture.specs.Names.{ModelData};
-ghost use Rattle.mixture.specs.Memory.{Memory, memory, after};
+ghost use Rattle.mixture.specs.Memory.{memory, after};
 ghost use Rattle.mixture.specs.Plain.{plainCall};
-ghost use Rattle.repeat.specs.Exports.{quantityOf, valueOf, plainValue, settingOf, setAndAsked, turnAt, turns, loadedAt, begun, noHead, zeros, plainTurns, repeated, repeatedBytes};
+ghost use Rattle.repeat.specs.Exports.{quantityOf, valueOf, plainValue, settingOf, askedTimes, setTimes, turns, begun, noHead, zeros, plainTurns, repeated, repeatedBytes};
 use arithmetic::TdParam;
 use arithmetic::bytes;
 use mixture::Answer;
@@ -82,40 +80,59 @@ fn setting_of(change: u32, model: Model, v: f64, t: f64) -> Setting
     }
 }
 
-// A setting and then a query.
-fn set_and_ask(
-    values: &mut [f64],
+// Queries, one after another; the last value.
+fn ask_each(
+    values: &[f64],
     cells: &mut [f64],
     marks: &mut [u8],
-    head: Head,
-    s: Setting,
+    start: Reply,
     q: Quantity,
-) -> Reply
-    ensures { λ r. ⌜ after (memory (now (values .exit)) (now (cells .exit)) (now (marks .exit))) (r .head) (r .answer) ≡ setAndAsked (memory (now (values .entry)) (now (cells .entry)) (now (marks .entry))) head s q ⌝ }
+    times: usize,
+) -> f64
+    ensures { λ r. ⌜ r ≡ valueOf (askedTimes times q (after (memory (now (values .entry)) (now (cells .entry)) (now (marks .entry))) (start .head) (start .answer)) .reply .answer) ⌝ }
 {
-    let set = set(values, cells, marks, head, s);
-    query(values, cells, marks, set.head, q)
-}
-
-// A turn; where the change is 0 nothing is set.
-fn turn_at(
-    values: &mut [f64],
-    cells: &mut [f64],
-    marks: &mut [u8],
-    head: Head,
-    change: u32,
-    s: Setting,
-    q: Quantity,
-) -> Reply
-    ensures { λ r. ⌜ ((model : Model) (v t : Float) → s ≡ settingOf change model v t → after (memory (now (values .exit)) (now (cells .exit)) (now (marks .exit))) (r .head) (r .answer) ≡ turnAt change model v q t (memory (now (values .entry)) (now (cells .entry)) (now (marks .entry))) head) ⌝ }
-{
-    if change == 0 {
-        return query(values, cells, marks, head, q);
+    let mut last = start;
+    for _ in 0..times {
+        last = query(values, cells, marks, last.head, q);
     }
-    set_and_ask(values, cells, marks, head, s, q)
+    let answer = last.answer;
+    value_of(answer)
 }
 
-// A turn at each temperature; the last value.
+// A setting and a query at each temperature from `from` to below `to`; the last reply.
+fn set_each(
+    values: &mut [f64],
+    cells: &mut [f64],
+    marks: &mut [u8],
+    start: Reply,
+    change: u32,
+    model: Model,
+    v: f64,
+    q: Quantity,
+    temperatures: &[u8],
+    from: usize,
+    to: usize,
+) -> Reply
+    requires { ⌜ (from ≤ to) × (8 * to ≤ length (now temperatures)) ⌝ }
+    ensures { λ r. ⌜ after (memory (now (values .exit)) (now (cells .exit)) (now (marks .exit))) (r .head) (r .answer) ≡ setTimes (to - from) change model v q (λ k. floatAt (now (temperatures .entry)) (8 * (from + k))) (after (memory (now (values .entry)) (now (cells .entry)) (now (marks .entry))) (start .head) (start .answer)) ⌝ }
+{
+    let mut head = start.head;
+    let mut answer = start.answer;
+    for k in from..to {
+        let s = setting_of(change, model, v, bytes::float_at(temperatures, 8 * k));
+        let set = set(values, cells, marks, head, s);
+        head = set.head;
+        let asked = query(values, cells, marks, head, q);
+        head = asked.head;
+        answer = asked.answer;
+    }
+    Reply {
+        head: head,
+        answer: answer,
+    }
+}
+
+// The first turn sets T and asks; the others ask, after the change's setting where there is one. The last value.
 fn keep(
     values: &mut [f64],
     cells: &mut [f64],
@@ -127,19 +144,44 @@ fn keep(
     q: Quantity,
     temperatures: &[u8],
 ) -> f64
+    requires { ⌜ 8 ≤ length (now temperatures) ⌝ }
     ensures { λ r. ⌜ r ≡ valueOf (turns (length (now (temperatures .entry)) / 8) change model v q (λ k. floatAt (now (temperatures .entry)) (8 * k)) (after (memory (now (values .entry)) (now (cells .entry)) (now (marks .entry))) (start .head) (start .answer)) .reply .answer) ⌝ }
 {
-    let mut last = start;
-    for k in 0..temperatures.len() / 8 {
-        let s = setting_of(change, model, v, bytes::float_at(temperatures, 8 * k));
-        last = turn_at(values, cells, marks, last.head, change, s, q);
+    let first = set_each(
+        values,
+        cells,
+        marks,
+        start,
+        2,
+        model,
+        v,
+        q,
+        temperatures,
+        0,
+        1,
+    );
+    if change == 0 {
+        return ask_each(values, cells, marks, first, q, temperatures.len() / 8 - 1);
     }
+    let last = set_each(
+        values,
+        cells,
+        marks,
+        first,
+        change,
+        model,
+        v,
+        q,
+        temperatures,
+        1,
+        temperatures.len() / 8,
+    );
     let answer = last.answer;
     value_of(answer)
 }
 
-// An opening and a load.
-fn load_anew(
+// An opening, a load and the fractions.
+fn begin(
     values: &mut [f64],
     cells: &[f64],
     marks: &mut [u8],
@@ -150,11 +192,12 @@ fn load_anew(
     lens: &[u8],
     groups: &[u8],
     given: &[f64],
+    x: &[f64],
 ) -> Reply
-    ensures { λ r. ⌜ after (memory (now (values .exit)) (now (cells .entry)) (now (marks .exit))) (r .head) (r .answer) ≡ loadedAt (memory (now (values .entry)) (now (cells .entry)) (now (marks .entry))) head (record { model = model; n = n; ng = ng; lens = now (lens .entry); groups = now (groups .entry); values = now (given .entry) }) ⌝ }
+    ensures { λ r. ⌜ after (memory (now (values .exit)) (now (cells .entry)) (now (marks .exit))) (r .head) (r .answer) ≡ begun (memory (now (values .entry)) (now (cells .entry)) (now (marks .entry))) head (record { model = model; n = n; ng = ng; lens = now (lens .entry); groups = now (groups .entry); values = now (given .entry) }) (now (x .entry)) ⌝ }
 {
     let opened = open(values, cells, marks, head);
-    load(
+    let loaded = load(
         values,
         cells,
         marks,
@@ -165,22 +208,8 @@ fn load_anew(
         lens,
         groups,
         given,
-    )
-}
-
-// T and fractions after a load.
-fn begin(
-    values: &mut [f64],
-    cells: &[f64],
-    marks: &mut [u8],
-    head: Head,
-    t: f64,
-    x: &[f64],
-) -> Reply
-    ensures { λ r. ⌜ ((m : Memory) (h : Head) (d : ModelData) → loadedAt m h d .memory ≡ memory (now (values .entry)) (now (cells .entry)) (now (marks .entry)) → loadedAt m h d .reply .head ≡ head → after (memory (now (values .exit)) (now (cells .entry)) (now (marks .exit))) (r .head) (r .answer) ≡ begun m h d t (now (x .entry))) ⌝ }
-{
-    let set = set(values, cells, marks, head, Setting::Temperature(t));
-    fractions(values, cells, marks, set.head, x)
+    );
+    fractions(values, cells, marks, loaded.head, x)
 }
 
 // The value of the plain call, 0 where it declines.
@@ -227,7 +256,7 @@ fn plain_each(
     last
 }
 
-// The mixture on zeros, at each temperature; the last value.
+// A mixture on zeros, from its opening to its last turn; the last value.
 fn kept(
     model: Model,
     n: usize,
@@ -242,13 +271,13 @@ fn kept(
     temperatures: &[u8],
 ) -> f64
     requires { ⌜ 8 ≤ length (now temperatures) ⌝ }
-    ensures { λ r. ⌜ r ≡ valueOf (turns (length (now (temperatures .entry)) / 8) change model v q (λ k. floatAt (now (temperatures .entry)) (8 * k)) (begun zeros noHead (record { model = model; n = n; ng = ng; lens = now (lens .entry); groups = now (groups .entry); values = now (given .entry) }) (floatAt (now (temperatures .entry)) (8 * 0)) (now (x .entry))) .reply .answer) ⌝ }
+    ensures { λ r. ⌜ r ≡ valueOf (turns (length (now (temperatures .entry)) / 8) change model v q (λ k. floatAt (now (temperatures .entry)) (8 * k)) (begun zeros noHead (record { model = model; n = n; ng = ng; lens = now (lens .entry); groups = now (groups .entry); values = now (given .entry) }) (now (x .entry))) .reply .answer) ⌝ }
 {
     let mut values = [0.0; 5328];
     let mut cells = [0.0; 1024];
     let mut marks = [0u8; 1024];
     let head = bare_head(0, 0);
-    let loaded = load_anew(
+    let start = begin(
         &mut values[..],
         &cells[..],
         &mut marks[..],
@@ -259,14 +288,6 @@ fn kept(
         lens,
         groups,
         given,
-    );
-    let t = bytes::float_at(temperatures, 0);
-    let start = begin(
-        &mut values[..],
-        &cells[..],
-        &mut marks[..],
-        loaded.head,
-        t,
         x,
     );
     keep(
@@ -283,8 +304,8 @@ fn kept(
 }
 
 // The last value over the temperatures; 0 where there are more values or fractions than any model has, or no temperature.
-// The change is 0 for none, 1 for entry 0, 1 (UNIFAC's td entry, with a alone) set to v before each query, 2 for T set before
-// each query, 3 for the plain call in place of a query.
+// The first turn sets T and asks. What each later turn sets before it asks is the change: 0 for nothing, 1 for entry 0, 1
+// (UNIFAC's td entry, with a alone) set to v, 2 for T. Where it is 3 each turn, the first too, is the plain call.
 #[no_mangle]
 pub extern "C" fn kiltgrit_repeat(
     model: u8,

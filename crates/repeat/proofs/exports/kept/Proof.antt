@@ -10,21 +10,6 @@ use Rattle.repeat.proofs.exports.kept.Tie as tie
 bare-head-requires : tie.Need-bare-head-requires
 bare-head-requires c κs = tt
 
-slice-aggregate-load-anew : tie.Need-slice-aggregate-load-anew
-slice-aggregate-load-anew c = search needs
-
-slice-aggregate-load-anew-2 : tie.Need-slice-aggregate-load-anew-2
-slice-aggregate-load-anew-2 c = search needs
-
-slice-aggregate-load-anew-3 : tie.Need-slice-aggregate-load-anew-3
-slice-aggregate-load-anew-3 c = search needs
-
-load-anew-requires : tie.Need-load-anew-requires
-load-anew-requires c κs = tt
-
-float-at-requires : tie.Need-float-at-requires
-float-at-requires c κs = search needs
-
 slice-aggregate-begin : tie.Need-slice-aggregate-begin
 slice-aggregate-begin c = search needs
 
@@ -47,21 +32,16 @@ slice-aggregate-keep-3 : tie.Need-slice-aggregate-keep-3
 slice-aggregate-keep-3 c = search needs
 
 keep-requires : tie.Need-keep-requires
-keep-requires c κs = tt
+keep-requires c κs = search needs
 
 returns : tie.Need-returns
-returns c = kept-is _ _ _ _ _ (λ k. floatAt (now (c .before .before .before .before .before .before .before .before .before .before .before .before .before .before .before .before .before .before .before .before .before .before .before .before .before .before .args .temperatures)) (8 * k)) _ _ (c .before .before .before .before .before .before .before .before .before .before .before .before .before .before .before .before .before .before .before .before .bare-head .ensures) (c .before .before .before .before .before .before .before .before .before .before .before .before .before .before .before .before .load-anew .ensures) (c .before .before .before .before .before .before .before .before .before .begin .ensures) (c .before .before .before .before .before .before .before .before .before .before .before .before .before .float-at .ensures) (c .before .before .before .keep .ensures)
+returns c = kept-is _ _ _ _ _ (λ k. floatAt (now (c .before .before .before .before .before .before .before .before .before .before .before .before .before .before .before .before .before .before .before .args .temperatures)) (8 * k)) _ _ (c .before .before .before .before .before .before .before .before .before .before .before .before .before .bare-head .ensures) (c .before .before .before .before .before .before .before .before .before .begin .ensures) (c .before .before .before .keep .ensures)
 
 pub kept-spec : {M : Type 1} → statement M
 kept-spec =
     tie.close
     (tie.spec
     bare-head-requires
-    slice-aggregate-load-anew
-    slice-aggregate-load-anew-2
-    slice-aggregate-load-anew-3
-    load-anew-requires
-    float-at-requires
     slice-aggregate-begin
     slice-aggregate-begin-2
     slice-aggregate-begin-3
