@@ -1,6 +1,6 @@
 // Settings: document 01, "Mixture".
 ghost use mathlib.Core.Path.{_≡_};
-ghost use mathlib.Core.Bool.{true, false, cond};
+ghost use mathlib.Core.Bool.{cond};
 ghost use Prim.Native.Nat.{_+_, _*_, _<_, _≤_};
 ghost use lib.Dec.{eqb};
 ghost use lib.ListN.{length, getD};
@@ -14,7 +14,7 @@ ghost use Rattle.mixture.specs.Names.{byModel, held};
 ghost use Rattle.mixture.specs.Faults.{below, caseFault};
 ghost use Rattle.mixture.specs.Memory.{Memory, memory, after};
 ghost use Rattle.mixture.specs.Layout.{dataIn, numbers, place};
-ghost use Rattle.mixture.specs.Calls.{headWith, settingFault, stalesAt, setHead, afterSetting};
+ghost use Rattle.mixture.specs.Calls.{settingFault, stalesAt, setHead, afterSetting};
 ghost use Rattle.mixture.specs.Blocks.{headOnly, Settable, block, blockOf};
 use crate::answers::Answer;
 use crate::answers::Reply;
@@ -22,7 +22,6 @@ use crate::faults::head_fault;
 use crate::faults::model_of;
 use crate::head::Head;
 use crate::head::Model;
-use crate::head::head_with;
 use crate::parts::by_model;
 use crate::parts::has_diagonal;
 use crate::setting::Setting;
