@@ -1,7 +1,7 @@
 -- The plain call on a book's holdings: written out in the strip's order they are read back by name, and a book that calls
 -- made passes every check. Assumes nothing.
 use mathlib.Core.Path.{_≡_, refl, sym, ap, _∙_, subst}
-use mathlib.Core.Bool.{true, false, _&&_, cond}
+use mathlib.Core.Bool.{Bool, true, false, _&&_, cond}
 use mathlib.Core.List.{List, [], _∷_, _++_}
 use mathlib.Core.Logic.{inl, inr}
 use mathlib.Core.Option.{Option, none, some}
@@ -33,8 +33,8 @@ use Rattle.mixture.specs.Lists.{row, rows}
 use Rattle.mixture.specs.Names.{byModel, ModelData, Held, held, entries, tdEntries, sizes}
 use Rattle.mixture.specs.Faults.{dataFault, hasEntry, hasTdEntry, hasSize, hasCount, caseFault, mixFault}
 use Rattle.mixture.specs.Calls.{exponential}
-use Rattle.mixture.specs.Book.{Call, Open, Load, Set, Fractions, Query, Book, book, empty, replaced, setIn, setModel, bookAfter, plain, having, bookAnswer, touchedCells, accepted, sinceAfter, bookOf}
-use Rattle.mixture.specs.Plain.{fives, valuesIn, dataOf, plainCall, PlainCall}
+use Rattle.mixture.specs.Book.{Call, Open, Load, Set, Fractions, Query, Book, book, empty, replaced, setIn, setModel, bookAfter, plain, having, touchedCells, bookAnswer, accepted, sinceAfter, bookAnswers, bookOf, sinceOf}
+use Rattle.mixture.specs.Plain.{fives, valuesIn, dataOf, plainCall, OneMore, PlainCall}
 use Rattle.mixture.proofs.ListLaws.{never}
 use Rattle.mixture.proofs.PlaceLaws.{passed, spared, nought, below-is, sizeOf}
 use Rattle.mixture.proofs.AgreeLaws.{Agrees, set-alike}
@@ -415,3 +415,21 @@ plain-call cs since d T x q e z =
     let p : Proper d × (mixFault (d .n) x ≡ 0) = subst (λ (b : Book). ProperBook (b .model) (b .x)) e (of-proper cs empty [] tt) in
     let plainly = plain-answers d T x q (p .0) (p .1) z in
     rw (plainly, e, book-answers d T x since q z) (refl, refl, refl)
+
+-- ---- one more call
+
+more : (cs : List Call) (b : Book) (since : List Call) (c : Call) → bookAnswers b since (cs ++ c ∷ []) ≡ bookAnswers b since cs ++ bookAnswer (bookOf b since cs) (sinceOf b since cs) c ∷ []
+unfolding bookAnswers bookOf sinceOf
+more [] b since c = ap (λ (l : List MixtureAnswer). bookAnswer b since c ∷ l) (none-left (accepted b since c))
+  where
+    none-left : (t : Bool) → _≡_ {A = List MixtureAnswer} (cond t [] []) []
+    none-left true = refl
+    none-left false = refl
+more (a ∷ cs) b since c =
+    elim (either (accepted b since a)) [
+      | inl e ↦ rw (e, more cs (bookAfter b a) (sinceAfter since a) c) refl
+      | inr e ↦ rw (e, more cs b since c) refl
+    ]
+
+pub one-more : OneMore
+one-more calls c = more calls empty [] c

@@ -159,3 +159,8 @@ bookAnswers b since (c ∷ cs) =
 unfoldable pub bookOf : Book → List Call → List Call → Book
 bookOf b since [] = b
 bookOf b since (c ∷ cs) = cond (accepted b since c) (bookOf (bookAfter b c) (sinceAfter since c) cs) (bookOf b since cs)
+
+-- the accepted calls since the last answered query, after the calls
+unfoldable pub sinceOf : Book → List Call → List Call → List Call
+sinceOf b since [] = since
+sinceOf b since (c ∷ cs) = cond (accepted b since c) (sinceOf (bookAfter b c) (sinceAfter since c) cs) (sinceOf b since cs)

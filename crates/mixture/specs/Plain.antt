@@ -13,7 +13,7 @@ use Rattle.mixture.specs.Lists.{row, rows}
 use Rattle.mixture.specs.Names.{byModel, ModelData, Held, held}
 use Rattle.mixture.specs.Faults.{dataFault}
 use Rattle.mixture.specs.Answers.{valuesOf, countsOf}
-use Rattle.mixture.specs.Book.{Call, Query, book, empty, bookOf, bookAnswer, touchedCells}
+use Rattle.mixture.specs.Book.{Call, Query, book, empty, touchedCells, bookAnswer, bookAnswers, bookOf, sinceOf}
 
 -- ---- names in the strip's order
 
@@ -54,9 +54,14 @@ plainCall d T x q =
     byModel (d .model) (wilsonPlain (d .n) (d .values) T x q) (uniquacPlain (d .n) (d .values) T x q) (nrtlPlain (d .n) (d .values) T x q)
     (unifacPlain (d .n) (d .ng) (d .lens) (d .groups) (d .values) T x q)
 
+-- The answer to one more call is by the book after the calls, and by those accepted since the last answered query.
+abbrev pub OneMore : Type 0
+OneMore = (calls : List Call) (c : Call)
+    → bookAnswers empty [] (calls ++ c ∷ []) ≡ bookAnswers empty [] calls ++ bookAnswer (bookOf empty [] calls) (sinceOf empty [] calls) c ∷ []
+
 -- After any calls, where the book holds a model, T and fractions and has the component asked for, the plain call on its
--- holdings is not refused; its value is the one that the book answers, with the number of cells touched. (`bookAnswers` hands on the
--- list `since` that it keeps; here it may be any.)
+-- holdings is not refused; its value is the one that the book answers, with the number of cells touched. (In a history `since` is what
+-- `OneMore` says; here it may be any list.)
 abbrev pub PlainCall : Type 0
 PlainCall = (calls since : List Call) (d : Held) (T : Float) (x : List Float) (q : Quantity)
     → bookOf empty [] calls ≡ book (some d) (some T) (some x) → indexFault (d .n) q ≡ 0
