@@ -305,11 +305,10 @@ fn change(values: &mut [f64], cells: &[f64], marks: &mut [u8], head: Head, s: Se
     0
 }
 
-// Replaces what the setting names and makes the cells that it is an input of stale.
-pub fn set(values: &mut [f64], cells: &[f64], marks: &mut [u8], head: Head, s: Setting) -> Reply
-    ensures { λ r. ⌜ after (memory (now (values .exit)) (now (cells .entry)) (now (marks .exit))) (r .head) (r .answer) ≡ afterSetting (memory (now (values .entry)) (now (cells .entry)) (now (marks .entry))) head s ⌝ }
+// The reply to a setting: the head with its T where that was set, and what it was declined for.
+fn reply_by(head: Head, fault: u8, s: Setting) -> Reply
+    ensures { λ r. ⌜ (r .head ≡ cond (eqb fault 0) (setHead head s) head) × (r .answer ≡ cond (eqb fault 0) Done (Refused fault)) ⌝ }
 {
-    let fault = change(values, cells, marks, head, s);
     let mut after = head;
     after.t = t_after(head, fault, s);
     after.has_t = has_t_after(head, fault, s);
@@ -317,4 +316,18 @@ pub fn set(values: &mut [f64], cells: &[f64], marks: &mut [u8], head: Head, s: S
         head: after,
         answer: answer_by(fault),
     }
+}
+
+// Replaces what the setting names and makes the cells that it is an input of stale. Both ways are the same on purpose, and `change`
+// is handed a copy of the head, as in `query`.
+pub fn set(values: &mut [f64], cells: &[f64], marks: &mut [u8], head: Head, s: Setting) -> Reply
+    ensures { λ r. ⌜ after (memory (now (values .exit)) (now (cells .entry)) (now (marks .exit))) (r .head) (r .answer) ≡ afterSetting (memory (now (values .entry)) (now (cells .entry)) (now (marks .entry))) head s ⌝ }
+{
+    let copy = head;
+    if head.has_t {
+        let fault = change(values, cells, marks, copy, s);
+        return reply_by(head, fault, s);
+    }
+    let fault = change(values, cells, marks, copy, s);
+    reply_by(head, fault, s)
 }

@@ -1,20 +1,14 @@
--- What `change` says of memory; of the head T alone is changed, and whether it is set; the answer is by the number.
+-- What `change` says of memory, with the reply that its number makes.
 use borrow.Author.Needs.{needs}
-use Rattle.mixture.proofs.SetLaws.{head-changed, replied}
+use Rattle.mixture.proofs.SetLaws.{replied}
 use Rattle.mixture.proofs.set.set.Statement.{statement}
 use Rattle.mixture.proofs.set.set.Tie as tie
 
 change-requires : tie.Need-change-requires
 change-requires c κs = search needs
 
-t-after-requires : tie.Need-t-after-requires
-t-after-requires c κs = search needs
-
-has-t-after-requires : tie.Need-has-t-after-requires
-has-t-after-requires c κs = search needs
-
-answer-by-requires : tie.Need-answer-by-requires
-answer-by-requires c κs = search needs
+reply-by-requires : tie.Need-reply-by-requires
+reply-by-requires c κs = search needs
 
 same-length : tie.Need-same-length
 same-length c = search needs
@@ -23,19 +17,34 @@ same-length-2 : tie.Need-same-length-2
 same-length-2 c = search needs
 
 returns : tie.Need-returns
-returns c =
-    let change = c .before .before .before .before .before .before .before in
-    let s = change .before .before .before .before .before .before in
-    replied (head-changed (s .args .head) (s .args .s) (change .change .result) (c .before .before .t-after .ensures) (c .before .has-t-after .ensures)) (c .answer-by .ensures) (change .change .ensures)
+returns c = replied (c .reply-by .ensures .0) (c .reply-by .ensures .1) (c .before .before .before .before .before .change .ensures)
+
+change-requires-2 : tie.Need-change-requires-2
+change-requires-2 c κs = search needs
+
+reply-by-requires-2 : tie.Need-reply-by-requires-2
+reply-by-requires-2 c κs = search needs
+
+same-length-3 : tie.Need-same-length-3
+same-length-3 c = search needs
+
+same-length-4 : tie.Need-same-length-4
+same-length-4 c = search needs
+
+returns-2 : tie.Need-returns-2
+returns-2 c = replied (c .reply-by2 .ensures .0) (c .reply-by2 .ensures .1) (c .before .before .before .before .before .change2 .ensures)
 
 pub set-spec : {M : Type 1} → statement M
 set-spec =
     tie.close
     (tie.spec
     change-requires
-    t-after-requires
-    has-t-after-requires
-    answer-by-requires
+    reply-by-requires
     same-length
     same-length-2
-    returns)
+    returns
+    change-requires-2
+    reply-by-requires-2
+    same-length-3
+    same-length-4
+    returns-2)
