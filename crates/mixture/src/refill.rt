@@ -250,7 +250,7 @@ fn refill_short(
     count
 }
 
-// The same, row by row.
+// The same of any table: each row with a stale cell is worked out at once, the others are passed over.
 fn refill_rows(
     model: Model,
     w: usize,
@@ -285,7 +285,7 @@ fn refill_rows(
 }
 
 // Works out every stale cell, and counts them. Of up to three rows each cell is looked at; of more, first all the marks, then those
-// of a row, so that one with a stale cell is worked out at once and the others are passed over.
+// of each row.
 pub fn refill(
     model: Model,
     w: usize,

@@ -291,7 +291,7 @@ fn answer_by(fault: u8) -> Answer
     Answer::Done
 }
 
-// What a setting does to values and marks; the number of what it is declined for, in which case it does nothing.
+// What a setting does to values and marks; 0, or the number of what it is declined for, in which case it does nothing.
 fn change(values: &mut [f64], cells: &[f64], marks: &mut [u8], head: Head, s: Setting) -> u8
     ensures { λ r. ⌜ after (memory (now (values .exit)) (now (cells .entry)) (now (marks .exit))) (cond (eqb r 0) (setHead head s) head) (cond (eqb r 0) Done (Refused r)) ≡ afterSetting (memory (now (values .entry)) (now (cells .entry)) (now (marks .entry))) head s ⌝ }
 {
@@ -318,8 +318,8 @@ fn reply_by(head: Head, fault: u8, s: Setting) -> Reply
     }
 }
 
-// Replaces what the setting names and makes the cells that it is an input of stale. Both ways are the same on purpose, and `change`
-// is handed a copy of the head, as in `query`.
+// Replaces what the setting names and makes the cells that it is an input of stale. Both branches are the same on purpose, and
+// `change` is handed a copy of the head, as in `query`.
 pub fn set(values: &mut [f64], cells: &[f64], marks: &mut [u8], head: Head, s: Setting) -> Reply
     ensures { λ r. ⌜ after (memory (now (values .exit)) (now (cells .entry)) (now (marks .exit))) (r .head) (r .answer) ≡ afterSetting (memory (now (values .entry)) (now (cells .entry)) (now (marks .entry))) head s ⌝ }
 {

@@ -26,7 +26,7 @@ pub fn add_unit_row(sums: &mut [f64], w: f64, row: &[f64], n: usize, i: usize)
     sums[i] = own;
 }
 
-// The column sums of w over a table by rows of n with 1 on its diagonal, whose places aren't read; sums has zeros at first.
+// The column sums of w over a table by rows of n with 1 on its diagonal, whose places don't count; sums has zeros at first.
 pub fn unit_column_sums(n: usize, table: &[f64], w: &[f64], sums: &mut [f64])
     requires { ⌜ (n * n ≤ length (now table)) × (n ≤ length (now w)) × (n ≤ length (now sums)) × Filled (λ _. +0) n (now sums) ⌝ }
     ensures { λ _. ⌜ Filled (columnSum n (unitDiagonal (grid n (now (table .entry)))) (at (now (w .entry)))) n (now (sums .exit)) ⌝ }

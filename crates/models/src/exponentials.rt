@@ -17,7 +17,7 @@ pub fn energy(row: &[f64], t: f64, i: usize, j: usize) -> f64
 }
 
 // Writes what E_ij is the exp of for each j below n, through the part of a table that starts at row i. The diagonal gets
-// one as well, so that the row runs without a test; no sum reads it.
+// one as well, so that the row runs without a test; it counts in no sum.
 fn fill_arguments(row: &[f64], t: f64, n: usize, i: usize, out: &mut [f64])
     requires { ⌜ (n ≤ length (now row)) × (n ≤ length (now out)) × (i < n) ⌝ }
     ensures { λ _. ⌜ Filled (λ j. neg (at (now (row .entry)) j ⊖ at (now (row .entry)) i) ⊘ t) n (now (out .exit)) ⌝ }

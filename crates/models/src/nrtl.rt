@@ -44,7 +44,7 @@ pub fn exponential(alpha: f64, tau: f64) -> f64
     arithmetic::exp(-alpha * tau)
 }
 
-// Writes the first count entries of G, those of the diagonal as well, which no sum reads: every argument first, then exp of
+// Writes the first count entries of G, those of the diagonal as well, which count in no sum: every argument first, then exp of
 // them all at once.
 pub fn fill_exponentials(alpha: &[f64], tau: &[f64], count: usize, out: &mut [f64])
     requires { ⌜ (count ≤ length (now alpha)) × (count ≤ length (now tau)) × (count ≤ length (now out)) ⌝ }
@@ -124,8 +124,8 @@ fn excess_by(n: usize, u: &[f64], d: &[f64], x: &[f64]) -> f64
     s
 }
 
-// The value over a table of τ at T and one of exponentials, both by rows of n; their diagonals are
-// not read.
+// The value over a table of τ at T and one of exponentials, both by rows of n; what stands on their
+// diagonals doesn't count.
 pub fn value_over(n: usize, tau: &[f64], g: &[f64], x: &[f64], q: Quantity) -> f64
     requires { ⌜ (n ≤ 12) × (n * n ≤ length (now tau)) × (n * n ≤ length (now g)) × (n ≤ length (now x)) × (indexFault n q ≡ 0) ⌝ }
     ensures { λ r. ⌜ r ≡ nrtl n (grid n (now (tau .entry))) (grid n (now (g .entry))) (at (now (x .entry))) q ⌝ }
