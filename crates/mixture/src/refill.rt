@@ -168,7 +168,7 @@ fn row_fresh(model: Model, w: usize, i: usize, marks: &[u8]) -> bool
     count == 1
 }
 
-// Works out the stale cells of row i, and counts them: the row at once, unless none is stale.
+// Works out the stale cells of row i, and counts them: one by one in a short row, else the row at once, unless none is stale.
 fn refill_row(
     model: Model,
     w: usize,
@@ -183,6 +183,9 @@ fn refill_row(
     requires { ⌜ (i < w) × (w ≤ 32) × (w * 5 ≤ length (now row)) × (w ≤ length (now tau)) × (w ≤ length (now cells)) × (w ≤ length (now marks)) ⌝ }
     ensures { λ r. ⌜ Refilled w (λ j. staleCell model (getD (now (marks .entry)) j 0) i j) (rowCell model (now (row .entry)) (now (tau .entry)) t ln i) (now (cells .entry)) (now (marks .entry)) (now (cells .exit)) (now (marks .exit)) r ⌝ }
 {
+    if w < 4 {
+        return refill_cells(model, w, i, row, tau, t, ln, cells, marks);
+    }
     if row_fresh(model, w, i, marks) {
         return 0;
     }
@@ -204,11 +207,14 @@ fn count_diagonal(marks: &[u8], w: usize) -> u16
 }
 
 // Whether counting the marks shows that no cell is stale: none is other than 1, or, where the diagonal has no cells, only marks
-// on it are.
+// on it are. Fewer than four rows aren't counted: they are gone through.
 fn all_fresh(model: Model, w: usize, marks: &[u8]) -> bool
     requires { ⌜ (w ≤ 32) × (w * w ≤ length (now marks)) ⌝ }
     ensures { λ r. ⌜ (r ≡ true → (c : ℕ) → c < w * w → staleCell model (getD (now (marks .entry)) c 0) (c / w) (c % w) ≡ false) ⌝ }
 {
+    if w < 4 {
+        return false;
+    }
     let count = count_unmarked(marks, w * w);
     if has_diagonal(model) {
         return count == 0;
@@ -216,41 +222,7 @@ fn all_fresh(model: Model, w: usize, marks: &[u8]) -> bool
     count == count_diagonal(marks, w)
 }
 
-// Works out every stale cell of a short table, one by one, and counts them. Row i of `table` and of `tau` starts at i·stride.
-fn refill_short(
-    model: Model,
-    w: usize,
-    stride: usize,
-    table: &[f64],
-    tau: &[f64],
-    t: f64,
-    ln: f64,
-    cells: &mut [f64],
-    marks: &mut [u8],
-) -> usize
-    requires { ⌜ (w ≤ 32) × ((w - 1) * stride + w * 5 ≤ length (now table)) × ((w - 1) * stride + w ≤ length (now tau)) × (w * w ≤ length (now cells)) × (w * w ≤ length (now marks)) ⌝ }
-    ensures { λ r. ⌜ Refilled (w * w) (λ c. staleCell model (getD (now (marks .entry)) c 0) (c / w) (c % w)) (λ c. rowCell model (from (c / w * stride) (now (table .entry))) (from (c / w * stride) (now (tau .entry))) t ln (c / w) (c % w)) (now (cells .entry)) (now (marks .entry)) (now (cells .exit)) (now (marks .exit)) r ⌝ }
-{
-    let mut count: usize = 0;
-    for i in 0..w {
-        let place = i * w;
-        let start = i * stride;
-        count += refill_cells(
-            model,
-            w,
-            i,
-            &table[start..],
-            &tau[start..],
-            t,
-            ln,
-            &mut cells[place..],
-            &mut marks[place..],
-        );
-    }
-    count
-}
-
-// The same of any table: each row with a stale cell is worked out at once, the others are passed over.
+// Works out every stale cell, row by row, and counts them. Row i of `table` and of `tau` starts at i·stride.
 fn refill_rows(
     model: Model,
     w: usize,
@@ -284,8 +256,7 @@ fn refill_rows(
     count
 }
 
-// Works out every stale cell, and counts them. Of up to three rows each cell is looked at; of more, first all the marks, then those
-// of each row.
+// The same; where counting the marks shows that nothing is stale, no row is gone through.
 pub fn refill(
     model: Model,
     w: usize,
@@ -300,9 +271,6 @@ pub fn refill(
     requires { ⌜ (w ≤ 32) × ((w - 1) * stride + w * 5 ≤ length (now table)) × ((w - 1) * stride + w ≤ length (now tau)) × (w * w ≤ length (now cells)) × (w * w ≤ length (now marks)) ⌝ }
     ensures { λ r. ⌜ Refilled (w * w) (λ c. staleCell model (getD (now (marks .entry)) c 0) (c / w) (c % w)) (λ c. rowCell model (from (c / w * stride) (now (table .entry))) (from (c / w * stride) (now (tau .entry))) t ln (c / w) (c % w)) (now (cells .entry)) (now (marks .entry)) (now (cells .exit)) (now (marks .exit)) r ⌝ }
 {
-    if w < 4 {
-        return refill_short(model, w, stride, table, tau, t, ln, cells, marks);
-    }
     if all_fresh(model, w, marks) {
         return 0;
     }
