@@ -74,12 +74,12 @@ module _ (n : ℕ) (r s q p : ℕ → Float) (x y : ℕ → Float) (er : (i : �
 -- ---- what code works out
 
 -- the quotients of a residual part, that of the diagonal put right
-pub residual-folded : (n p : ℕ) (θ row sums : ℕ → Float) (i : ℕ) (g : List Float) (q : Float) {w l r : Float} → i < n → n ≤ length g → n ≤ p →
-    Filled (λ j. θ j ⊗ row j ⊘ sums j) p g → w ≡ θ i ⊗ one ⊘ sums i → l ≡ logOf (sums i) → r ≡ total (take n (set g i w)) →
-    q ⊗ (one ⊖ l ⊖ r) ≡ q ⊗ (one ⊖ logOf (sums i) ⊖ sum n (λ j. θ j ⊗ unitAt i row j ⊘ sums j))
-residual-folded n p θ row sums i g q {w} {l} {r} b h le terms own log t =
+pub residual-folded : (n p : ℕ) (θ row sums : ℕ → Float) (i : ℕ) (g : List Float) (q l : Float) {w r : Float} → i < n → n ≤ length g → n ≤ p →
+    Filled (λ j. θ j ⊗ row j ⊘ sums j) p g → w ≡ θ i ⊗ one ⊘ sums i → r ≡ total (take n (set g i w)) →
+    q ⊗ (one ⊖ l ⊖ r) ≡ q ⊗ (one ⊖ l ⊖ sum n (λ j. θ j ⊗ unitAt i row j ⊘ sums j))
+residual-folded n p θ row sums i g q l {w} {r} b h le terms own t =
     let S : r ≡ sum n (λ j. θ j ⊗ unitAt i row j ⊘ sums j) = terms-put n p i _ _ g b h le (λ k c ne. rw (unit-off i k row ne)) (own ∙ rw (unit-on i row)) terms t in
-    rw (log, S)
+    rw S
 
 -- what all components share, from what the callees work out: the column sums are those over the shares that stand in a list
 pub shared : (n : ℕ) (r q : ℕ → Float) (E : ℕ → ℕ → Float) (x : ℕ → Float) {rx lx : Float} {theta sums : List Float} → rx ≡ sum n (λ j. x j ⊗ r j) → lx ≡ sum n (λ j. x j ⊗ l r q j) →
@@ -92,27 +92,30 @@ shared n r q E x {rx} {lx} {theta} {sums} s t all columns = record {
 }
 
 module _ (n : ℕ) (r q : ℕ → Float) (e : List Float) (x : ℕ → Float) (rx lx : Float) (theta sums : List Float) (S : UniquacShared n r q (grid n e) x rx lx theta sums) (i : ℕ) (b : i < n) where
-  combinatorial-hoisted : {phi c : Float} → phi ≡ x i ⊗ r i ⊘ rx →
-      c ≡ logOf (phi ⊘ x i) ⊕ half ⊗ Z ⊗ q i ⊗ logOf (at theta i ⊘ phi) ⊕ (half ⊗ Z ⊗ (r i ⊖ q i) ⊖ (r i ⊖ one)) ⊖ phi ⊘ x i ⊗ lx → c ≡ combinatorial n r q x i
+  combinatorial-hoisted : {segment lnSegment lnArea c : Float} → segment ≡ x i ⊗ r i ⊘ rx ⊘ x i → lnSegment ≡ logOf segment → lnArea ≡ logOf (at theta i ⊘ (x i ⊗ r i ⊘ rx)) →
+      c ≡ lnSegment ⊕ half ⊗ Z ⊗ q i ⊗ lnArea ⊕ (half ⊗ Z ⊗ (r i ⊖ q i) ⊖ (r i ⊖ one)) ⊖ segment ⊗ lx → c ≡ combinatorial n r q x i
   unfolding combinatorial segmentRatio areaRatio share l
-  combinatorial-hoisted p k = rw (k, p, S .shares .each i b, S .rSum, S .lSum)
+  combinatorial-hoisted s ls la k = rw (k, ls, la, s, S .shares .each i b, S .rSum, S .lSum)
 
-  residual-hoisted : {v : Float} → i * n + n ≤ length e → v ≡ q i ⊗ (one ⊖ logOf (at sums i) ⊖ sum n (λ j. at theta j ⊗ unitAt i (at (from (i * n) e)) j ⊘ at sums j)) →
-      v ≡ residual n q (grid n e) (share n q x) i
+  residual-hoisted : {lnSum v : Float} → i * n + n ≤ length e → lnSum ≡ logOf (at sums i) →
+      v ≡ q i ⊗ (one ⊖ lnSum ⊖ sum n (λ j. at theta j ⊗ unitAt i (at (from (i * n) e)) j ⊘ at sums j)) → v ≡ residual n q (grid n e) (share n q x) i
   unfolding residual
-  residual-hoisted h k =
+  residual-hoisted h lu k =
       rw (
         k,
+        lu,
         S .columns .each i b,
         sum-same n (λ j. at theta j ⊗ unitAt i (at (from (i * n) e)) j ⊘ at sums j) (λ j. share n q x j ⊗ tau (grid n e) i j ⊘ columnSum n (tau (grid n e)) (share n q x) j)
             (λ j c. rw (S .shares .each j c, unit-row n e i j h c, S .columns .each j c)),
       )
 
-  pub lnGamma-hoisted : {phi c v : Float} → i * n + n ≤ length e → phi ≡ x i ⊗ r i ⊘ rx →
-      c ≡ logOf (phi ⊘ x i) ⊕ half ⊗ Z ⊗ q i ⊗ logOf (at theta i ⊘ phi) ⊕ (half ⊗ Z ⊗ (r i ⊖ q i) ⊖ (r i ⊖ one)) ⊖ phi ⊘ x i ⊗ lx →
-      v ≡ q i ⊗ (one ⊖ logOf (at sums i) ⊖ sum n (λ j. at theta j ⊗ unitAt i (at (from (i * n) e)) j ⊘ at sums j)) → c ⊕ v ≡ lnGamma n r q (grid n e) x i
+  -- the logs taken singly or side by side
+  pub lnGamma-hoisted : {segment lnSegment lnArea lnSum c v : Float} → i * n + n ≤ length e → segment ≡ x i ⊗ r i ⊘ rx ⊘ x i →
+      lnSegment ≡ logOf segment → lnArea ≡ logOf (at theta i ⊘ (x i ⊗ r i ⊘ rx)) → lnSum ≡ logOf (at sums i) →
+      c ≡ lnSegment ⊕ half ⊗ Z ⊗ q i ⊗ lnArea ⊕ (half ⊗ Z ⊗ (r i ⊖ q i) ⊖ (r i ⊖ one)) ⊖ segment ⊗ lx →
+      v ≡ q i ⊗ (one ⊖ lnSum ⊖ sum n (λ j. at theta j ⊗ unitAt i (at (from (i * n) e)) j ⊘ at sums j)) → c ⊕ v ≡ lnGamma n r q (grid n e) x i
   unfolding lnGamma
-  lnGamma-hoisted h p k w = rw (combinatorial-hoisted p k, residual-hoisted h w)
+  lnGamma-hoisted h s ls la lu k w = rw (combinatorial-hoisted s ls la k, residual-hoisted h lu w)
 
 -- ---- what `value_at` puts together: the exponentials in el, the r's in the part from n·n on, the q's n places further
 

@@ -59,18 +59,26 @@ fn l_sum(n: usize, r: &[f64], q: &[f64], x: &[f64]) -> f64
     s
 }
 
-// The combinatorial part of ln γ_i, from r_i, q_i, φ_i/x_i, θ_i/φ_i and Σ_j x_j l_j.
-fn combinatorial(r: f64, q: f64, segment: f64, area: f64, lx: f64) -> f64
-    ensures { λ v. ⌜ v ≡ logOf segment ⊕ half ⊗ U·Z ⊗ q ⊗ logOf area ⊕ (half ⊗ U·Z ⊗ (r ⊖ q) ⊖ (r ⊖ one)) ⊖ segment ⊗ lx ⌝ }
+// The combinatorial part of ln γ_i, from r_i, q_i, φ_i/x_i, the logs of φ_i/x_i and θ_i/φ_i, and Σ_j x_j l_j.
+fn combinatorial(r: f64, q: f64, segment: f64, ln_segment: f64, ln_area: f64, lx: f64) -> f64
+    ensures { λ v. ⌜ v ≡ «ln_segment» ⊕ half ⊗ U·Z ⊗ q ⊗ «ln_area» ⊕ (half ⊗ U·Z ⊗ (r ⊖ q) ⊖ (r ⊖ one)) ⊖ segment ⊗ lx ⌝ }
 {
-    arithmetic::log(segment) + 0.5 * Z * q * arithmetic::log(area) + l(r, q) - segment * lx
+    ln_segment + 0.5 * Z * q * ln_area + l(r, q) - segment * lx
 }
 
-// The residual part of ln γ_i, from q_i, the part of the table that starts at row i, θ and the column sums. The quotients run
-// without a test for the diagonal, then its own is put right.
-fn residual(n: usize, q: f64, row: &[f64], theta: &[f64], sums: &[f64], i: usize) -> f64
+// The residual part of ln γ_i, from q_i, the part of the table that starts at row i, θ, the column sums and the log of the
+// i-th. The quotients run without a test for the diagonal, then its own is put right.
+fn residual(
+    n: usize,
+    q: f64,
+    row: &[f64],
+    theta: &[f64],
+    sums: &[f64],
+    ln_sum: f64,
+    i: usize,
+) -> f64
     requires { ⌜ (n ≤ length (now row)) × (n ≤ length (now theta)) × (n ≤ length (now sums)) × (i < n) × (n ≤ 12) ⌝ }
-    ensures { λ v. ⌜ v ≡ q ⊗ (one ⊖ logOf (at (now (sums .entry)) i) ⊖ sum n (λ j. at (now (theta .entry)) j ⊗ unitAt i (at (now (row .entry))) j ⊘ at (now (sums .entry)) j)) ⌝ }
+    ensures { λ v. ⌜ v ≡ q ⊗ (one ⊖ «ln_sum» ⊖ sum n (λ j. at (now (theta .entry)) j ⊗ unitAt i (at (now (row .entry))) j ⊘ at (now (sums .entry)) j)) ⌝ }
 {
     let mut terms = [0.0; 12];
     for j in 0..n {
@@ -78,7 +86,7 @@ fn residual(n: usize, q: f64, row: &[f64], theta: &[f64], sums: &[f64], i: usize
     }
     terms[i] = theta[i] * 1.0 / sums[i];
     let s = arithmetic::sum(&terms[..n]);
-    q * (1.0 - arithmetic::log(sums[i]) - s)
+    q * (1.0 - ln_sum - s)
 }
 
 // ln γ_i, from what all components share.
@@ -98,12 +106,46 @@ fn ln_gamma(
     ensures { λ v. ⌜ v ≡ lnGamma n (at (now (r .entry))) (at (now (q .entry))) (grid n (now (e .entry))) (at (now (x .entry))) i ⌝ }
 {
     let phi = x[i] * r[i] / rx;
-    let c = combinatorial(r[i], q[i], phi / x[i], theta[i] / phi, lx);
+    let segment = phi / x[i];
+    let ln_segment = arithmetic::log(segment);
+    let ln_area = arithmetic::log(theta[i] / phi);
+    let c = combinatorial(r[i], q[i], segment, ln_segment, ln_area, lx);
     let at = i * n;
-    c + residual(n, q[i], &e[at..], theta, sums, i)
+    c + residual(n, q[i], &e[at..], theta, sums, arithmetic::log(sums[i]), i)
 }
 
-// The excess energy, from what all components share.
+// Writes φ_i/x_i and θ_i/φ_i for each i.
+fn fill_ratios(
+    n: usize,
+    r: &[f64],
+    x: &[f64],
+    rx: f64,
+    theta: &[f64],
+    segments: &mut [f64],
+    areas: &mut [f64],
+)
+    requires { ⌜ (n ≤ length (now r)) × (n ≤ length (now x)) × (n ≤ length (now theta)) × (n ≤ length (now segments)) × (n ≤ length (now areas)) ⌝ }
+    ensures { λ _. ⌜ Filled (λ k. at (now (x .entry)) k ⊗ at (now (r .entry)) k ⊘ rx ⊘ at (now (x .entry)) k) n (now (segments .exit)) × Filled (λ k. at (now (theta .entry)) k ⊘ (at (now (x .entry)) k ⊗ at (now (r .entry)) k ⊘ rx)) n (now (areas .exit)) ⌝ }
+{
+    for i in 0..n {
+        let phi = x[i] * r[i] / rx;
+        segments[i] = phi / x[i];
+        areas[i] = theta[i] / phi;
+    }
+}
+
+// Writes log of each of the first n places of a.
+fn fill_logs(a: &[f64], n: usize, out: &mut [f64])
+    requires { ⌜ (n ≤ length (now a)) × (n ≤ length (now out)) ⌝ }
+    ensures { λ _. ⌜ Filled (λ k. logOf (at (now (a .entry)) k)) n (now (out .exit)) ⌝ }
+{
+    for k in 0..n {
+        out[k] = a[k];
+    }
+    arithmetic::log_each(out, n);
+}
+
+// The excess energy, from what all components share. The logs are worked out side by side.
 fn excess_gibbs(
     n: usize,
     r: &[f64],
@@ -118,9 +160,19 @@ fn excess_gibbs(
     requires { ⌜ (n ≤ length (now r)) × (n ≤ length (now q)) × (n * n ≤ length (now e)) × (n ≤ length (now x)) × (n ≤ length (now theta)) × (n ≤ length (now sums)) × UniquacShared n (at (now r)) (at (now q)) (grid n (now e)) (at (now x)) rx lx (now theta) (now sums) × (n ≤ 12) ⌝ }
     ensures { λ v. ⌜ v ≡ excess n (at (now (r .entry))) (at (now (q .entry))) (grid n (now (e .entry))) (at (now (x .entry))) ⌝ }
 {
+    let mut segments = [0.0; 12];
+    let mut ln_areas = [0.0; 12];
+    fill_ratios(n, r, x, rx, theta, &mut segments[..], &mut ln_areas[..]);
+    let mut ln_segments = [0.0; 12];
+    fill_logs(&segments[..], n, &mut ln_segments[..]);
+    let mut ln_sums = [0.0; 12];
+    fill_logs(sums, n, &mut ln_sums[..]);
+    arithmetic::log_each(&mut ln_areas[..], n);
     let mut s = 0.0;
     for i in 0..n {
-        s = s + x[i] * ln_gamma(n, r, q, e, x, rx, lx, theta, sums, i);
+        let c = combinatorial(r[i], q[i], segments[i], ln_segments[i], ln_areas[i], lx);
+        let at = i * n;
+        s = s + x[i] * (c + residual(n, q[i], &e[at..], theta, sums, ln_sums[i], i));
     }
     s
 }

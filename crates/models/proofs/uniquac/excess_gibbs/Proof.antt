@@ -1,24 +1,123 @@
--- The loop keeps the sum of x_k ln γ_k passed; at its end these are all. Assumes nothing.
-use mathlib.Core.Path.{_≡_}
-use Prim.Native.Nat.{_-_, _≤_}
+-- The three logs of each component are filled before the loop, which keeps the sum of x_k ln γ_k passed; at its end these are
+-- all. Assumes nothing.
+use mathlib.Core.Path.{_≡_, refl, ap}
+use Prim.Native.Nat.{_+_, _*_, _-_, _≤_}
 use native.Mathlib.Omega.{arith}
+use denote.Ref.{now}
+use lib.Ieee.{Float}
+use lib.ListN.{length}
 use borrow.Author.Needs.{needs}
 use Rattle.arithmetic.specs.Floats.{_⊗_}
+use Rattle.arithmetic.specs.Logarithm.{logOf}
 use Rattle.arithmetic.specs.Sums.{sum}
 use Rattle.arithmetic.specs.Tables.{at, grid}
 use Rattle.arithmetic.proofs.SumLaws.{sum-none, sum-more, sum-done}
+use Rattle.arithmetic.proofs.TableLaws.{row-end, from-length}
 use Rattle.models.specs.Uniquac.{lnGamma, excess}
+use Rattle.models.proofs.ExponentialLaws.{each-filled}
+use Rattle.models.proofs.UniquacLaws.{lnGamma-hoisted}
 use Rattle.models.proofs.uniquac.excess_gibbs.Statement.{statement}
 use Rattle.models.proofs.uniquac.excess_gibbs.Tie as tie
 
 abbrev Inv-loop : tie.InvT-loop
-Inv-loop n r q e x rx lx theta sums s₀ i₀ s i = (i ≤ n) × (s ≡ sum i (λ k. at x k ⊗ lnGamma n (at r) (at q) (grid n e) (at x) k))
+Inv-loop n r q e x rx lx theta sums segments lnAreas lnSegments lnSums s₀ i₀ s i =
+    (i ≤ n) × (n ≤ length segments) × (n ≤ length lnAreas) × (n ≤ length lnSegments) × (n ≤ length lnSums) × (s ≡ sum i (λ k. at x k ⊗ lnGamma n (at r) (at q) (grid n e) (at x) k))
 
 abbrev μ-loop : tie.MeasureT-loop
-μ-loop n r q e x rx lx theta sums s₀ i₀ s i = n - i
+μ-loop n r q e x rx lx theta sums segments lnAreas lnSegments lnSums s₀ i₀ s i = n - i
+
+-- the start, seen from the ratios and from the loop
+abbrev start : tie.After-fill-ratios Inv-loop μ-loop → tie.Start Inv-loop μ-loop
+start c = c .before .before .before .before .before .before .before .before .before
+
+abbrev ratios : tie.At-loop Inv-loop μ-loop → tie.After-fill-ratios Inv-loop μ-loop
+ratios c = c .before .before .before .before .before .before .before .before .before .before .before .before .before
+
+-- row i ends within the table
+ends : (c : tie.In-loop Inv-loop μ-loop) → let a = start (ratios (c .before)) .args in c .before .loop .i * a .n + a .n ≤ length (now (a .e))
+ends c = let begun = start (ratios (c .before)) in omega (arith, begun .pre .2, row-end (begun .args .n) (begun .args .n) (c .before .loop .i) (c .loop-test .taken))
+
+slice-aggregate-fill-ratios : tie.Need-slice-aggregate-fill-ratios Inv-loop μ-loop
+slice-aggregate-fill-ratios c = search needs
+
+slice-aggregate-fill-ratios-2 : tie.Need-slice-aggregate-fill-ratios-2 Inv-loop μ-loop
+slice-aggregate-fill-ratios-2 c = search needs
+
+fill-ratios-requires : tie.Need-fill-ratios-requires Inv-loop μ-loop
+fill-ratios-requires c κs = search needs
+
+slice-aggregate-fill-logs : tie.Need-slice-aggregate-fill-logs Inv-loop μ-loop
+slice-aggregate-fill-logs c = search needs
+
+slice-aggregate-fill-logs-2 : tie.Need-slice-aggregate-fill-logs-2 Inv-loop μ-loop
+slice-aggregate-fill-logs-2 c = search needs
+
+fill-logs-requires : tie.Need-fill-logs-requires Inv-loop μ-loop
+fill-logs-requires c κs =
+    let made = c .before .before .before .before in
+    (omega (arith, made .fill-ratios .kept .1 .1 .1 .1 .1 .0, start made .pre .7), omega (arith, start made .pre .7))
+
+slice-aggregate-fill-logs-3 : tie.Need-slice-aggregate-fill-logs-3 Inv-loop μ-loop
+slice-aggregate-fill-logs-3 c = search needs
+
+fill-logs-requires-2 : tie.Need-fill-logs-requires-2 Inv-loop μ-loop
+fill-logs-requires-2 c κs = search needs
+
+slice-aggregate-log-each : tie.Need-slice-aggregate-log-each Inv-loop μ-loop
+slice-aggregate-log-each c = search needs
+
+log-each-requires : tie.Need-log-each-requires Inv-loop μ-loop
+log-each-requires c κs =
+    let made = c .before .before .before .before .before .before .before .before .before .before in
+    omega (arith, made .fill-ratios .kept .1 .1 .1 .1 .1 .1 .0, start made .pre .7)
 
 loop-holds : tie.Need-loop-holds Inv-loop μ-loop
-loop-holds c = (omega arith, sum-none _)
+loop-holds c =
+    let made = c .before .before .before .before .before .before .before .before .before .before .before .before in
+    let le = start made .pre .7 in (
+      omega arith,
+      omega (arith, made .fill-ratios .kept .1 .1 .1 .1 .1 .0, le),
+      omega (arith, c .before .log-each .kept .0, made .fill-ratios .kept .1 .1 .1 .1 .1 .1 .0, le),
+      omega (arith, c .before .before .before .before .before .before .before .fill-logs .kept .1 .1 .0, le),
+      omega (arith, c .before .before .before .before .fill-logs2 .kept .1 .1 .0, le),
+      sum-none _,
+    )
+
+mul-combinatorial : tie.Need-mul-combinatorial Inv-loop μ-loop
+mul-combinatorial c = omega arith
+
+shared-slice-read-combinatorial : tie.Need-shared-slice-read-combinatorial Inv-loop μ-loop
+shared-slice-read-combinatorial c = omega arith
+
+mul-combinatorial-2 : tie.Need-mul-combinatorial-2 Inv-loop μ-loop
+mul-combinatorial-2 c = omega arith
+
+shared-slice-read-combinatorial-2 : tie.Need-shared-slice-read-combinatorial-2 Inv-loop μ-loop
+shared-slice-read-combinatorial-2 c = omega arith
+
+mul-combinatorial-3 : tie.Need-mul-combinatorial-3 Inv-loop μ-loop
+mul-combinatorial-3 c = omega arith
+
+array-read-combinatorial : tie.Need-array-read-combinatorial Inv-loop μ-loop
+array-read-combinatorial c = omega arith
+
+mul-combinatorial-4 : tie.Need-mul-combinatorial-4 Inv-loop μ-loop
+mul-combinatorial-4 c = omega arith
+
+array-read-combinatorial-2 : tie.Need-array-read-combinatorial-2 Inv-loop μ-loop
+array-read-combinatorial-2 c = omega arith
+
+mul-combinatorial-5 : tie.Need-mul-combinatorial-5 Inv-loop μ-loop
+mul-combinatorial-5 c = omega arith
+
+array-read-combinatorial-3 : tie.Need-array-read-combinatorial-3 Inv-loop μ-loop
+array-read-combinatorial-3 c = omega arith
+
+combinatorial-requires : tie.Need-combinatorial-requires Inv-loop μ-loop
+combinatorial-requires c κs = tt
+
+mul-at : tie.Need-mul-at Inv-loop μ-loop
+mul-at c = let turn = c .before .before .before in omega (arith, ends turn, start (ratios (turn .before)) .good)
 
 mul-s : tie.Need-mul-s Inv-loop μ-loop
 mul-s c = omega arith
@@ -26,10 +125,36 @@ mul-s c = omega arith
 shared-slice-read-s : tie.Need-shared-slice-read-s Inv-loop μ-loop
 shared-slice-read-s c = omega arith
 
-ln-gamma-requires : tie.Need-ln-gamma-requires Inv-loop μ-loop
-ln-gamma-requires c κs =
-    let start = c .before .before .before .before .before .before .before .before .before in
-    (start .pre .0, start .pre .1, start .pre .2, start .pre .3, start .pre .4, start .pre .5, c .before .loop-test .taken, start .pre .6, start .pre .7)
+mul-residual : tie.Need-mul-residual Inv-loop μ-loop
+mul-residual c = omega arith
+
+shared-slice-read-residual : tie.Need-shared-slice-read-residual Inv-loop μ-loop
+shared-slice-read-residual c = omega arith
+
+mul-residual-2 : tie.Need-mul-residual-2 Inv-loop μ-loop
+mul-residual-2 c = let turn = c .before .before .before .before .before in omega (arith, ends turn, start (ratios (turn .before)) .good)
+
+sub-residual : tie.Need-sub-residual Inv-loop μ-loop
+sub-residual c = omega (arith, ends (c .before .before .before .before .before))
+
+part-residual-start : tie.Need-part-residual-start Inv-loop μ-loop
+part-residual-start c = omega (arith, ends (c .before .before .before .before .before))
+
+part-residual-end : tie.Need-part-residual-end Inv-loop μ-loop
+part-residual-end c = omega arith
+
+mul-residual-3 : tie.Need-mul-residual-3 Inv-loop μ-loop
+mul-residual-3 c = omega arith
+
+array-read-residual : tie.Need-array-read-residual Inv-loop μ-loop
+array-read-residual c = omega arith
+
+residual-requires : tie.Need-residual-requires Inv-loop μ-loop
+residual-requires c κs =
+    let turn = c .before .before .before .before .before .before in
+    let begun = start (ratios (turn .before)) in
+    let row = from-length (turn .before .loop .i * begun .args .n) (now (begun .args .e)) in
+    (omega (arith, row, ends turn), begun .pre .4, begun .pre .5, turn .loop-test .taken, begun .pre .7)
 
 add-i : tie.Need-add-i Inv-loop μ-loop
 add-i c = omega arith
@@ -38,11 +163,30 @@ loop-less : tie.Need-loop-less Inv-loop μ-loop
 loop-less c = omega arith
 
 loop-again : tie.Need-loop-again Inv-loop μ-loop
-loop-again c = (omega arith, sum-more _ _ (c .before .before .before .loop .inv .1) (rw (c .ln-gamma .ensures)))
+loop-again c =
+    let turn = c .before .before .before .before .before .before .before in
+    let top = turn .before in
+    let made = ratios top in
+    let begun = start made in
+    let a = begun .args in
+    let i = top .loop .i in
+    let b = turn .loop-test .taken in
+    let areas = each-filled logOf (a .n) _ (omega (arith, made .fill-ratios .kept .1 .1 .1 .1 .1 .1 .0, begun .pre .7)) (λ k b. refl) (made .fill-ratios .ensures .1) (top .before .before .log-each .ensures) in (
+      omega arith,
+      top .loop .inv .1,
+      top .loop .inv .2,
+      top .loop .inv .3,
+      top .loop .inv .4,
+      sum-more _ _ (top .loop .inv .5)
+          (ap (λ (v : Float). at (now (a .x)) i ⊗ v)
+          (lnGamma-hoisted (a .n) (at (now (a .r))) (at (now (a .q))) (now (a .e)) (at (now (a .x))) (a .rx) (a .lx) (now (a .theta)) (now (a .sums)) (begun .pre .6) i b (ends turn)
+          (made .fill-ratios .ensures .0 .each i b) (top .before .before .before .before .before .before .before .before .fill-logs .ensures .each i b) (areas .each i b)
+          (top .before .before .before .before .before .fill-logs2 .ensures .each i b) (c .before .before .before .before .combinatorial .ensures) (c .residual .ensures))),
+    )
 
 returns : tie.Need-returns Inv-loop μ-loop
 unfolding excess
-returns c = search (sum-done, needs)
+returns c = sum-done _ _ _ (c .before .loop .inv .5) (c .before .loop .inv .0) (c .loop-test .left)
 
 pub excess-gibbs-spec : {M : Type 1} → statement M
 excess-gibbs-spec =
@@ -50,10 +194,40 @@ excess-gibbs-spec =
     (tie.spec
     Inv-loop
     μ-loop
+    slice-aggregate-fill-ratios
+    slice-aggregate-fill-ratios-2
+    fill-ratios-requires
+    slice-aggregate-fill-logs
+    slice-aggregate-fill-logs-2
+    fill-logs-requires
+    slice-aggregate-fill-logs-3
+    fill-logs-requires-2
+    slice-aggregate-log-each
+    log-each-requires
     loop-holds
+    mul-combinatorial
+    shared-slice-read-combinatorial
+    mul-combinatorial-2
+    shared-slice-read-combinatorial-2
+    mul-combinatorial-3
+    array-read-combinatorial
+    mul-combinatorial-4
+    array-read-combinatorial-2
+    mul-combinatorial-5
+    array-read-combinatorial-3
+    combinatorial-requires
+    mul-at
     mul-s
     shared-slice-read-s
-    ln-gamma-requires
+    mul-residual
+    shared-slice-read-residual
+    mul-residual-2
+    sub-residual
+    part-residual-start
+    part-residual-end
+    mul-residual-3
+    array-read-residual
+    residual-requires
     add-i
     loop-less
     loop-again

@@ -14,10 +14,10 @@ use Rattle.models.proofs.uniquac.residual.Statement.{statement}
 use Rattle.models.proofs.uniquac.residual.Tie as tie
 
 abbrev Inv-loop : tie.InvT-loop
-Inv-loop n q row theta sums i terms₀ j₀ terms j = (j ≤ n) × (length terms ≡ 12) × Filled (λ j. at theta j ⊗ at row j ⊘ at sums j) j terms
+Inv-loop n q row theta sums ln i terms₀ j₀ terms j = (j ≤ n) × (length terms ≡ 12) × Filled (λ j. at theta j ⊗ at row j ⊘ at sums j) j terms
 
 abbrev μ-loop : tie.MeasureT-loop
-μ-loop n q row theta sums i terms₀ j₀ terms j = n - j
+μ-loop n q row theta sums ln i terms₀ j₀ terms j = n - j
 
 loop-holds : tie.Need-loop-holds Inv-loop μ-loop
 loop-holds c = (omega arith, refl, filled-none (omega arith))
@@ -84,23 +84,14 @@ slice-aggregate-sum c = sym (length-take-le _ _ (simp length-set (omega (arith, 
 sum-requires : tie.Need-sum-requires Inv-loop μ-loop
 sum-requires c κs = tt
 
-mul-log : tie.Need-mul-log Inv-loop μ-loop
-mul-log c = omega arith
-
-shared-slice-read-log : tie.Need-shared-slice-read-log Inv-loop μ-loop
-shared-slice-read-log c = omega arith
-
-log-requires : tie.Need-log-requires Inv-loop μ-loop
-log-requires c κs = tt
-
 returns : tie.Need-returns Inv-loop μ-loop
 unfolding one dec round ofBits
 returns c =
-    let done = c .before .before .before .before .before .before in
+    let done = c .before .before .before .before in
     let start = done .before .before .before .before .before in
     let a = start .args in
-    residual-folded (a .n) _ (at (now (a .theta))) (at (now (a .row))) (at (now (a .sums))) (a .i) _ _ (start .pre .3) (omega (arith, done .before .loop .inv .1, start .pre .4)) (done .loop-test .left)
-    (done .before .loop .inv .2) refl (c .log .ensures) (c .before .before .sum .ensures)
+    residual-folded (a .n) _ (at (now (a .theta))) (at (now (a .row))) (at (now (a .sums))) (a .i) _ _ _ (start .pre .3) (omega (arith, done .before .loop .inv .1, start .pre .4)) (done .loop-test .left)
+    (done .before .loop .inv .2) refl (c .sum .ensures)
 
 pub residual-spec : {M : Type 1} → statement M
 residual-spec =
@@ -129,7 +120,4 @@ residual-spec =
     array-share-prefix-terms
     slice-aggregate-sum
     sum-requires
-    mul-log
-    shared-slice-read-log
-    log-requires
     returns)
