@@ -161,6 +161,7 @@ fn excess_gibbs(
     ensures { λ v. ⌜ v ≡ excess n (at (now (r .entry))) (at (now (q .entry))) (grid n (now (e .entry))) (at (now (x .entry))) ⌝ }
 {
     let mut segments = [0.0; 12];
+    // θ_i/φ_i until their logs are taken
     let mut ln_areas = [0.0; 12];
     fill_ratios(n, r, x, rx, theta, &mut segments[..], &mut ln_areas[..]);
     let mut ln_segments = [0.0; 12];

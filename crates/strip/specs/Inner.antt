@@ -1,4 +1,4 @@
--- What the inner functions of a run say. No public contract speaks of it.
+-- What the inner functions of a run say. No contract of `run` or of an exported call speaks of it.
 use Prim.Native.Nat.{ℕ, _+_, _*_, _-_}
 use mathlib.Core.Path.{_≡_}
 use mathlib.Core.Bool.{Bool, _&&_, cond}
