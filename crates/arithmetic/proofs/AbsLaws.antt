@@ -1,4 +1,4 @@
--- |v| compared with a bound, as two comparisons of v. Assumes nothing.
+-- |v| compared with a bound, as two comparisons of v.
 use mathlib.Core.Path.{_≡_, refl, sym, _∙_}
 use mathlib.Core.Bool.{true, false, _&&_, _||_, and-true, or-true, or-false}
 use Prim.Native.Nat.{ℕ, _+_, _*_}

@@ -1,4 +1,4 @@
--- Which bit patterns are NaN, and floats decoded one after the other. Assumes nothing.
+-- Which bit patterns are NaN, and floats decoded one after the other.
 use mathlib.Core.Path.{_≡_, refl, sym, ap, _∙_, subst}
 use mathlib.Core.Bool.{Bool, true, false, not}
 use mathlib.Core.List.{List, [], _∷_, _++_}

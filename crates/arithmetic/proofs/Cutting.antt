@@ -1,4 +1,4 @@
--- What exp's k is cut from is below 1493 in size. Assumes nothing.
+-- What exp's k is cut from is below 1493 in size.
 use mathlib.Core.Bool.{Bool, true, false, not, cond}
 use Prim.Native.Nat.{_*_, _≤_}
 use native.Mathlib.Omega.{arith}

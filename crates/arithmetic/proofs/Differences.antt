@@ -1,4 +1,4 @@
--- Differences of two natural numbers as integers, and the float that 53 digits and an exponent stand for. Assumes nothing.
+-- Differences of two natural numbers as integers, and the float that 53 digits and an exponent stand for.
 use mathlib.Core.Path.{_≡_, refl, ap, _∙_}
 use mathlib.Core.Logic.{_⊎_, inl, inr}
 use mathlib.Core.Bool.{Bool, true, false, not}

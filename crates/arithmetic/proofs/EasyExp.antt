@@ -1,4 +1,4 @@
--- Where v is easy, exp's k is the whole number nearest to v over ln 2: Nearest, for u = 1/ln 2·v. Assumes nothing.
+-- Where v is easy, exp's k is the whole number nearest to v over ln 2: Nearest, for u = 1/ln 2·v.
 use mathlib.Core.Path.{_≡_, refl, sym, ap, _∙_, subst}
 use mathlib.Core.Bool.{Bool, true, false, _&&_, cond}
 use mathlib.Core.Logic.{_⊎_, inl, inr}

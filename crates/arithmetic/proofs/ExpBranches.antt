@@ -1,4 +1,4 @@
--- Which line of `expOf` holds, by the tests that led there. Assumes nothing.
+-- Which line of `expOf` holds, by the tests that led there.
 use mathlib.Core.Path.{_≡_, refl, sym, subst}
 use mathlib.Core.Bool.{true, false, _&&_}
 use lib.Dec.{T}

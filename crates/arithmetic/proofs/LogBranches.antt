@@ -1,4 +1,4 @@
--- Which line of `logOf` holds, by the tests that led there. Assumes nothing.
+-- Which line of `logOf` holds, by the tests that led there.
 use mathlib.Core.Path.{_≡_, refl, sym, _∙_, subst}
 use mathlib.Core.Bool.{Bool, true, false, _&&_, true≢false}
 use Prim.Native.Nat.{_+_, _*_, _/_, _^_}

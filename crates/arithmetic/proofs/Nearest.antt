@@ -1,5 +1,5 @@
 -- u + 1.5·2^52 - 1.5·2^52 is a whole number, and where u is closer to it than the margin, u moved by a half away from zero is cut
--- to it. Assumes nothing.
+-- to it.
 use mathlib.Core.Path.{_≡_, refl, sym, ap, _∙_, subst}
 use mathlib.Core.Bool.{Bool, true, false, not, cond, true≢false}
 use mathlib.Core.Logic.{_⊎_, inl, inr}

@@ -1,4 +1,4 @@
--- Rounding and signs, sums that are scaled, and what is rounded near 1.5·2^52. Assumes nothing.
+-- Rounding and signs, sums that are scaled, and what is rounded near 1.5·2^52.
 use mathlib.Core.Path.{_≡_, refl, sym, ap, _∙_, subst}
 use mathlib.Core.Bool.{Bool, true, false, not, _&&_, cond}
 use Prim.Native.Nat.{ℕ, zero, suc, _+_, _-_, _*_, _%_, _^_, _≤_, _<_}

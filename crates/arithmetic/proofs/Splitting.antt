@@ -1,8 +1,8 @@
--- The specification's m lies at M or above and below 2·M, and m · 2^k is v. Assumes nothing.
+-- The specification's m lies at M or above and below 2·M, and m · 2^k is v.
 use mathlib.Core.Path.{_≡_, refl, sym, ap, _∙_, subst}
 use mathlib.Core.Logic.{inl, inr}
 use mathlib.Core.Bool.{Bool, true, false, cond, _||_, _&&_, true≢false}
-use Prim.Native.Nat.{ℕ, zero, suc, _+_, _-_, _*_, _^_, _≤_, _<_}
+use Prim.Native.Nat.{ℕ, zero, suc, _-_, _*_, _^_, _≤_, _<_}
 use native.Mathlib.Nat.{pow-succ', le-antisymm, eq-or-lt-of-le, mul-le-mul-left, mul-le-mul-right, mul-lt-mul-of-pos-right, mul-assoc, mul-comm, mul-left-comm, mul-right-comm}
 use lib.Pow.{pow-pos, pow-mono}
 use lib.Signed.{ltZ}

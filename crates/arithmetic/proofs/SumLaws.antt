@@ -1,4 +1,4 @@
--- Left folds: none, one more, all of them, and equal terms. Assumes nothing.
+-- Left folds: none, one more, all of them, and equal terms.
 use mathlib.Core.Path.{_≡_, refl, ap}
 use Prim.Native.Nat.{ℕ, zero, suc, _+_, _<_, _≤_}
 use native.Mathlib.Nat.{le-antisymm}

@@ -1,4 +1,4 @@
--- Places of a table by full rows, an array that a loop fills, and the entries of a part. Assumes nothing.
+-- Places of a table by full rows, an array that a loop fills, and the entries of a part.
 use mathlib.Core.Path.{_≡_, refl, sym, ap, _∙_}
 use mathlib.Core.List.{List, _++_}
 use Prim.Native.Nat.{ℕ, _+_, _*_, _/_, _%_, _-_, _<_, _≤_}

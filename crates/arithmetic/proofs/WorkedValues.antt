@@ -1,6 +1,6 @@
 -- Document 01's worked values of exp and log, over the definitions. antt computes an operation on two written-out numbers at
 -- once, but shares nothing: an operation on the result of another computes that one many times over. So log 2 goes step by
--- step, with each number written out. Assumes nothing.
+-- step, with each number written out.
 use mathlib.Core.Path.{_≡_, refl}
 use mathlib.Core.Bool.{true, false}
 use lib.IntN.{pos, negsuc}

@@ -1,5 +1,5 @@
 -- Two holdings that agree at the names that their model has: they stay so under a setting, and have the same cells and
--- refusals. Memory and book are such a pair. Assumes nothing.
+-- refusals. Memory and book are such a pair.
 use mathlib.Core.Path.{_≡_, refl, _∙_}
 use mathlib.Core.Bool.{true}
 use mathlib.Core.Logic.{inl, inr}

@@ -1,4 +1,4 @@
--- Blocks of cells: which block the cells of a model are, and those that a setting makes stale. Assumes nothing.
+-- Blocks of cells: which block the cells of a model are, and those that a setting makes stale.
 use mathlib.Core.Path.{_≡_, refl, sym, _∙_}
 use mathlib.Core.Bool.{Bool, true, false, not, _&&_, _||_, and-true, and-false}
 use mathlib.Core.List.{List}

@@ -1,5 +1,5 @@
 -- A call is refused with its number, or leaves what it leaves where that is 0; and what a head that passes has shown.
--- Assumes nothing.
+--
 use mathlib.Core.Path.{_≡_, refl, sym, _∙_}
 use mathlib.Core.Bool.{Bool, true, false, _&&_, cond}
 use mathlib.Core.List.{List, _++_}

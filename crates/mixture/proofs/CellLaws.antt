@@ -1,5 +1,5 @@
 -- A cell goes by its inputs alone, so a setting that doesn't make it stale leaves its exponential; what the mixture makes
--- stale is what has an input set; and values go by the cells. Assumes nothing.
+-- stale is what has an input set; and values go by the cells.
 use mathlib.Core.Path.{_≡_, refl, sym, ap, subst, subst⁻¹}
 use mathlib.Core.Bool.{true, false, _&&_, _||_, or-false}
 use mathlib.Core.Logic.{inl, inr}

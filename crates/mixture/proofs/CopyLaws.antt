@@ -1,4 +1,4 @@
--- A copy place after place, and one into zeros. Assumes nothing.
+-- A copy place after place, and one into zeros.
 use mathlib.Core.Path.{_≡_, refl, sym, _∙_}
 use mathlib.Core.List.{List, _++_}
 use Prim.Native.Nat.{ℕ, zero, suc, _+_, _-_, _<_, _≤_}

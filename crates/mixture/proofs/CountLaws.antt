@@ -1,4 +1,4 @@
--- How many cells a model has, and how many of them a setting makes stale: all, a row's n - 1, or at most one. Assumes nothing.
+-- How many cells a model has, and how many of them a setting makes stale: all, a row's n - 1, or at most one.
 use mathlib.Core.Path.{_≡_, refl, sym, _∙_, subst}
 use mathlib.Core.Bool.{Bool, true, false, not, _&&_, _||_, cond, and-true, and-false, or-false}
 use mathlib.Core.Logic.{inl, inr}

@@ -1,6 +1,6 @@
 -- Demand 3. Memory and head keep what the book holds: the values by name, T and fractions, and of every cell whether it
 -- was touched since the last answered query and, if not, its exponential. Each call keeps that and answers as the book
--- does, so every list of calls does. Assumes nothing.
+-- does, so every list of calls does.
 use mathlib.Core.Path.{_≡_, refl, sym, ap, ap₂, _∙_, subst}
 use mathlib.Core.Bool.{Bool, true, false, not, _&&_, _||_, cond, Bool·not-not}
 use mathlib.Core.List.{List, [], _∷_}

@@ -1,4 +1,4 @@
--- Lists written at places, padded lists, and counts by rows or in one run. Assumes nothing.
+-- Lists written at places, padded lists, and counts by rows or in one run.
 use mathlib.Core.Path.{_≡_, refl, ap}
 use mathlib.Core.Bool.{Bool, true, false, _||_, cond}
 use mathlib.Core.List.{List, [], _∷_, _++_}

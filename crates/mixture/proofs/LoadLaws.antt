@@ -1,4 +1,4 @@
--- Two data whose values are equal over the model's length hold the same by name: every name is read within it. Assumes nothing.
+-- Two data whose values are equal over the model's length hold the same by name: every name is read within it.
 use mathlib.Core.Path.{_≡_, refl, sym, _∙_}
 use mathlib.Core.Bool.{true, false}
 use mathlib.Core.List.{List, [], _++_}

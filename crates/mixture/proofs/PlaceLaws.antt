@@ -1,5 +1,5 @@
 -- The lent memory's places: a name is read where a setting of it is stored, names have places of their own, and all
--- of them stand within the model's values. Assumes nothing.
+-- of them stand within the model's values.
 use mathlib.Core.Path.{_≡_, refl, sym, ap, _∙_}
 use mathlib.Core.Bool.{Bool, true, false, _&&_, cond}
 use mathlib.Core.List.{List, [], _∷_}

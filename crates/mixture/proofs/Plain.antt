@@ -1,5 +1,5 @@
 -- The plain call on a book's holdings: written out in the strip's order they are read back by name, and a book that calls
--- made passes every check. Assumes nothing.
+-- made passes every check.
 use mathlib.Core.Path.{_≡_, refl, sym, ap, _∙_, subst}
 use mathlib.Core.Bool.{Bool, true, false, _&&_, cond}
 use mathlib.Core.List.{List, [], _∷_, _++_}

@@ -1,5 +1,5 @@
 -- What range checks show: an accepted load is in range, and a head in range has its values and cells within the least
--- lengths of the slices. Assumes nothing.
+-- lengths of the slices.
 use mathlib.Core.Path.{_≡_, refl, sym, _∙_}
 use mathlib.Core.Bool.{Bool, true, false, _&&_, _||_}
 use mathlib.Core.List.{List}

@@ -1,4 +1,4 @@
--- Stale cells worked out place by place, row by row through parts, are `written` and `howMany` over all of them. Assumes nothing.
+-- Stale cells worked out place by place, row by row through parts, are `written` and `howMany` over all of them.
 use mathlib.Core.Path.{_≡_, refl, sym, ap, _∙_, subst}
 use mathlib.Core.Bool.{Bool, true, false, _&&_, cond, and-false}
 use mathlib.Core.List.{List, [], _∷_, _++_, append-nil}

@@ -1,4 +1,4 @@
--- Rows written out one after the other are read back at their places. Assumes nothing.
+-- Rows written out one after the other are read back at their places.
 use mathlib.Core.Path.{_≡_, refl, sym, _∙_, subst}
 use mathlib.Core.List.{List, [], _∷_, _++_}
 use mathlib.Core.Logic.{inl, inr}

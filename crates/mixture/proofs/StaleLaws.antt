@@ -1,4 +1,4 @@
--- Marks written 0 place after place and row after row, as a list written at the places that pass. Assumes nothing.
+-- Marks written 0 place after place and row after row, as a list written at the places that pass.
 use mathlib.Core.Path.{_≡_, refl, sym, ap, _∙_}
 use mathlib.Core.Bool.{Bool, true, false, not, _&&_, _||_, cond, or-false, or-true, and-false}
 use mathlib.Core.List.{List, [], _∷_}

@@ -1,5 +1,5 @@
 -- A setting stored in the lent values replaces, of all the names that the model has, the one that it names: names have
--- places of their own. Assumes nothing.
+-- places of their own.
 use mathlib.Core.Path.{_≡_, refl, sym, _∙_}
 use mathlib.Core.Bool.{true, _&&_}
 use mathlib.Core.List.{List, []}

@@ -1,4 +1,4 @@
--- Demand 1, on any memory and with any head: each call is a refusal that leaves all, or writes by place. Assumes nothing.
+-- Demand 1, on any memory and with any head: each call is a refusal that leaves all, or writes by place.
 use mathlib.Core.Path.{_≡_, refl, sym, _∙_, subst}
 use mathlib.Core.Bool.{Bool, false, _&&_, and-true}
 use mathlib.Core.List.{List, [], _++_}

@@ -1,5 +1,5 @@
 -- What an accepted load brings is what the book's holdings are written out to: each part of the values is read in its
--- order. Assumes nothing.
+-- order.
 use mathlib.Core.Path.{_≡_, refl, _∙_}
 use mathlib.Core.List.{List}
 use Prim.Native.Nat.{ℕ, zero, suc, _+_, _*_, _≤_}

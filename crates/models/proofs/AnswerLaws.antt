@@ -1,5 +1,5 @@
 -- Answers and the first fault of several, over plain variables: a proof hands over what its callees ensure and what its tests found.
--- Assumes nothing.
+--
 use mathlib.Core.Path.{_≡_, refl, ap}
 use mathlib.Core.Bool.{Bool, true, false, cond, and-false}
 use mathlib.Core.Logic.{⊎-elim}

@@ -1,4 +1,4 @@
--- Column sums that grow row by row: none, one more row, all rows, and equal entries. Assumes nothing.
+-- Column sums that grow row by row: none, one more row, all rows, and equal entries.
 use mathlib.Core.Path.{_≡_, refl, sym, ap, _∙_}
 use mathlib.Core.List.{List}
 use mathlib.Core.Logic.{inl, inr}

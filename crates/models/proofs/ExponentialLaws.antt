@@ -1,4 +1,4 @@
--- What an entry E_ij reads, the rows of arguments that make a table, and exp of each place. Assumes nothing.
+-- What an entry E_ij reads, the rows of arguments that make a table, and exp of each place.
 use mathlib.Core.Path.{_≡_, refl, sym, ap, _∙_}
 use mathlib.Core.Bool.{Bool, true, false, cond}
 use mathlib.Core.List.{List, _++_}

@@ -1,4 +1,4 @@
--- Fractions in bytes: their sum and their faults, over plain variables. Assumes nothing.
+-- Fractions in bytes: their sum and their faults, over plain variables.
 use mathlib.Core.Path.{_≡_, refl, sym, ap, _∙_}
 use mathlib.Core.Bool.{Bool, true, false, _&&_, cond, true≢false}
 use mathlib.Core.List.{List}

@@ -1,5 +1,5 @@
 -- Group lists that stand list after list: where they start, that their places lie within the slices, and sums kept for
--- every group at once. Assumes nothing.
+-- every group at once.
 use mathlib.Core.Path.{_≡_, refl, sym, ap, _∙_}
 use mathlib.Core.Bool.{Bool, true, false, _&&_, cond, and-false}
 use mathlib.Core.Logic.{⊎-elim}

@@ -1,4 +1,4 @@
--- NRTL: rows lent as parts, sums worked out once, and equal entries give equal values. Assumes nothing.
+-- NRTL: rows lent as parts, sums worked out once, and equal entries give equal values.
 use mathlib.Core.Path.{_≡_, refl, _∙_}
 use mathlib.Core.List.{List}
 use mathlib.Core.Logic.{inl, inr}

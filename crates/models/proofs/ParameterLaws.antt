@@ -1,4 +1,4 @@
--- Entries of five, read off a part. Assumes nothing.
+-- Entries of five, read off a part.
 use mathlib.Core.Path.{_≡_, ap, _∙_}
 use mathlib.Core.List.{List}
 use Prim.Native.Nat.{ℕ, _+_, _<_, _≤_}

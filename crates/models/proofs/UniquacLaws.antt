@@ -1,5 +1,5 @@
 -- UNIQUAC's values go by r, q and x below n and by E off the diagonal alone; what is worked out once is as in the
--- definition. Assumes nothing.
+-- definition.
 use mathlib.Core.Path.{_≡_, refl, _∙_}
 use mathlib.Core.List.{List}
 use Prim.Native.Nat.{ℕ, _+_, _*_, _<_, _≤_}

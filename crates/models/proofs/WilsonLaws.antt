@@ -1,5 +1,5 @@
 -- Wilson's values go by V and x below n and by E off the diagonal alone; sums that are worked out once are those of the
--- definition. Assumes nothing.
+-- definition.
 use mathlib.Core.Path.{_≡_, refl, sym, _∙_}
 use mathlib.Core.List.{List}
 use Prim.Native.Nat.{ℕ, _+_, _*_, _<_, _≤_}

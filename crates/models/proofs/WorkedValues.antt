@@ -1,5 +1,5 @@
 -- Document 01's worked values hold: exp and log by arithmetic's facts, the checks by computing each sum step by step.
--- Assumes nothing.
+--
 use mathlib.Core.Path.{_≡_, refl}
 use mathlib.Core.Bool.{false}
 use mathlib.Core.List.{[], _∷_}

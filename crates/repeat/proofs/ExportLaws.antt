@@ -1,4 +1,4 @@
--- The steps of the exported call, over plain variables: a call after another, one more turn, all turns. Assumes nothing.
+-- The steps of the exported call, over plain variables: a call after another, one more turn, all turns.
 use mathlib.Core.Path.{_≡_, refl, ap, _∙_}
 use mathlib.Core.List.{List}
 use Prim.Native.Nat.{ℕ, suc, _+_, _-_, _*_, _/_, _≤_}

@@ -1,4 +1,4 @@
--- What a record shows of its floats and lists, and the call that it makes. Assumes nothing.
+-- What a record shows of its floats and lists, and the call that it makes.
 use Prim.Native.Nat.{ℕ, _+_, _*_, _<_, _≤_}
 use native.Mathlib.Omega.{arith}
 use mathlib.Core.Path.{_≡_, refl, sym, ap, _∙_}

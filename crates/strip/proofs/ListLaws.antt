@@ -1,4 +1,4 @@
--- A kind 4's lists: where they end, how many there are, and how they are stored in three buffers. Assumes nothing.
+-- A kind 4's lists: where they end, how many there are, and how they are stored in three buffers.
 use Prim.Native.Nat.{ℕ, zero, suc, _+_, _*_, _-_, _<_, _≤_}
 use native.Mathlib.Nat.{add-zero, zero-add}
 use native.Mathlib.Omega.{arith}

@@ -1,4 +1,4 @@
--- The shape of each kind, and the record at a place. Assumes nothing.
+-- The shape of each kind, and the record at a place.
 use Prim.Native.Nat.{ℕ, _+_, _*_, _<_, _≤_}
 use native.Mathlib.Nat.{mul-le-mul}
 use native.Mathlib.Omega.{arith}

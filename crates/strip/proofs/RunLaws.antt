@@ -1,5 +1,5 @@
 -- A walk along the strip: the text from a place on, by the memory and the head; from the opening on it is the book's, by the
--- history theorem. Assumes nothing.
+-- history theorem.
 use Prim.Native.Nat.{ℕ, zero, suc, _+_, _-_, _<_, _≤_}
 use native.Mathlib.Nat.{zero-add}
 use native.Mathlib.Omega.{arith}

@@ -1,4 +1,4 @@
--- Texts stored one after the other, and the digits of numbers. Assumes nothing.
+-- Texts stored one after the other, and the digits of numbers.
 use Prim.Native.Nat.{ℕ, zero, suc, _+_, _-_, _/_, _^_, _<_, _≤_}
 use native.Mathlib.Nat.{add-zero, zero-add, pow-succ', pow-le-pow-right}
 use native.Mathlib.Omega.{arith}

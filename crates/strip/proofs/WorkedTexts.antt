@@ -1,4 +1,4 @@
--- The texts of small strips, as one theorem over the definition. Assumes nothing.
+-- The texts of small strips, as one theorem over the definition.
 use mathlib.Core.Path.{_≡_, refl}
 use mathlib.Core.List.{[], _∷_}
 use Rattle.arithmetic.specs.Bytes.{wordAt, floatsAt}

@@ -1,4 +1,4 @@
--- Runs the strip: the buffer is as long as the longest text, so that it holds this one whole. Assumes nothing.
+-- Runs the strip: the buffer is as long as the longest text, so that it holds this one whole.
 use Prim.Native.Nat.{_≤_}
 use native.Mathlib.Omega.{arith}
 use mathlib.Core.Path.{sym}
@@ -8,9 +8,6 @@ use Rattle.strip.proofs.TextLaws.{put-whole}
 use Rattle.charge.proofs.text.Statement.{statement}
 use Rattle.charge.proofs.text.Tie as tie
 
-run-requires : tie.Need-run-requires
-run-requires c κs = tt
-
 returns : tie.Need-returns
 returns c =
     let p = c .run .ensures in
@@ -18,4 +15,4 @@ returns c =
     ((omega (arith, h, c .run .kept .1 .0), sym (length-take-le (c .run .result) _ (omega (arith, h, c .run .kept .1 .0)))), put-whole (p .0) h)
 
 pub text-spec : {M : Type 1} → statement M
-text-spec = tie.close (tie.spec run-requires returns)
+text-spec = tie.close (tie.spec (λ c κs. tt) returns)

@@ -1,4 +1,4 @@
--- The loop keeps the floats written so far; at its end these are all. Assumes nothing.
+-- The loop keeps the floats written so far; at its end these are all.
 use Rattle.arithmetic.proofs.ByteLaws.{floats-done}
 use lib.ListN.{take, length-set}
 use Rattle.arithmetic.specs.Bytes.{floatsAt}
@@ -21,34 +21,10 @@ loop-holds : tie.Need-loop-holds Inv-loop μ-loop
 unfolding floatsAt
 loop-holds c = (omega arith, refl, refl)
 
-mul-float-at : tie.Need-mul-float-at Inv-loop μ-loop
-mul-float-at c = omega arith
-
-add-float-at : tie.Need-add-float-at Inv-loop μ-loop
-add-float-at c = omega arith
-
-float-at-requires : tie.Need-float-at-requires Inv-loop μ-loop
-float-at-requires c κs = search needs
-
-mul-a : tie.Need-mul-a Inv-loop μ-loop
-mul-a c = omega arith
-
-slice-write-a : tie.Need-slice-write-a Inv-loop μ-loop
-slice-write-a c = omega arith
-
-add-k : tie.Need-add-k Inv-loop μ-loop
-add-k c = omega arith
-
-loop-less : tie.Need-loop-less Inv-loop μ-loop
-loop-less c = omega arith
-
 loop-again : tie.Need-loop-again Inv-loop μ-loop
 loop-again c =
     let l = c .before .before .loop in
     (omega arith, simp length-set (l .inv .1), floats-more _ _ (l .a) (l .k) _ (omega arith) (l .inv .2) (c .float-at .ensures))
-
-same-length : tie.Need-same-length Inv-loop μ-loop
-same-length c = search needs
 
 returns : tie.Need-returns Inv-loop μ-loop
 returns c =
@@ -62,13 +38,13 @@ fill-floats-spec =
     Inv-loop
     μ-loop
     loop-holds
-    mul-float-at
-    add-float-at
-    float-at-requires
-    mul-a
-    slice-write-a
-    add-k
-    loop-less
+    (λ c. omega arith)
+    (λ c. omega arith)
+    (λ c κs. search needs)
+    (λ c. omega arith)
+    (λ c. omega arith)
+    (λ c. omega arith)
+    (λ c. omega arith)
     loop-again
-    same-length
+    (λ c. search needs)
     returns)

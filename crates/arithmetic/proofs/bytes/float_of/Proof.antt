@@ -1,4 +1,4 @@
--- A NaN pattern is told by its value, and the others are read as they are. Assumes nothing.
+-- A NaN pattern is told by its value, and the others are read as they are.
 use lib.Ieee.{ofBits, div}
 use Rattle.arithmetic.proofs.ByteLaws.{pattern-nan, pattern-no-nan}
 use mathlib.Core.Path.{sym}
@@ -13,8 +13,5 @@ returns c = sym (pattern-nan (c .before .args .b) (c .if1 .taken))
 float-from-bits-result : tie.Need-float-from-bits-result
 float-from-bits-result c = pattern-no-nan (c .before .args .b) (c .if1 .left)
 
-returns-2 : tie.Need-returns-2
-returns-2 c = search needs
-
 pub float-of-spec : {M : Type 1} → statement M
-float-of-spec = tie.close (tie.spec returns float-from-bits-result returns-2)
+float-of-spec = tie.close (tie.spec returns float-from-bits-result (λ c. search needs))

@@ -1,4 +1,4 @@
--- Each return is the line of `expOf` that the tests on the way pick. Assumes nothing.
+-- Each return is the line of `expOf` that the tests on the way pick.
 use mathlib.Core.Path.{_≡_, refl, sym, ap, _∙_, subst}
 use mathlib.Core.Bool.{Bool, true, false, not, _&&_}
 use mathlib.Core.Logic.{⊎-elim}
@@ -71,12 +71,6 @@ returns-4 c =
 exponent-requires : tie.Need-exponent-requires
 exponent-requires c κs = inside c
 
-nearest-i64-to-f64-requires : tie.Need-nearest-i64-to-f64-requires
-nearest-i64-to-f64-requires c κs = tt
-
-reduced-requires : tie.Need-reduced-requires
-reduced-requires c κs = tt
-
 near-k : (c : tie.After-exponent) → Near (c .exponent .result)
 unfolding exponent
 near-k c = rw (c .exponent .ensures) (near _ (cut-within _ (inside (c .before))))
@@ -109,7 +103,7 @@ careful-exp-spec =
     returns-3
     returns-4
     exponent-requires
-    nearest-i64-to-f64-requires
-    reduced-requires
+    (λ c κs. tt)
+    (λ c κs. tt)
     scaled-requires
     returns-5)

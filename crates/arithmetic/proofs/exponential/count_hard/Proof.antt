@@ -1,4 +1,4 @@
--- No place passed is hard while the count is 0. Assumes nothing.
+-- No place passed is hard while the count is 0.
 use mathlib.Core.Path.{_≡_}
 use Prim.Native.Nat.{ℕ, _-_, _≤_, _<_}
 use native.Mathlib.Omega.{arith}
@@ -17,24 +17,6 @@ abbrev μ-loop : tie.MeasureT-loop
 loop-holds : tie.Need-loop-holds Inv-loop μ-loop
 loop-holds c = (omega arith, omega arith, λ z j h. absurd (omega arith))
 
-mul-hard : tie.Need-mul-hard Inv-loop μ-loop
-mul-hard c = omega arith
-
-shared-slice-read-hard : tie.Need-shared-slice-read-hard Inv-loop μ-loop
-shared-slice-read-hard c = omega arith
-
-hard-requires : tie.Need-hard-requires Inv-loop μ-loop
-hard-requires c κs = tt
-
-add-count : tie.Need-add-count Inv-loop μ-loop
-add-count c = omega arith
-
-add-k : tie.Need-add-k Inv-loop μ-loop
-add-k c = omega arith
-
-loop-less : tie.Need-loop-less Inv-loop μ-loop
-loop-less c = omega arith
-
 loop-again : tie.Need-loop-again Inv-loop μ-loop
 loop-again c =
     let top = c .before .before .before in
@@ -52,11 +34,11 @@ count-hard-spec =
     Inv-loop
     μ-loop
     loop-holds
-    mul-hard
-    shared-slice-read-hard
-    hard-requires
-    add-count
-    add-k
-    loop-less
+    (λ c. omega arith)
+    (λ c. omega arith)
+    (λ c κs. tt)
+    (λ c. omega arith)
+    (λ c. omega arith)
+    (λ c. omega arith)
     loop-again
     returns)

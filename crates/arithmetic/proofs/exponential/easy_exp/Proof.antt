@@ -1,4 +1,4 @@
--- The float n is k, so each return is the line of `expOf` that the last tests pick. Assumes nothing.
+-- The float n is k, so each return is the line of `expOf` that the last tests pick.
 use mathlib.Core.Path.{_≡_, ap, _∙_}
 use mathlib.Core.Bool.{Bool, true, false, _&&_}
 use lib.IntN.{negsuc}
@@ -17,12 +17,6 @@ use Rattle.arithmetic.proofs.exponential.easy_exp.Tie as tie
 n-is : (c : tie.After-nearest) → c .nearest .result ≡ nearest (reciprocal ⊗ c .before .args .v)
 unfolding reciprocal dec round ofBits
 n-is c = c .nearest .ensures
-
-nearest-requires : tie.Need-nearest-requires
-nearest-requires c κs = tt
-
-reduced-requires : tie.Need-reduced-requires
-reduced-requires c κs = tt
 
 float-to-int-power : tie.Need-float-to-int-power
 float-to-int-power c = let n = c .before .before in as-whole (n .before .args .v) (found _ (n .before .pre)) (n .nearest .result) (n-is n)
@@ -84,8 +78,8 @@ pub easy-exp-spec : {M : Type 1} → statement M
 easy-exp-spec =
     tie.close
     (tie.spec
-    nearest-requires
-    reduced-requires
+    (λ c κs. tt)
+    (λ c κs. tt)
     float-to-int-power
     cast-power
     power-requires

@@ -1,4 +1,4 @@
--- What is cut is below 1,493 in size, so it fits an i64. Assumes nothing.
+-- What is cut is below 1,493 in size, so it fits an i64.
 use mathlib.Core.Path.{_≡_, sym, ap, _∙_, subst}
 use mathlib.Core.Logic.{⊎-elim}
 use mathlib.Core.Bool.{Bool, true, false, cond}

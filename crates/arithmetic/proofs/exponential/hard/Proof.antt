@@ -1,4 +1,4 @@
--- 0 is given only where all four tests passed, which are what easy means. Assumes nothing.
+-- 0 is given only where all four tests passed, which are what easy means.
 use mathlib.Core.Path.{_≡_, sym, subst}
 use mathlib.Core.Bool.{Bool, true}
 use native.Mathlib.Omega.{arith}
@@ -9,9 +9,6 @@ use Rattle.arithmetic.specs.Exponential.{reciprocal}
 use Rattle.arithmetic.specs.Nearest.{margin}
 use Rattle.arithmetic.proofs.exponential.hard.Statement.{statement}
 use Rattle.arithmetic.proofs.exponential.hard.Tie as tie
-
-nearest-requires : tie.Need-nearest-requires
-nearest-requires c κs = tt
 
 passed : (b : Bool) → b ≡ true → T b
 passed b e = subst T (sym e) tt
@@ -45,4 +42,4 @@ returns-5 : tie.Need-returns-5
 returns-5 c = (omega arith, λ e. absurd (omega arith))
 
 pub hard-spec : {M : Type 1} → statement M
-hard-spec = tie.close (tie.spec nearest-requires returns returns-2 returns-3 returns-4 returns-5)
+hard-spec = tie.close (tie.spec (λ c κs. tt) returns returns-2 returns-3 returns-4 returns-5)

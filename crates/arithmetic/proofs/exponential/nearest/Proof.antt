@@ -1,4 +1,4 @@
--- The code is the definition. Assumes nothing.
+-- The code is the definition.
 use mathlib.Core.Path.{refl}
 use lib.Ieee.{ofBits}
 use Rattle.arithmetic.specs.Nearest.{nearest}

@@ -1,4 +1,4 @@
--- The bits are the biased exponent with no digits below it, which is 2^k. Assumes nothing.
+-- The bits are the biased exponent with no digits below it, which is 2^k.
 use native.Mathlib.Omega.{arith}
 use lib.Ieee.{isNan}
 use lib.Ieee.Bits.{nanBits-is}

@@ -1,4 +1,4 @@
--- Each branch multiplies by the powers that `scaled` names; k stays in the range that `power` takes. Assumes nothing.
+-- Each branch multiplies by the powers that `scaled` names; k stays in the range that `power` takes.
 use borrow.Author.Needs.{needs}
 use mathlib.Core.Path.{_≡_, ap, _∙_}
 use mathlib.Core.Bool.{true, false}
@@ -28,9 +28,6 @@ is-under c = rw (back (c .before .before)) at (c .if2 .taken)
 not-under : (c : tie.Else2) → ltZ (c .before .before .args .k) (negsuc 1021) ≡ false
 not-under c = rw (back (c .before .before)) at (c .if2 .left)
 
-power-requires : tie.Need-power-requires
-power-requires c κs = search needs
-
 sub-power : tie.Need-sub-power
 sub-power c = let s = c .before .before in rw (back s) (over (s .args .k) (s .pre) (is-over (c .before)) .1)
 
@@ -57,9 +54,6 @@ power-requires-3 c κs =
     let n = under (s .args .k) (s .pre) (is-under c) in
     rw (back s, toZ-ofZ w64 (s .args .k +ℤ pos 1000) (n .1)) (n .0)
 
-power-requires-4 : tie.Need-power-requires-4
-power-requires-4 c κs = search needs
-
 returns-2 : tie.Need-returns-2
 returns-2 c =
     let s = c .before .before .before .before in
@@ -82,13 +76,13 @@ pub scaled-spec : {M : Type 1} → statement M
 scaled-spec =
     tie.close
     (tie.spec
-    power-requires
+    (λ c κs. search needs)
     sub-power
     power-requires-2
     returns
     add-power
     power-requires-3
-    power-requires-4
+    (λ c κs. search needs)
     returns-2
     power-requires-5
     returns-3)

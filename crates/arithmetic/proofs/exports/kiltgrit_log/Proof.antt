@@ -1,12 +1,9 @@
--- Calls log, and promises what log does. Assumes nothing.
+-- Calls log, and promises what log does.
 use Rattle.arithmetic.proofs.exports.kiltgrit_log.Statement.{statement}
 use Rattle.arithmetic.proofs.exports.kiltgrit_log.Tie as tie
-
-log-requires : tie.Need-log-requires
-log-requires c κs = tt
 
 returns : tie.Need-returns
 returns c = c .log .ensures
 
 pub kiltgrit-log-spec : {M : Type 1} → statement M
-kiltgrit-log-spec = tie.close (tie.spec log-requires returns)
+kiltgrit-log-spec = tie.close (tie.spec (λ c κs. tt) returns)

@@ -1,4 +1,4 @@
--- Each return is the line of `logOf` that the tests on the way pick. Assumes nothing.
+-- Each return is the line of `logOf` that the tests on the way pick.
 use mathlib.Core.Path.{_≡_, sym, _∙_, subst}
 use mathlib.Core.Bool.{Bool, false, not}
 use Prim.Native.Nat.{ℕ, suc, _+_, _-_, _*_, _%_, _^_, _<_}

@@ -1,4 +1,4 @@
--- Each place takes log of what stood there; the places from n on stay. Assumes nothing.
+-- Each place takes log of what stood there; the places from n on stay.
 use mathlib.Core.Path.{_≡_, refl, ap, _∙_}
 use Prim.Native.Nat.{_-_, _≤_}
 use native.Mathlib.Nat.{le-antisymm}
@@ -19,27 +19,6 @@ abbrev μ-loop : tie.MeasureT-loop
 loop-holds : tie.Need-loop-holds Inv-loop μ-loop
 loop-holds c = (omega arith, refl, upto-none _ _ _)
 
-mul-log : tie.Need-mul-log Inv-loop μ-loop
-mul-log c = omega arith
-
-slice-read-log : tie.Need-slice-read-log Inv-loop μ-loop
-slice-read-log c = omega arith
-
-log-requires : tie.Need-log-requires Inv-loop μ-loop
-log-requires c κs = tt
-
-mul-a : tie.Need-mul-a Inv-loop μ-loop
-mul-a c = omega arith
-
-slice-write-a : tie.Need-slice-write-a Inv-loop μ-loop
-slice-write-a c = omega arith
-
-add-k : tie.Need-add-k Inv-loop μ-loop
-add-k c = omega arith
-
-loop-less : tie.Need-loop-less Inv-loop μ-loop
-loop-less c = omega arith
-
 loop-again : tie.Need-loop-again Inv-loop μ-loop
 loop-again c =
     let top = c .before .before .before in
@@ -58,13 +37,13 @@ each-careful-spec =
     Inv-loop
     μ-loop
     loop-holds
-    mul-log
-    slice-read-log
-    log-requires
-    mul-a
-    slice-write-a
-    add-k
-    loop-less
+    (λ c. omega arith)
+    (λ c. omega arith)
+    (λ c κs. tt)
+    (λ c. omega arith)
+    (λ c. omega arith)
+    (λ c. omega arith)
+    (λ c. omega arith)
     loop-again
     same-length
     returns)

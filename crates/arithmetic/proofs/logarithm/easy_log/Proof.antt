@@ -1,4 +1,4 @@
--- The digits and the exponent's field make the last line of `logOf`; 1 has its own. Assumes nothing.
+-- The digits and the exponent's field make the last line of `logOf`; 1 has its own.
 use borrow.Author.Needs.{needs}
 use mathlib.Core.Path.{_≡_, sym, _∙_, subst}
 use mathlib.Core.Bool.{Bool, not}
@@ -30,9 +30,6 @@ module _ (c : tie.Start) where
   x-is : toBits binary64 (c .args .v) / 4503599627370496 + 52 ≡ suc (parts .z + parts .E)
   unfolding v
   x-is = normal-x (c .args .v) (parts .m) (parts .z) (parts .E) (parts .is) (parts .o) (parts .lo) (parts .hi) (parts .Z) (c .pre .field)
-
-add-from-digits : tie.Need-add-from-digits
-add-from-digits c = search needs
 
 add-from-digits-2 : tie.Need-add-from-digits-2
 add-from-digits-2 c = let a = x-is c in let h = parts c .near in record { fits = omega arith }
@@ -68,7 +65,7 @@ easy-log-spec =
     tie.close
     (tie.spec
     float-to-bits-b
-    add-from-digits
+    (λ c. search needs)
     add-from-digits-2
     from-digits-requires
     returns

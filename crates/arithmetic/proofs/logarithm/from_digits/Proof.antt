@@ -1,4 +1,4 @@
--- The bits put the 53 digits below the exponent of 1 or of 1/2, by the test against the digits of M. Assumes nothing.
+-- The bits put the 53 digits below the exponent of 1 or of 1/2, by the test against the digits of M.
 use mathlib.Core.Path.{_≡_, refl, _∙_}
 use mathlib.Core.Bool.{Bool, true, false, cond}
 use Prim.Native.Nat.{ℕ, suc, _*_, _<_}
@@ -57,9 +57,6 @@ bias-at c = c .bias .ensures ∙ bias-is (test (c .before .args .q))
 places-at : (c : tie.After-places) → toZ w32 (ofZ w32 (c .places .result)) ≡ pos (suc (short (test (c .before .before .args .q))))
 places-at c = toZ-ofZ w32 (c .places .result) (record { sfits = c .places .ok }) ∙ c .places .ensures ∙ places-is (test (c .before .before .args .q))
 
-bias-requires : tie.Need-bias-requires
-bias-requires c κs = tt
-
 add-log-by : tie.Need-add-log-by
 add-log-by c =
     let b = bias-at c in
@@ -71,19 +68,10 @@ float-from-bits-log-by c =
     let a = c .before in
     rw (bias-at c) (digits-no-nan (a .args .q) (field (test (a .args .q))) (a .pre .0) (a .pre .1) (field-lt (test (a .args .q))))
 
-cast-log-by : tie.Need-cast-log-by
-cast-log-by c = search needs
-
-places-requires : tie.Need-places-requires
-places-requires c κs = tt
-
 sub-log-by : tie.Need-sub-log-by
 sub-log-by c =
     let a = c .before .before in
     rw (places-at c) (diff-fits (a .args .x) (short (test (a .args .q))) (a .pre .2) (short-lt (test (a .args .q))))
-
-log-by-requires : tie.Need-log-by-requires
-log-by-requires c κs = tt
 
 returns : tie.Need-returns
 returns c =
@@ -99,11 +87,11 @@ pub from-digits-spec : {M : Type 1} → statement M
 from-digits-spec =
     tie.close
     (tie.spec
-    bias-requires
+    (λ c κs. tt)
     add-log-by
     float-from-bits-log-by
-    cast-log-by
-    places-requires
+    (λ c. search needs)
+    (λ c κs. tt)
     sub-log-by
-    log-by-requires
+    (λ c κs. tt)
     returns)

@@ -1,4 +1,4 @@
--- 0 is given only where all three tests passed, which are what normal means. Assumes nothing.
+-- 0 is given only where all three tests passed, which are what normal means.
 use mathlib.Core.Path.{_≡_, sym, subst}
 use mathlib.Core.Bool.{Bool, true, false, not}
 use native.Mathlib.Omega.{arith}

@@ -1,4 +1,4 @@
--- The code is the definition; k as a float is exact. Assumes nothing.
+-- The code is the definition; k as a float is exact.
 use lib.Ieee.{round, ofBits}
 use mir.Syntax.{w32}
 use mir.ValLaws.{toZ-ofZ}
@@ -8,15 +8,9 @@ use borrow.Author.Needs.{needs}
 use Rattle.arithmetic.proofs.logarithm.log_by.Statement.{statement}
 use Rattle.arithmetic.proofs.logarithm.log_by.Tie as tie
 
-remainder-requires : tie.Need-remainder-requires
-remainder-requires c κs = tt
-
-int-to-float-n : tie.Need-int-to-float-n
-int-to-float-n c = search needs
-
 returns : tie.Need-returns
 unfolding logBy L1 L2 one two half dec round ofBits
 returns c = rw (c .before .remainder .ensures, toZ-ofZ w32 (c .before .before .args .k) (c .before .before .fits .k))
 
 pub log-by-spec : {M : Type 1} → statement M
-log-by-spec = tie.close (tie.spec remainder-requires int-to-float-n returns)
+log-by-spec = tie.close (tie.spec (λ c κs. tt) (λ c. search needs) returns)

@@ -1,4 +1,4 @@
--- The loop keeps the sum of the places passed; at its end these are all. Assumes nothing.
+-- The loop keeps the sum of the places passed; at its end these are all.
 use Rattle.arithmetic.specs.Sums.{sum, total}
 use Rattle.arithmetic.specs.Tables.{at}
 use Rattle.arithmetic.proofs.SumLaws.{sum-none, sum-more, sum-done}
@@ -19,18 +19,6 @@ abbrev μ-loop : tie.MeasureT-loop
 loop-holds : tie.Need-loop-holds Inv-loop μ-loop
 loop-holds c = (omega arith, sum-none _)
 
-mul-s : tie.Need-mul-s Inv-loop μ-loop
-mul-s c = omega arith
-
-shared-slice-read-s : tie.Need-shared-slice-read-s Inv-loop μ-loop
-shared-slice-read-s c = omega arith
-
-add-k : tie.Need-add-k Inv-loop μ-loop
-add-k c = omega arith
-
-loop-less : tie.Need-loop-less Inv-loop μ-loop
-loop-less c = omega arith
-
 loop-again : tie.Need-loop-again Inv-loop μ-loop
 loop-again c = (omega arith, sum-more _ _ (c .before .before .loop .inv .1) refl)
 
@@ -45,9 +33,9 @@ sum-spec =
     Inv-loop
     μ-loop
     loop-holds
-    mul-s
-    shared-slice-read-s
-    add-k
-    loop-less
+    (λ c. omega arith)
+    (λ c. omega arith)
+    (λ c. omega arith)
+    (λ c. omega arith)
     loop-again
     returns)

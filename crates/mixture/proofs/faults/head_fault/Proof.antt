@@ -4,9 +4,6 @@ use mathlib.Core.Path.{sym, _∙_}
 use Rattle.mixture.proofs.faults.head_fault.Statement.{statement}
 use Rattle.mixture.proofs.faults.head_fault.Tie as tie
 
-memory-fault-requires : tie.Need-memory-fault-requires
-memory-fault-requires c κs = tt
-
 returns : tie.Need-returns
 returns c = λ m e. judged-short m _ (c .before .memory-fault .ensures ∙ short-by m e) (c .if1 .taken)
 
@@ -15,9 +12,6 @@ returns-2 c = λ m e. judged-none m _ (sym (short-by m e) ∙ (sym (c .before .b
 
 returns-3 : tie.Need-returns-3
 returns-3 c = λ m e. judged-many m _ (sym (short-by m e) ∙ (sym (c .before .before .before .before .before .memory-fault .ensures) ∙ c .before .before .before .before .if1 .left)) (c .if3 .taken)
-
-in-range-requires : tie.Need-in-range-requires
-in-range-requires c κs = tt
 
 returns-4 : tie.Need-returns-4
 returns-4 c = λ m e. judged-by m _ (sym (short-by m e) ∙ (sym (c .before .before .before .before .before .before .before .memory-fault .ensures) ∙ c .before .before .before .before .before .before .if1 .left)) (c .before .before .before .before .if2 .left) (c .before .before .if3 .left) (sym (c .if4 .taken) ∙ c .before .in-range .ensures m)
@@ -29,10 +23,10 @@ pub head-fault-spec : {M : Type 1} → statement M
 head-fault-spec =
     tie.close
     (tie.spec
-    memory-fault-requires
+    (λ c κs. tt)
     returns
     returns-2
     returns-3
-    in-range-requires
+    (λ c κs. tt)
     returns-4
     returns-5)

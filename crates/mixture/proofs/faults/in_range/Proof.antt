@@ -14,24 +14,6 @@ returns c = λ m. range-not (dataIn m (c .before .args .head)) (simp (lt-leb _ _
 returns-2 : tie.Need-returns-2
 returns-2 c = λ m. range-not (dataIn m (c .before .before .args .head)) (simp (le-leb 1 _ (c .before .if1 .left), lt-leb _ 12 (c .if2 .taken)))
 
-model-of-requires : tie.Need-model-of-requires
-model-of-requires c κs = tt
-
-enum-told : tie.Need-enum-told
-enum-told c = search needs
-
-enum-told-2 : tie.Need-enum-told-2
-enum-told-2 c = search needs
-
-enum-told-3 : tie.Need-enum-told-3
-enum-told-3 c = search needs
-
-enum-told-4 : tie.Need-enum-told-4
-enum-told-4 c = search needs
-
-lists-in-range-requires : tie.Need-lists-in-range-requires
-lists-in-range-requires c κs = search needs
-
 returns-3 : tie.Need-returns-3
 returns-3 c = λ m. range-plain (dataIn m (c .before .before .before .before .before .args .head)) Wilson (sym (c .before .before .model-of .ensures) ∙ c .enum-told .given .1) refl (simp (le-leb 1 _ (c .before .before .before .before .if1 .left), le-leb _ 12 (c .before .before .before .if2 .left)))
 
@@ -50,12 +32,12 @@ in-range-spec =
     (tie.spec
     returns
     returns-2
-    model-of-requires
-    enum-told
-    enum-told-2
-    enum-told-3
-    enum-told-4
-    lists-in-range-requires
+    (λ c κs. tt)
+    (λ c. search needs)
+    (λ c. search needs)
+    (λ c. search needs)
+    (λ c. search needs)
+    (λ c κs. search needs)
     returns-3
     returns-4
     returns-5

@@ -15,23 +15,8 @@ returns c = simp (lt-leb _ _ (c .if1 .taken))
 returns-2 : tie.Need-returns-2
 returns-2 c = simp (le-leb _ _ (c .before .if1 .left), lt-leb _ _ (c .if2 .taken))
 
-slice-aggregate-short : tie.Need-slice-aggregate-short
-slice-aggregate-short c = search needs
-
-short-requires : tie.Need-short-requires
-short-requires c κs = search needs
-
 returns-3 : tie.Need-returns-3
 returns-3 c = simp (le-leb _ _ (c .before .before .before .before .if1 .left), le-leb _ _ (c .before .before .before .if2 .left), sym (c .before .short .ensures) ∙ not-true _ (c .if3 .taken))
-
-slice-aggregate-start-of : tie.Need-slice-aggregate-start-of
-slice-aggregate-start-of c = search needs
-
-start-of-requires : tie.Need-start-of-requires
-start-of-requires c κs = search needs
-
-slice-aggregate-groups-below : tie.Need-slice-aggregate-groups-below
-slice-aggregate-groups-below c = search needs
 
 groups-below-requires : tie.Need-groups-below-requires
 groups-below-requires c κs =
@@ -47,11 +32,11 @@ lists-in-range-spec =
     (tie.spec
     returns
     returns-2
-    slice-aggregate-short
-    short-requires
+    (λ c. search needs)
+    (λ c κs. search needs)
     returns-3
-    slice-aggregate-start-of
-    start-of-requires
-    slice-aggregate-groups-below
+    (λ c. search needs)
+    (λ c κs. search needs)
+    (λ c. search needs)
     groups-below-requires
     returns-4)

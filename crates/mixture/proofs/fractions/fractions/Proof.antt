@@ -13,18 +13,12 @@ memOf s = memory (now (s .args .values)) (now (s .args .cells)) (now (s .args .m
 fault-none : (c : tie.Else1) → fractionsFault (memOf (c .before .before .before .before .before .before)) (c .before .before .before .before .before .before .args .head) (now (c .before .before .before .before .before .before .args .x)) ≡ 0
 fault-none c = sym (c .before .fractions-fault .ensures (memOf (c .before .before .before .before .before .before)) (refl, refl, refl)) ∙ c .if1 .left
 
-fractions-fault-requires : tie.Need-fractions-fault-requires
-fractions-fault-requires c κs = tt
-
 returns : tie.Need-returns
 unfolding afterFractions
 returns c = refused _ _ _ (c .before .fractions-fault .ensures (memOf (c .before .before .before .before .before .before)) (refl, refl, refl)) (c .if1 .taken)
 
 pad-fractions-requires : tie.Need-pad-fractions-requires
 pad-fractions-requires c κs = fractions-fit _ _ _ (fault-none c)
-
-head-with-requires : tie.Need-head-with-requires
-head-with-requires c κs = tt
 
 returns-2 : tie.Need-returns-2
 unfolding afterFractions
@@ -34,8 +28,8 @@ pub fractions-spec : {M : Type 1} → statement M
 fractions-spec =
     tie.close
     (tie.spec
-    fractions-fault-requires
+    (λ c κs. tt)
     returns
     pad-fractions-requires
-    head-with-requires
+    (λ c κs. tt)
     returns-2)

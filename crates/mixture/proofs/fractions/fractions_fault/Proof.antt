@@ -4,15 +4,9 @@ use Rattle.mixture.specs.Calls.{fractionsFault}
 use Rattle.mixture.proofs.fractions.fractions_fault.Statement.{statement}
 use Rattle.mixture.proofs.fractions.fractions_fault.Tie as tie
 
-head-fault-requires : tie.Need-head-fault-requires
-head-fault-requires c κs = tt
-
 returns : tie.Need-returns
 unfolding fractionsFault
 returns c = λ m e. first-left _ (c .before .head-fault .ensures m e) (c .if1 .taken)
-
-mix-fault-requires : tie.Need-mix-fault-requires
-mix-fault-requires c κs = tt
 
 returns-2 : tie.Need-returns-2
 unfolding fractionsFault
@@ -20,4 +14,4 @@ returns-2 c = λ m e. first-right (c .before .before .head-fault .ensures m e) (
 
 pub fractions-fault-spec : {M : Type 1} → statement M
 fractions-fault-spec =
-    tie.close (tie.spec head-fault-requires returns mix-fault-requires returns-2)
+    tie.close (tie.spec (λ c κs. tt) returns (λ c κs. tt) returns-2)

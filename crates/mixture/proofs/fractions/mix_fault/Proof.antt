@@ -6,9 +6,6 @@ use Rattle.mixture.specs.Faults.{mixFault}
 use Rattle.mixture.proofs.fractions.mix_fault.Statement.{statement}
 use Rattle.mixture.proofs.fractions.mix_fault.Tie as tie
 
-check-composition-requires : tie.Need-check-composition-requires
-check-composition-requires c κs = tt
-
 returns : tie.Need-returns
 unfolding mixFault
 returns c = (first-left _ (c .before .check-composition .ensures) (c .if1 .taken), λ e. absurd (c .if1 .taken e))
@@ -22,4 +19,4 @@ unfolding mixFault
 returns-3 c = (first-right (c .before .before .check-composition .ensures) (c .before .if1 .left) (rw (eq-eqb _ _ (c .if2 .left))), λ e. c .if2 .left)
 
 pub mix-fault-spec : {M : Type 1} → statement M
-mix-fault-spec = tie.close (tie.spec check-composition-requires returns returns-2 returns-3)
+mix-fault-spec = tie.close (tie.spec (λ c κs. tt) returns returns-2 returns-3)

@@ -6,21 +6,6 @@ use Rattle.mixture.proofs.CopyLaws.{zeros-after}
 use Rattle.mixture.proofs.head.listed_head.Statement.{statement}
 use Rattle.mixture.proofs.head.listed_head.Tie as tie
 
-slice-aggregate-copy-bytes : tie.Need-slice-aggregate-copy-bytes
-slice-aggregate-copy-bytes c = search needs
-
-copy-bytes-requires : tie.Need-copy-bytes-requires
-copy-bytes-requires c κs = search needs
-
-slice-aggregate-copy-bytes-2 : tie.Need-slice-aggregate-copy-bytes-2
-slice-aggregate-copy-bytes-2 c = search needs
-
-copy-bytes-requires-2 : tie.Need-copy-bytes-requires-2
-copy-bytes-requires-2 c κs = search needs
-
-unset-head-requires : tie.Need-unset-head-requires
-unset-head-requires c κs = tt
-
 returns : tie.Need-returns
 returns c =
     let second = c .before .before in
@@ -33,9 +18,9 @@ pub listed-head-spec : {M : Type 1} → statement M
 listed-head-spec =
     tie.close
     (tie.spec
-    slice-aggregate-copy-bytes
-    copy-bytes-requires
-    slice-aggregate-copy-bytes-2
-    copy-bytes-requires-2
-    unset-head-requires
+    (λ c. search needs)
+    (λ c κs. search needs)
+    (λ c. search needs)
+    (λ c κs. search needs)
+    (λ c κs. tt)
     returns)

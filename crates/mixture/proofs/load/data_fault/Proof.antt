@@ -7,39 +7,6 @@ use borrow.Author.Needs.{needs}
 use Rattle.mixture.proofs.load.data_fault.Statement.{statement}
 use Rattle.mixture.proofs.load.data_fault.Tie as tie
 
-enum-told : tie.Need-enum-told
-enum-told c = search needs
-
-size-requires : tie.Need-size-requires
-size-requires c κs = tt
-
-shape-fault-requires : tie.Need-shape-fault-requires
-shape-fault-requires c κs = tt
-
-enum-told-2 : tie.Need-enum-told-2
-enum-told-2 c = search needs
-
-size-requires-2 : tie.Need-size-requires-2
-size-requires-2 c κs = search needs
-
-shape-fault-requires-2 : tie.Need-shape-fault-requires-2
-shape-fault-requires-2 c κs = tt
-
-enum-told-3 : tie.Need-enum-told-3
-enum-told-3 c = search needs
-
-size-requires-3 : tie.Need-size-requires-3
-size-requires-3 c κs = search needs
-
-shape-fault-requires-3 : tie.Need-shape-fault-requires-3
-shape-fault-requires-3 c κs = tt
-
-enum-told-4 : tie.Need-enum-told-4
-enum-told-4 c = search needs
-
-unifac-fault-requires : tie.Need-unifac-fault-requires
-unifac-fault-requires c κs = tt
-
 returns : tie.Need-returns
 unfolding dataFault
 returns c = c .shape-fault .ensures .0 ∙ (shape-size (c .before .before .before .before .before .before .before .args .n) _ _ (now (c .before .before .before .before .before .before .before .args .given)) (c .before .size .ensures) ∙ rw (c .before .before .enum-told .given .1))
@@ -60,17 +27,17 @@ pub data-fault-spec : {M : Type 1} → statement M
 data-fault-spec =
     tie.close
     (tie.spec
-    enum-told
-    size-requires
-    shape-fault-requires
-    enum-told-2
-    size-requires-2
-    shape-fault-requires-2
-    enum-told-3
-    size-requires-3
-    shape-fault-requires-3
-    enum-told-4
-    unifac-fault-requires
+    (λ c. search needs)
+    (λ c κs. tt)
+    (λ c κs. tt)
+    (λ c. search needs)
+    (λ c κs. search needs)
+    (λ c κs. tt)
+    (λ c. search needs)
+    (λ c κs. search needs)
+    (λ c κs. tt)
+    (λ c. search needs)
+    (λ c κs. tt)
     returns
     returns-2
     returns-3

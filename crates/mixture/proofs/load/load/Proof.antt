@@ -34,15 +34,9 @@ fault-none c = sym (c .before .data-fault .ensures) ∙ c .if2 .left
 pass : (c : tie.Else2) → Fits (memOf (c .before .before .before .before .before .before .before .before .before .before)) (dataOf (c .before .before .before .before .before .before .before .before .before .before))
 pass c = load-fits _ _ (long (c .before .before)) (fault-none c)
 
-memory-fault-requires : tie.Need-memory-fault-requires
-memory-fault-requires c κs = tt
-
 returns : tie.Need-returns
 unfolding memoryFault
 returns c = load-short (memOf (c .before .before .before .before .before .before .before .before)) _ (dataOf (c .before .before .before .before .before .before .before .before)) (c .before .memory-fault .ensures) (c .if1 .taken)
-
-data-fault-requires : tie.Need-data-fault-requires
-data-fault-requires c κs = tt
 
 returns-2 : tie.Need-returns-2
 returns-2 c = load-refused (memOf (c .before .before .before .before .before .before .before .before .before .before)) _ (dataOf (c .before .before .before .before .before .before .before .before .before .before)) (long (c .before .before)) (c .before .data-fault .ensures) (c .if2 .taken)
@@ -56,12 +50,6 @@ stale-cells-requires c κs = let p = pass (c .before .before .before .before .be
 loaded-head-requires : tie.Need-loaded-head-requires
 loaded-head-requires c κs = pass (c .before .before .before .before .before .before .before .before) .lists
 
-same-length : tie.Need-same-length
-same-length c = search needs
-
-same-length-2 : tie.Need-same-length-2
-same-length-2 c = search needs
-
 returns-3 : tie.Need-returns-3
 returns-3 c =
     let s = c .before .before .before .before .before .before .before .before .before .before .before .before .before .before .before .before .before .before .before in
@@ -71,13 +59,13 @@ pub load-spec : {M : Type 1} → statement M
 load-spec =
     tie.close
     (tie.spec
-    memory-fault-requires
+    (λ c κs. tt)
     returns
-    data-fault-requires
+    (λ c κs. tt)
     returns-2
     copy-requires
     stale-cells-requires
     loaded-head-requires
-    same-length
-    same-length-2
+    (λ c. search needs)
+    (λ c. search needs)
     returns-3)

@@ -5,27 +5,6 @@ use borrow.Author.Needs.{needs}
 use Rattle.mixture.proofs.load.loaded_head.Statement.{statement}
 use Rattle.mixture.proofs.load.loaded_head.Tie as tie
 
-enum-told : tie.Need-enum-told
-enum-told c = search needs
-
-bare-head-requires : tie.Need-bare-head-requires
-bare-head-requires c κs = tt
-
-enum-told-2 : tie.Need-enum-told-2
-enum-told-2 c = search needs
-
-bare-head-requires-2 : tie.Need-bare-head-requires-2
-bare-head-requires-2 c κs = tt
-
-enum-told-3 : tie.Need-enum-told-3
-enum-told-3 c = search needs
-
-bare-head-requires-3 : tie.Need-bare-head-requires-3
-bare-head-requires-3 c κs = tt
-
-enum-told-4 : tie.Need-enum-told-4
-enum-told-4 c = search needs
-
 listed-head-requires : tie.Need-listed-head-requires
 listed-head-requires c κs = c .before .before .before .before .pre (c .enum-told4 .given .1)
 
@@ -49,13 +28,13 @@ pub loaded-head-spec : {M : Type 1} → statement M
 loaded-head-spec =
     tie.close
     (tie.spec
-    enum-told
-    bare-head-requires
-    enum-told-2
-    bare-head-requires-2
-    enum-told-3
-    bare-head-requires-3
-    enum-told-4
+    (λ c. search needs)
+    (λ c κs. tt)
+    (λ c. search needs)
+    (λ c κs. tt)
+    (λ c. search needs)
+    (λ c κs. tt)
+    (λ c. search needs)
     listed-head-requires
     returns
     returns-2

@@ -7,12 +7,6 @@ use borrow.Author.Needs.{needs}
 use Rattle.mixture.proofs.load.stale_cells.Statement.{statement}
 use Rattle.mixture.proofs.load.stale_cells.Tie as tie
 
-by-model-requires : tie.Need-by-model-requires
-by-model-requires c κs = tt
-
-has-diagonal-requires : tie.Need-has-diagonal-requires
-has-diagonal-requires c κs = tt
-
 stale-requires : tie.Need-stale-requires
 stale-requires c κs = let s = c .before .before .before in
     let w = c .before .before .by-model in
@@ -20,12 +14,9 @@ stale-requires c κs = let s = c .before .before .before in
     let few : w .result ≤ 32 = omega (arith, w .ensures, s .before .pre) in
     (some, few, omega arith, omega arith, omega (arith, mul-le-mul few few, s .before .pre))
 
-same-length : tie.Need-same-length
-same-length c = search needs
-
 returns : tie.Need-returns
 returns c = λ d so. cells-stale d so (c .before .before .before .before .before .by-model .ensures) (c .before .before .before .before .has-diagonal .ensures) (omega (arith, c .before .before .before .before .before .by-model .ensures, c .before .before .before .before .before .before .before .pre)) _ (c .before .before .stale .ensures)
 
 pub stale-cells-spec : {M : Type 1} → statement M
 stale-cells-spec =
-    tie.close (tie.spec by-model-requires has-diagonal-requires stale-requires same-length returns)
+    tie.close (tie.spec (λ c κs. tt) (λ c κs. tt) stale-requires (λ c. search needs) returns)

@@ -5,19 +5,13 @@ use Rattle.mixture.proofs.CallLaws.{refused, done}
 use Rattle.mixture.proofs.open.open.Statement.{statement}
 use Rattle.mixture.proofs.open.open.Tie as tie
 
-memory-fault-requires : tie.Need-memory-fault-requires
-memory-fault-requires c κs = tt
-
 returns : tie.Need-returns
 unfolding afterOpen memoryFault
 returns c = refused _ _ _ (c .before .memory-fault .ensures) (c .if1 .taken)
-
-bare-head-requires : tie.Need-bare-head-requires
-bare-head-requires c κs = tt
 
 returns-2 : tie.Need-returns-2
 unfolding afterOpen memoryFault
 returns-2 c = done _ _ (sym (c .before .before .memory-fault .ensures) ∙ c .before .if1 .left) (rw (c .bare-head .ensures))
 
 pub open-spec : {M : Type 1} → statement M
-open-spec = tie.close (tie.spec memory-fault-requires returns bare-head-requires returns-2)
+open-spec = tie.close (tie.spec (λ c κs. tt) returns (λ c κs. tt) returns-2)

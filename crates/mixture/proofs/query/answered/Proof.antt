@@ -1,4 +1,4 @@
--- The fault's number where there is one; else the refilled cells, the value and the count. Assumes nothing.
+-- The fault's number where there is one; else the refilled cells, the value and the count.
 use mathlib.Core.Path.{_≡_, refl, sym, _∙_}
 use borrow.Author.Needs.{needs}
 use denote.Ref.{now}
@@ -14,20 +14,11 @@ memOf s = memory (now (s .args .values)) (now (s .args .cells)) (now (s .args .m
 fault-none : (c : tie.Else1) → let s = c .before .before .before .before .before in queryFault (memOf s) (s .args .head) (s .args .q) ≡ 0
 fault-none c = sym (c .before .query-fault .ensures (memOf (c .before .before .before .before .before)) (refl, refl, refl)) ∙ c .if1 .left
 
-query-fault-requires : tie.Need-query-fault-requires
-query-fault-requires c κs = tt
-
 returns : tie.Need-returns
 returns c = query-refused (memOf (c .before .before .before .before .before)) _ _ (c .before .query-fault .ensures (memOf (c .before .before .before .before .before)) (refl, refl, refl)) (c .if1 .taken)
 
 solve-requires : tie.Need-solve-requires
 solve-requires c κs = fault-none (c .before .before)
-
-same-length : tie.Need-same-length
-same-length c = search needs
-
-same-length-2 : tie.Need-same-length-2
-same-length-2 c = search needs
 
 returns-2 : tie.Need-returns-2
 returns-2 c = query-answered (memOf (c .before .before .before .before .before .before .before .before .before .before .before .before)) _ _ (fault-none (c .before .before .before .before .before .before .before)) (c .before .before .before .before .solve .ensures)
@@ -35,4 +26,4 @@ returns-2 c = query-answered (memOf (c .before .before .before .before .before .
 pub answered-spec : {M : Type 1} → statement M
 answered-spec =
     tie.close
-    (tie.spec query-fault-requires returns solve-requires same-length same-length-2 returns-2)
+    (tie.spec (λ c κs. tt) returns solve-requires (λ c. search needs) (λ c. search needs) returns-2)

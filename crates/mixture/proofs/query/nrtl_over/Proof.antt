@@ -1,4 +1,4 @@
--- τ at T fills the table; the refilled cells hold G, and the value is NRTL's over both. Assumes nothing.
+-- τ at T fills the table; the refilled cells hold G, and the value is NRTL's over both.
 use Prim.Native.Nat.{_*_, _-_, _≤_}
 use native.Mathlib.Omega.{arith}
 use borrow.Author.Needs.{needs}
@@ -42,9 +42,6 @@ part-refill-start : tie.Need-part-refill-start
 unfolding leastValues leastCells leastMarks
 part-refill-start c = let start = c .before .before .before .before .before .before .before .before .before in omega (arith, small start, start .pre .3)
 
-part-refill-end : tie.Need-part-refill-end
-part-refill-end c = search needs
-
 refill-requires : tie.Need-refill-requires
 unfolding leastValues leastCells leastMarks
 refill-requires c κs =
@@ -70,15 +67,6 @@ value-over-requires c κs =
       start .pre .2,
     )
 
-same-length : tie.Need-same-length
-same-length c = search needs
-
-same-length-2 : tie.Need-same-length-2
-same-length-2 c = search needs
-
-same-length-3 : tie.Need-same-length-3
-same-length-3 c = search needs
-
 returns : tie.Need-returns
 unfolding leastValues leastCells leastMarks
 returns c =
@@ -97,10 +85,10 @@ nrtl-over-spec =
     mul-refill
     sub-refill
     part-refill-start
-    part-refill-end
+    (λ c. search needs)
     refill-requires
     value-over-requires
-    same-length
-    same-length-2
-    same-length-3
+    (λ c. search needs)
+    (λ c. search needs)
+    (λ c. search needs)
     returns)

@@ -1,4 +1,4 @@
--- The refilled cells hold Ψ, and the value is UNIFAC's over them; log(T) is worked out once. Assumes nothing.
+-- The refilled cells hold Ψ, and the value is UNIFAC's over them; log(T) is worked out once.
 use mathlib.Core.Path.{_≡_, sym}
 use Prim.Native.Nat.{_+_, _*_, _-_, _≤_}
 use native.Mathlib.Omega.{arith}
@@ -18,15 +18,6 @@ small c =
     let r = c .pre .0 in
     (mul-le-mul (r .fewGroups) (r .fewGroups), sym (mul-assoc _ _ 5), row-end (c .args .ng) (c .args .ng * 5) (c .args .ng - 1) (omega (arith, r .someGroups)), r .fewGroups)
 
-log-requires : tie.Need-log-requires
-log-requires c κs = tt
-
-add-place : tie.Need-add-place
-add-place c = search needs
-
-mul-table : tie.Need-mul-table
-mul-table c = search needs
-
 sub-table : tie.Need-sub-table
 unfolding leastValues leastCells leastMarks
 sub-table c = let start = c .before .before .before .before in omega (arith, small start, start .pre .2)
@@ -34,12 +25,6 @@ sub-table c = let start = c .before .before .before .before in omega (arith, sma
 part-table-start : tie.Need-part-table-start
 unfolding leastValues leastCells leastMarks
 part-table-start c = let start = c .before .before .before .before in omega (arith, small start, start .pre .2)
-
-part-table-end : tie.Need-part-table-end
-part-table-end c = search needs
-
-mul-refill : tie.Need-mul-refill
-mul-refill c = search needs
 
 refill-requires : tie.Need-refill-requires
 unfolding leastValues leastCells leastMarks
@@ -49,15 +34,6 @@ refill-requires c κs =
     let ng = start .args .ng in
     let l = from-length (ng + ng) (now (start .args .values)) in
     (w .3, omega (arith, l, w, start .pre .2), omega (arith, l, w, start .pre .2), omega (arith, w, start .pre .3), omega (arith, w, start .pre .4))
-
-slice-aggregate-value-over : tie.Need-slice-aggregate-value-over
-slice-aggregate-value-over c = search needs
-
-slice-aggregate-value-over-2 : tie.Need-slice-aggregate-value-over-2
-slice-aggregate-value-over-2 c = search needs
-
-slice-aggregate-value-over-3 : tie.Need-slice-aggregate-value-over-3
-slice-aggregate-value-over-3 c = search needs
 
 value-over-requires : tie.Need-value-over-requires
 unfolding leastValues leastCells leastMarks countsAt
@@ -79,12 +55,6 @@ value-over-requires c κs =
       start .pre .1,
     )
 
-same-length : tie.Need-same-length
-same-length c = search needs
-
-same-length-2 : tie.Need-same-length-2
-same-length-2 c = search needs
-
 returns : tie.Need-returns
 unfolding leastValues leastCells leastMarks
 returns c =
@@ -96,18 +66,18 @@ pub unifac-spec : {M : Type 1} → statement M
 unifac-spec =
     tie.close
     (tie.spec
-    log-requires
-    add-place
-    mul-table
+    (λ c κs. tt)
+    (λ c. search needs)
+    (λ c. search needs)
     sub-table
     part-table-start
-    part-table-end
-    mul-refill
+    (λ c. search needs)
+    (λ c. search needs)
     refill-requires
-    slice-aggregate-value-over
-    slice-aggregate-value-over-2
-    slice-aggregate-value-over-3
+    (λ c. search needs)
+    (λ c. search needs)
+    (λ c. search needs)
     value-over-requires
-    same-length
-    same-length-2
+    (λ c. search needs)
+    (λ c. search needs)
     returns)

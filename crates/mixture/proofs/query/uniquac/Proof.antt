@@ -1,4 +1,4 @@
--- The refilled cells hold E, and the value is UNIQUAC's over them. Assumes nothing.
+-- The refilled cells hold E, and the value is UNIQUAC's over them.
 use Prim.Native.Nat.{_+_, _*_, _-_, _≤_}
 use native.Mathlib.Omega.{arith}
 use borrow.Author.Needs.{needs}
@@ -37,9 +37,6 @@ part-value-over-start : tie.Need-part-value-over-start
 unfolding leastValues leastCells leastMarks
 part-value-over-start c = let start = c .before .before .before .before .before .before .before .before .before .before in omega (arith, small start, start .pre .0, start .pre .2)
 
-part-value-over-end : tie.Need-part-value-over-end
-part-value-over-end c = search needs
-
 mul-value-over-2 : tie.Need-mul-value-over-2
 unfolding leastValues leastCells leastMarks
 mul-value-over-2 c = let start = c .before .before .before .before .before .before .before .before .before .before .before in omega (arith, small start, start .pre .0, start .pre .2)
@@ -51,12 +48,6 @@ sub-value-over-2 c = let start = c .before .before .before .before .before .befo
 part-value-over-start-2 : tie.Need-part-value-over-start-2
 unfolding leastValues leastCells leastMarks
 part-value-over-start-2 c = let start = c .before .before .before .before .before .before .before .before .before .before .before in omega (arith, small start, start .pre .0, start .pre .2)
-
-part-value-over-end-2 : tie.Need-part-value-over-end-2
-part-value-over-end-2 c = search needs
-
-slice-aggregate-value-over : tie.Need-slice-aggregate-value-over
-slice-aggregate-value-over c = search needs
 
 value-over-requires : tie.Need-value-over-requires
 unfolding leastValues leastCells leastMarks
@@ -71,12 +62,6 @@ value-over-requires c κs =
       omega (arith, start .pre .0),
       start .pre .1,
     )
-
-same-length : tie.Need-same-length
-same-length c = search needs
-
-same-length-2 : tie.Need-same-length-2
-same-length-2 c = search needs
 
 returns : tie.Need-returns
 unfolding leastValues leastCells leastMarks
@@ -94,13 +79,13 @@ uniquac-spec =
     mul-value-over
     sub-value-over
     part-value-over-start
-    part-value-over-end
+    (λ c. search needs)
     mul-value-over-2
     sub-value-over-2
     part-value-over-start-2
-    part-value-over-end-2
-    slice-aggregate-value-over
+    (λ c. search needs)
+    (λ c. search needs)
     value-over-requires
-    same-length
-    same-length-2
+    (λ c. search needs)
+    (λ c. search needs)
     returns)

@@ -1,4 +1,4 @@
--- The refilled cells hold E, and the value is Wilson's over them. Assumes nothing.
+-- The refilled cells hold E, and the value is Wilson's over them.
 use Prim.Native.Nat.{_*_, _-_, _≤_}
 use native.Mathlib.Omega.{arith}
 use borrow.Author.Needs.{needs}
@@ -33,12 +33,6 @@ part-value-over-start : tie.Need-part-value-over-start
 unfolding leastValues leastCells leastMarks
 part-value-over-start c = let start = c .before .before .before .before .before .before .before .before .before .before in omega (arith, small start, start .pre .2)
 
-part-value-over-end : tie.Need-part-value-over-end
-part-value-over-end c = search needs
-
-slice-aggregate-value-over : tie.Need-slice-aggregate-value-over
-slice-aggregate-value-over c = search needs
-
 value-over-requires : tie.Need-value-over-requires
 unfolding leastValues leastCells leastMarks
 value-over-requires c κs =
@@ -51,12 +45,6 @@ value-over-requires c κs =
       omega (arith, start .pre .0),
       start .pre .1,
     )
-
-same-length : tie.Need-same-length
-same-length c = search needs
-
-same-length-2 : tie.Need-same-length-2
-same-length-2 c = search needs
 
 returns : tie.Need-returns
 unfolding leastValues leastCells leastMarks
@@ -73,9 +61,9 @@ wilson-spec =
     mul-value-over
     sub-value-over
     part-value-over-start
-    part-value-over-end
-    slice-aggregate-value-over
+    (λ c. search needs)
+    (λ c. search needs)
     value-over-requires
-    same-length
-    same-length-2
+    (λ c. search needs)
+    (λ c. search needs)
     returns)

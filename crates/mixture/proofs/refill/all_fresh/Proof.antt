@@ -1,5 +1,5 @@
 -- Of short rows nothing is said. With cells on the diagonal no mark may be other than 1; without, as many as on the diagonal, so
--- none off it. Assumes nothing.
+-- none off it.
 use mathlib.Core.Path.{sym, _∙_}
 use mathlib.Core.Bool.{false≢true}
 use Prim.Native.Nat.{_*_, _/_, _%_}
@@ -20,9 +20,6 @@ mul-count-unmarked c = let s = c .before .before in omega (arith, mul-le-mul (s 
 
 count-unmarked-requires : tie.Need-count-unmarked-requires
 count-unmarked-requires c κs = let s = c .before .before in (omega (arith, mul-le-mul (s .pre .0) (s .pre .0)), s .pre .1)
-
-has-diagonal-requires : tie.Need-has-diagonal-requires
-has-diagonal-requires c κs = tt
 
 returns-2 : tie.Need-returns-2
 returns-2 c e k h =
@@ -46,7 +43,7 @@ all-fresh-spec =
     returns
     mul-count-unmarked
     count-unmarked-requires
-    has-diagonal-requires
+    (λ c κs. tt)
     returns-2
     count-diagonal-requires
     returns-3)

@@ -1,4 +1,4 @@
--- The loop keeps how many of the diagonal's marks passed are other than 1. Assumes nothing.
+-- The loop keeps how many of the diagonal's marks passed are other than 1.
 use mathlib.Core.Path.{_≡_, subst}
 use mathlib.Core.Logic.{⊎-elim}
 use mathlib.Core.Bool.{Bool, true, false}
@@ -39,15 +39,6 @@ add-if1 c = omega (arith, within c)
 shared-slice-read-if1 : tie.Need-shared-slice-read-if1 Inv-loop μ-loop
 shared-slice-read-if1 c = omega (arith, within (c .before) .0)
 
-add-count : tie.Need-add-count Inv-loop μ-loop
-add-count c = omega arith
-
-add-i : tie.Need-add-i Inv-loop μ-loop
-add-i c = omega arith
-
-loop-less : tie.Need-loop-less Inv-loop μ-loop
-loop-less c = omega arith
-
 loop-again : tie.Need-loop-again Inv-loop μ-loop
 loop-again c =
     let top = c .before .before .before in
@@ -75,8 +66,8 @@ count-diagonal-spec =
     mul-if1
     add-if1
     shared-slice-read-if1
-    add-count
-    add-i
-    loop-less
+    (λ c. omega arith)
+    (λ c. omega arith)
+    (λ c. omega arith)
     loop-again
     returns)

@@ -1,4 +1,4 @@
--- A mark of 1 is fresh, another place off the diagonal is stale, and the diagonal goes by the model. Assumes nothing.
+-- A mark of 1 is fresh, another place off the diagonal is stale, and the diagonal goes by the model.
 use borrow.Author.Needs.{needs}
 use Rattle.mixture.specs.declared.head.Model.the-variants.{Wilson, Uniquac, Nrtl, Unifac}
 use Rattle.mixture.proofs.RefillLaws.{stale-fresh, stale-off, stale-diagonal}
@@ -10,18 +10,6 @@ returns c = stale-fresh _ _ _ _ (c .if1 .taken)
 
 returns-2 : tie.Need-returns-2
 returns-2 c = stale-off _ _ _ _ (c .before .if1 .left) (c .if2 .taken)
-
-enum-told : tie.Need-enum-told
-enum-told c = search needs
-
-enum-told-2 : tie.Need-enum-told-2
-enum-told-2 c = search needs
-
-enum-told-3 : tie.Need-enum-told-3
-enum-told-3 c = search needs
-
-enum-told-4 : tie.Need-enum-told-4
-enum-told-4 c = search needs
 
 returns-3 : tie.Need-returns-3
 returns-3 c = stale-diagonal _ _ _ Wilson (c .enum-told .given .1) (c .before .before .before .if1 .left) (c .before .before .if2 .left)
@@ -41,10 +29,10 @@ is-stale-spec =
     (tie.spec
     returns
     returns-2
-    enum-told
-    enum-told-2
-    enum-told-3
-    enum-told-4
+    (λ c. search needs)
+    (λ c. search needs)
+    (λ c. search needs)
+    (λ c. search needs)
     returns-3
     returns-4
     returns-5

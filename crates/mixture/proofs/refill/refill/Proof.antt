@@ -1,4 +1,4 @@
--- Nothing to do where all marks are fresh; else row by row. Assumes nothing.
+-- Nothing to do where all marks are fresh; else row by row.
 use borrow.Author.Needs.{needs}
 use Rattle.mixture.proofs.RefillLaws.{refilled-fresh}
 use Rattle.mixture.proofs.refill.refill.Statement.{statement}
@@ -7,20 +7,11 @@ use Rattle.mixture.proofs.refill.refill.Tie as tie
 all-fresh-requires : tie.Need-all-fresh-requires
 all-fresh-requires c κs = let s = c .before .before .before .before .before in (s .pre .0, s .pre .4)
 
-same-length : tie.Need-same-length
-same-length c = search needs
-
 returns : tie.Need-returns
 returns c = refilled-fresh _ _ _ _ _ (c .before .all-fresh .ensures (c .if1 .taken))
 
 refill-rows-requires : tie.Need-refill-rows-requires
 refill-rows-requires c κs = c .before .before .before .before .before .before .before .before .before .pre
-
-same-length-2 : tie.Need-same-length-2
-same-length-2 c = search needs
-
-same-length-3 : tie.Need-same-length-3
-same-length-3 c = search needs
 
 returns-2 : tie.Need-returns-2
 returns-2 c = c .before .before .before .before .refill-rows .ensures
@@ -28,4 +19,4 @@ returns-2 c = c .before .before .before .before .refill-rows .ensures
 pub refill-spec : {M : Type 1} → statement M
 refill-spec =
     tie.close
-    (tie.spec all-fresh-requires same-length returns refill-rows-requires same-length-2 same-length-3 returns-2)
+    (tie.spec all-fresh-requires (λ c. search needs) returns refill-rows-requires (λ c. search needs) (λ c. search needs) returns-2)

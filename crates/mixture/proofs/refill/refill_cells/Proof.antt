@@ -1,4 +1,4 @@
--- The loop has worked out the stale cells below j; the mark that it reads next is still the old one. Assumes nothing.
+-- The loop has worked out the stale cells below j; the mark that it reads next is still the old one.
 use mathlib.Core.Path.{refl}
 use Prim.Native.Nat.{_-_, _≤_}
 use native.Mathlib.Omega.{arith}
@@ -24,15 +24,6 @@ loop-holds c = (omega arith, refilled-none _ _ _ _ _ refl)
 slice-read-is-stale : tie.Need-slice-read-is-stale Inv-loop μ-loop
 slice-read-is-stale c = omega (arith, refilled-length _ _ _ _ _ (c .before .before .loop .inv .1))
 
-is-stale-requires : tie.Need-is-stale-requires Inv-loop μ-loop
-is-stale-requires c κs = tt
-
-exponential-requires : tie.Need-exponential-requires Inv-loop μ-loop
-exponential-requires c κs = search needs
-
-mul-cells : tie.Need-mul-cells Inv-loop μ-loop
-mul-cells c = omega arith
-
 slice-write-cells : tie.Need-slice-write-cells Inv-loop μ-loop
 slice-write-cells c = omega (arith, refilled-length _ _ _ _ _ (c .before .before .before .before .before .loop .inv .1))
 
@@ -41,12 +32,6 @@ slice-write-marks c = omega (arith, refilled-length _ _ _ _ _ (c .before .before
 
 add-count : tie.Need-add-count Inv-loop μ-loop
 add-count c = omega (arith, refilled-count _ _ _ _ _ (c .before .before .before .before .before .loop .inv .1))
-
-add-j : tie.Need-add-j Inv-loop μ-loop
-add-j c = omega arith
-
-loop-less : tie.Need-loop-less Inv-loop μ-loop
-loop-less c = omega arith
 
 loop-again : tie.Need-loop-again Inv-loop μ-loop
 loop-again c =
@@ -75,14 +60,14 @@ refill-cells-spec =
     μ-loop
     loop-holds
     slice-read-is-stale
-    is-stale-requires
-    exponential-requires
-    mul-cells
+    (λ c κs. tt)
+    (λ c κs. search needs)
+    (λ c. omega arith)
     slice-write-cells
     slice-write-marks
     add-count
-    add-j
-    loop-less
+    (λ c. omega arith)
+    (λ c. omega arith)
     loop-again
     same-length
     same-length-2

@@ -1,4 +1,4 @@
--- The loop has refilled the rows above i; a row comes back in the middle of cells and marks. Assumes nothing.
+-- The loop has refilled the rows above i; a row comes back in the middle of cells and marks.
 use mathlib.Core.Path.{_≡_}
 use Prim.Native.Nat.{_+_, _*_, _-_, _/_, _%_, _≤_}
 use native.Mathlib.Omega.{arith}
@@ -49,9 +49,6 @@ sub-refill-row c = omega (arith, room c)
 part-refill-row-start : tie.Need-part-refill-row-start Inv-loop μ-loop
 part-refill-row-start c = omega (arith, room c)
 
-part-refill-row-end : tie.Need-part-refill-row-end Inv-loop μ-loop
-part-refill-row-end c = omega arith
-
 mul-refill-row-2 : tie.Need-mul-refill-row-2 Inv-loop μ-loop
 mul-refill-row-2 c = omega (arith, room (c .before))
 
@@ -60,9 +57,6 @@ sub-refill-row-2 c = omega (arith, room (c .before))
 
 part-refill-row-start-2 : tie.Need-part-refill-row-start-2 Inv-loop μ-loop
 part-refill-row-start-2 c = omega (arith, room (c .before))
-
-part-refill-row-end-2 : tie.Need-part-refill-row-end-2 Inv-loop μ-loop
-part-refill-row-end-2 c = omega arith
 
 mul-refill-row-3 : tie.Need-mul-refill-row-3 Inv-loop μ-loop
 mul-refill-row-3 c = omega (arith, room (c .before .before))
@@ -73,17 +67,11 @@ sub-refill-row-3 c = omega (arith, room (c .before .before))
 part-refill-row-start-3 : tie.Need-part-refill-row-start-3 Inv-loop μ-loop
 part-refill-row-start-3 c = omega (arith, room (c .before .before))
 
-part-refill-row-end-3 : tie.Need-part-refill-row-end-3 Inv-loop μ-loop
-part-refill-row-end-3 c = omega arith
-
 sub-refill-row-4 : tie.Need-sub-refill-row-4 Inv-loop μ-loop
 sub-refill-row-4 c = omega (arith, room (c .before .before .before))
 
 part-refill-row-start-4 : tie.Need-part-refill-row-start-4 Inv-loop μ-loop
 part-refill-row-start-4 c = omega (arith, room (c .before .before .before))
-
-part-refill-row-end-4 : tie.Need-part-refill-row-end-4 Inv-loop μ-loop
-part-refill-row-end-4 c = omega arith
 
 refill-row-requires : tie.Need-refill-row-requires Inv-loop μ-loop
 refill-row-requires c κs =
@@ -98,12 +86,6 @@ add-count : tie.Need-add-count Inv-loop μ-loop
 add-count c =
     let turn = c .before .before .before .before .before .before .before .before .before in
     omega (arith, room turn, refilled-count _ _ _ _ _ (turn .before .loop .inv .1), refilled-count _ _ _ _ _ (c .before .before .before .before .refill-row .ensures))
-
-add-i : tie.Need-add-i Inv-loop μ-loop
-add-i c = omega arith
-
-loop-less : tie.Need-loop-less Inv-loop μ-loop
-loop-less c = omega arith
 
 loop-again : tie.Need-loop-again Inv-loop μ-loop
 loop-again c =
@@ -133,22 +115,22 @@ refill-rows-spec =
     mul-refill-row
     sub-refill-row
     part-refill-row-start
-    part-refill-row-end
+    (λ c. omega arith)
     mul-refill-row-2
     sub-refill-row-2
     part-refill-row-start-2
-    part-refill-row-end-2
+    (λ c. omega arith)
     mul-refill-row-3
     sub-refill-row-3
     part-refill-row-start-3
-    part-refill-row-end-3
+    (λ c. omega arith)
     sub-refill-row-4
     part-refill-row-start-4
-    part-refill-row-end-4
+    (λ c. omega arith)
     refill-row-requires
     add-count
-    add-i
-    loop-less
+    (λ c. omega arith)
+    (λ c. omega arith)
     loop-again
     same-length
     same-length-2

@@ -1,4 +1,4 @@
--- No mark is other than 1; or one is, and it is the diagonal's, which has no cell there. Assumes nothing.
+-- No mark is other than 1; or one is, and it is the diagonal's, which has no cell there.
 use mathlib.Core.Path.{sym, _∙_}
 use mathlib.Core.Bool.{false≢true}
 use native.Mathlib.Omega.{arith}
@@ -18,14 +18,8 @@ returns c e k h =
     let a = c .before .before .before .args in
     stale-none (a .model) (now (a .marks)) k (a .i) k (none-of (a .w) (unmarked (now (a .marks))) (sym (c .before .count-unmarked .ensures) ∙ c .if1 .taken) k h)
 
-has-diagonal-requires : tie.Need-has-diagonal-requires
-has-diagonal-requires c κs = tt
-
 returns-2 : tie.Need-returns-2
 returns-2 c e k h = absurd (false≢true e)
-
-shared-slice-read-if3 : tie.Need-shared-slice-read-if3
-shared-slice-read-if3 c = search needs
 
 returns-3 : tie.Need-returns-3
 returns-3 c e k h = absurd (false≢true e)
@@ -44,8 +38,8 @@ row-fresh-spec =
     (tie.spec
     count-unmarked-requires
     returns
-    has-diagonal-requires
+    (λ c κs. tt)
     returns-2
-    shared-slice-read-if3
+    (λ c. search needs)
     returns-3
     returns-4)

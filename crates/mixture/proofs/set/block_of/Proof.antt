@@ -5,24 +5,6 @@ use borrow.Author.Needs.{needs}
 use Rattle.mixture.proofs.set.block_of.Statement.{statement}
 use Rattle.mixture.proofs.set.block_of.Tie as tie
 
-enum-told : tie.Need-enum-told
-enum-told c = search needs
-
-enum-known-s : tie.Need-enum-known-s
-enum-known-s c = search needs
-
-entry-block-requires : tie.Need-entry-block-requires
-entry-block-requires c κs = tt
-
-enum-known-s-2 : tie.Need-enum-known-s-2
-enum-known-s-2 c = search needs
-
-enum-told-2 : tie.Need-enum-told-2
-enum-told-2 c = search needs
-
-enum-told-3 : tie.Need-enum-told-3
-enum-told-3 c = search needs
-
 returns : tie.Need-returns
 unfolding blockOf
 returns c = rw (c .enum-told .given .1)
@@ -47,12 +29,12 @@ pub block-of-spec : {M : Type 1} → statement M
 block-of-spec =
     tie.close
     (tie.spec
-    enum-told
-    enum-known-s
-    entry-block-requires
-    enum-known-s-2
-    enum-told-2
-    enum-told-3
+    (λ c. search needs)
+    (λ c. search needs)
+    (λ c κs. tt)
+    (λ c. search needs)
+    (λ c. search needs)
+    (λ c. search needs)
     returns
     returns-2
     returns-3

@@ -4,48 +4,6 @@ use borrow.Author.Needs.{needs}
 use Rattle.mixture.proofs.set.case_fault.Statement.{statement}
 use Rattle.mixture.proofs.set.case_fault.Tie as tie
 
-model-of-requires : tie.Need-model-of-requires
-model-of-requires c κs = tt
-
-by-model-requires : tie.Need-by-model-requires
-by-model-requires c κs = tt
-
-enum-told : tie.Need-enum-told
-enum-told c = search needs
-
-enum-known-s : tie.Need-enum-known-s
-enum-known-s c = search needs
-
-by-model-requires-2 : tie.Need-by-model-requires-2
-by-model-requires-2 c κs = tt
-
-pair-fault-requires : tie.Need-pair-fault-requires
-pair-fault-requires c κs = tt
-
-enum-known-s-2 : tie.Need-enum-known-s-2
-enum-known-s-2 c = search needs
-
-by-model-requires-3 : tie.Need-by-model-requires-3
-by-model-requires-3 c κs = tt
-
-pair-fault-requires-2 : tie.Need-pair-fault-requires-2
-pair-fault-requires-2 c κs = tt
-
-enum-known-s-3 : tie.Need-enum-known-s-3
-enum-known-s-3 c = search needs
-
-by-model-requires-4 : tie.Need-by-model-requires-4
-by-model-requires-4 c κs = tt
-
-pair-fault-requires-3 : tie.Need-pair-fault-requires-3
-pair-fault-requires-3 c κs = tt
-
-enum-known-s-4 : tie.Need-enum-known-s-4
-enum-known-s-4 c = search needs
-
-list-fault-requires : tie.Need-list-fault-requires
-list-fault-requires c κs = search needs
-
 returns : tie.Need-returns
 returns c = λ m. temperature-case m (c .before .before .before .before .args .head) (c .before .before .before .model-of .ensures) (c .before .before .by-model .ensures) _ (c .enum-told .given .1)
 
@@ -65,20 +23,20 @@ pub case-fault-spec : {M : Type 1} → statement M
 case-fault-spec =
     tie.close
     (tie.spec
-    model-of-requires
-    by-model-requires
-    enum-told
-    enum-known-s
-    by-model-requires-2
-    pair-fault-requires
-    enum-known-s-2
-    by-model-requires-3
-    pair-fault-requires-2
-    enum-known-s-3
-    by-model-requires-4
-    pair-fault-requires-3
-    enum-known-s-4
-    list-fault-requires
+    (λ c κs. tt)
+    (λ c κs. tt)
+    (λ c. search needs)
+    (λ c. search needs)
+    (λ c κs. tt)
+    (λ c κs. tt)
+    (λ c. search needs)
+    (λ c κs. tt)
+    (λ c κs. tt)
+    (λ c. search needs)
+    (λ c κs. tt)
+    (λ c κs. tt)
+    (λ c. search needs)
+    (λ c κs. search needs)
     returns
     returns-2
     returns-3

@@ -18,9 +18,6 @@ fault-none c = sym (c .before .setting-fault .ensures (memOf (c .before .before 
 pass : (c : tie.Else1) → SetFits (memOf (c .before .before .before .before .before)) (c .before .before .before .before .before .args .head) (c .before .before .before .before .before .args .s)
 pass c = set-fits _ _ _ (fault-none c)
 
-setting-fault-requires : tie.Need-setting-fault-requires
-setting-fault-requires c κs = tt
-
 returns : tie.Need-returns
 returns c = set-refused (memOf (c .before .before .before .before .before)) _ _ (c .before .setting-fault .ensures (memOf (c .before .before .before .before .before)) (refl, refl, refl)) (c .if1 .taken)
 
@@ -33,12 +30,6 @@ put-requires c κs = omega (arith, pass (c .before .before) .values, c .before .
 stale-by-requires : tie.Need-stale-by-requires
 stale-by-requires c κs = let p = pass (c .before .before .before .before .before .before) in (p .ok, p .marks)
 
-same-length : tie.Need-same-length
-same-length c = search needs
-
-same-length-2 : tie.Need-same-length-2
-same-length-2 c = search needs
-
 returns-2 : tie.Need-returns-2
 returns-2 c =
     let s = c .before .before .before .before .before .before .before .before .before .before .before .before .before .before in
@@ -48,11 +39,11 @@ pub change-spec : {M : Type 1} → statement M
 change-spec =
     tie.close
     (tie.spec
-    setting-fault-requires
+    (λ c κs. tt)
     returns
     store-at-requires
     put-requires
     stale-by-requires
-    same-length
-    same-length-2
+    (λ c. search needs)
+    (λ c. search needs)
     returns-2)

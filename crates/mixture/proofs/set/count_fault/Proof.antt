@@ -6,9 +6,6 @@ use borrow.Author.Needs.{needs}
 use Rattle.mixture.proofs.set.count_fault.Statement.{statement}
 use Rattle.mixture.proofs.set.count_fault.Tie as tie
 
-shared-slice-read-if2 : tie.Need-shared-slice-read-if2
-shared-slice-read-if2 c = search needs
-
 cast-if2 : tie.Need-cast-if2
 cast-if2 c = omega (arith, c .shared-slice-known .given (c .before .before .args .i))
 
@@ -30,4 +27,4 @@ returns-4 c = rw (le-ltb _ _ (c .if1 .left))
 
 pub count-fault-spec : {M : Type 1} → statement M
 count-fault-spec =
-    tie.close (tie.spec shared-slice-read-if2 cast-if2 returns returns-2 returns-3 returns-4)
+    tie.close (tie.spec (λ c. search needs) cast-if2 returns returns-2 returns-3 returns-4)

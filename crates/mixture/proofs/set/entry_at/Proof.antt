@@ -14,9 +14,6 @@ mul-by-model c = omega (arith, mul-le-mul (c .pre .0) (c .pre .0))
 mul-by-model-2 : tie.Need-mul-by-model-2
 mul-by-model-2 c = omega (arith, mul-le-mul (c .pre .0) (c .pre .0))
 
-by-model-requires : tie.Need-by-model-requires
-by-model-requires c κs = tt
-
 mul-result : tie.Need-mul-result
 mul-result c = omega (arith, mul-le-mul (c .before .pre .0) (c .before .pre .0), cell-lt (c .before .args .w) (c .before .args .w) (c .before .args .i) (c .before .args .j) (c .before .pre .1) (c .before .pre .2))
 
@@ -26,17 +23,14 @@ add-result c = omega (arith, mul-le-mul (c .before .pre .0) (c .before .pre .0),
 add-result-2 : tie.Need-add-result-2
 add-result-2 c = omega (arith, mul-le-mul (c .before .pre .0) (c .before .pre .0), cell-lt (c .before .args .w) (c .before .args .w) (c .before .args .i) (c .before .args .j) (c .before .pre .1) (c .before .pre .2), c .by-model .ensures, third-le (c .before .args .w * c .before .args .w * 5) (c .before .args .model))
 
-returns : tie.Need-returns
-returns c = search needs
-
 pub entry-at-spec : {M : Type 1} → statement M
 entry-at-spec =
     tie.close
     (tie.spec
     mul-by-model
     mul-by-model-2
-    by-model-requires
+    (λ c κs. tt)
     mul-result
     add-result
     add-result-2
-    returns)
+    (λ c. search needs))

@@ -15,12 +15,6 @@ only-last Uniquac n = omega arith
 only-last Nrtl n = omega arith
 only-last Unifac n = omega arith
 
-by-model-requires : tie.Need-by-model-requires
-by-model-requires c κs = tt
-
-slice-aggregate-count-fault : tie.Need-slice-aggregate-count-fault
-slice-aggregate-count-fault c = search needs
-
 count-fault-requires : tie.Need-count-fault-requires
 count-fault-requires c κs = let k = c .before .by-model in omega (arith, only-last (c .before .before .args .model) (c .before .before .args .n), k .ensures)
 
@@ -29,4 +23,4 @@ returns c = c .count-fault .ensures ∙ rw (c .before .before .by-model .ensures
 
 pub list-fault-spec : {M : Type 1} → statement M
 list-fault-spec =
-    tie.close (tie.spec by-model-requires slice-aggregate-count-fault count-fault-requires returns)
+    tie.close (tie.spec (λ c κs. tt) (λ c. search needs) count-fault-requires returns)

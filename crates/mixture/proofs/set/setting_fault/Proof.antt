@@ -5,9 +5,6 @@ use Rattle.mixture.specs.Calls.{settingFault}
 use Rattle.mixture.proofs.set.setting_fault.Statement.{statement}
 use Rattle.mixture.proofs.set.setting_fault.Tie as tie
 
-head-fault-requires : tie.Need-head-fault-requires
-head-fault-requires c κs = tt
-
 returns : tie.Need-returns
 unfolding settingFault
 returns c = λ m e. first-left _ (c .before .head-fault .ensures m e) (c .if1 .taken)
@@ -20,4 +17,4 @@ unfolding settingFault
 returns-2 c = λ m e. first-right (c .before .before .head-fault .ensures m e) (c .before .if1 .left) (c .case-fault .ensures m)
 
 pub setting-fault-spec : {M : Type 1} → statement M
-setting-fault-spec = tie.close (tie.spec head-fault-requires returns case-fault-requires returns-2)
+setting-fault-spec = tie.close (tie.spec (λ c κs. tt) returns case-fault-requires returns-2)

@@ -13,9 +13,6 @@ mul-by-model c = omega (arith, mul-le-mul (c .pre .0) (c .pre .0))
 mul-by-model-2 : tie.Need-mul-by-model-2
 mul-by-model-2 c = omega (arith, mul-le-mul (c .pre .0) (c .pre .0))
 
-by-model-requires : tie.Need-by-model-requires
-by-model-requires c κs = tt
-
 mul-result : tie.Need-mul-result
 mul-result c = let k : c .before .args .which ≤ 1 = omega arith in omega (arith, mul-le-mul k (c .before .pre .0))
 
@@ -25,17 +22,14 @@ add-result c = let k : c .before .args .which ≤ 1 = omega arith in omega (arit
 add-result-2 : tie.Need-add-result-2
 add-result-2 c = let k : c .before .args .which ≤ 1 = omega arith in omega (arith, mul-le-mul k (c .before .pre .0), mul-le-mul (c .before .pre .0) (c .before .pre .0), c .by-model .ensures, first-le (c .before .args .w * c .before .args .w) (c .before .args .model))
 
-returns : tie.Need-returns
-returns c = search needs
-
 pub size-at-spec : {M : Type 1} → statement M
 size-at-spec =
     tie.close
     (tie.spec
     mul-by-model
     mul-by-model-2
-    by-model-requires
+    (λ c κs. tt)
     mul-result
     add-result
     add-result-2
-    returns)
+    (λ c. search needs))

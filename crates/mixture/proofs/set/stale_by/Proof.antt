@@ -6,26 +6,11 @@ use borrow.Author.Needs.{needs}
 use Rattle.mixture.proofs.set.stale_by.Statement.{statement}
 use Rattle.mixture.proofs.set.stale_by.Tie as tie
 
-model-of-requires : tie.Need-model-of-requires
-model-of-requires c κs = tt
-
-by-model-requires : tie.Need-by-model-requires
-by-model-requires c κs = tt
-
-has-diagonal-requires : tie.Need-has-diagonal-requires
-has-diagonal-requires c κs = tt
-
-block-of-requires : tie.Need-block-of-requires
-block-of-requires c κs = tt
-
 stale-requires : tie.Need-stale-requires
 stale-requires c κs = let s = c .before .before .before .before .before .before in
     let w = width-in (s .args .head) (s .pre .0) (c .before .before .before .before .model-of .ensures) (c .before .before .before .by-model .ensures) in
     let b = fits-by (s .args .head) (c .before .before .before .before .model-of .ensures) (c .before .before .before .by-model .ensures) (s .args .s) (s .pre .0) (c .before .block-of .ensures) in
     (w .0, w .1, b .0, b .1, omega (arith, mul-le-mul (w .1) (w .1), s .pre .1))
-
-same-length : tie.Need-same-length
-same-length c = search needs
 
 returns : tie.Need-returns
 returns c = let s = c .before .before .before .before .before .before .before .before .before in stale-is (s .args .head) (c .before .before .before .before .before .before .before .model-of .ensures) (c .before .before .before .before .before .before .by-model .ensures) (c .before .before .before .before .before .has-diagonal .ensures) (s .args .s) (s .pre .0) _ (c .before .before .before .before .block-of .ensures) (c .before .before .stale .ensures)
@@ -34,10 +19,10 @@ pub stale-by-spec : {M : Type 1} → statement M
 stale-by-spec =
     tie.close
     (tie.spec
-    model-of-requires
-    by-model-requires
-    has-diagonal-requires
-    block-of-requires
+    (λ c κs. tt)
+    (λ c κs. tt)
+    (λ c κs. tt)
+    (λ c κs. tt)
     stale-requires
-    same-length
+    (λ c. search needs)
     returns)

@@ -4,35 +4,14 @@ use borrow.Author.Needs.{needs}
 use Rattle.mixture.proofs.set.store_at.Statement.{statement}
 use Rattle.mixture.proofs.set.store_at.Tie as tie
 
-model-of-requires : tie.Need-model-of-requires
-model-of-requires c κs = tt
-
-by-model-requires : tie.Need-by-model-requires
-by-model-requires c κs = tt
-
-enum-told : tie.Need-enum-told
-enum-told c = search needs
-
-enum-known-s : tie.Need-enum-known-s
-enum-known-s c = search needs
-
 entry-at-requires : tie.Need-entry-at-requires
 entry-at-requires c κs = let b = entry-within (c .before .before .before .before .before .args .head) (c .before .before .before .before .before .pre) (c .before .before .before .before .model-of .ensures) (c .before .before .before .by-model .ensures) (c .before .s .given .0 .0) (c .before .s .given .0 .1 .0) (c .before .s .given .0 .1 .1 .0) (c .before .s .given .1) in (width-in (c .before .before .before .before .before .args .head) (c .before .before .before .before .before .pre) (c .before .before .before .before .model-of .ensures) (c .before .before .before .by-model .ensures) .1, b .0, b .1)
-
-enum-known-s-2 : tie.Need-enum-known-s-2
-enum-known-s-2 c = search needs
 
 td-at-requires : tie.Need-td-at-requires
 td-at-requires c κs = let b = td-within (c .before .before .before .before .before .args .head) (c .before .before .before .before .before .pre) (c .before .before .before .before .model-of .ensures) (c .before .before .before .by-model .ensures) (c .before .s2 .given .0 .0) (c .before .s2 .given .0 .1 .0) (c .before .s2 .given .0 .1 .1 .0) (c .before .s2 .given .1) in (width-in (c .before .before .before .before .before .args .head) (c .before .before .before .before .before .pre) (c .before .before .before .before .model-of .ensures) (c .before .before .before .by-model .ensures) .1, b .0, b .1)
 
-enum-known-s-3 : tie.Need-enum-known-s-3
-enum-known-s-3 c = search needs
-
 size-at-requires : tie.Need-size-at-requires
 size-at-requires c κs = let b = size-within (c .before .before .before .before .before .args .head) (c .before .before .before .before .before .pre) (c .before .before .before .before .model-of .ensures) (c .before .before .before .by-model .ensures) (c .before .s3 .given .0 .0) (c .before .s3 .given .0 .1 .0) (c .before .s3 .given .0 .1 .1 .0) (c .before .s3 .given .1) in (width-in (c .before .before .before .before .before .args .head) (c .before .before .before .before .before .pre) (c .before .before .before .before .model-of .ensures) (c .before .before .before .by-model .ensures) .1, b .0, b .1)
-
-enum-known-s-4 : tie.Need-enum-known-s-4
-enum-known-s-4 c = search needs
 
 count-at-requires : tie.Need-count-at-requires
 count-at-requires c κs = count-within (c .before .before .before .before .before .before .args .head) (c .before .before .before .before .before .before .pre) (c .before .before .s4 .given .0 .0) (c .before .before .s4 .given .0 .1 .0) (c .before .before .s4 .given .0 .1 .1 .0) (c .before .before .s4 .given .1)
@@ -56,16 +35,16 @@ pub store-at-spec : {M : Type 1} → statement M
 store-at-spec =
     tie.close
     (tie.spec
-    model-of-requires
-    by-model-requires
-    enum-told
-    enum-known-s
+    (λ c κs. tt)
+    (λ c κs. tt)
+    (λ c. search needs)
+    (λ c. search needs)
     entry-at-requires
-    enum-known-s-2
+    (λ c. search needs)
     td-at-requires
-    enum-known-s-3
+    (λ c. search needs)
     size-at-requires
-    enum-known-s-4
+    (λ c. search needs)
     count-at-requires
     returns
     returns-2

@@ -8,12 +8,6 @@ use borrow.Author.Needs.{needs}
 use Rattle.mixture.proofs.set.td_at.Statement.{statement}
 use Rattle.mixture.proofs.set.td_at.Tie as tie
 
-add-by-model : tie.Need-add-by-model
-add-by-model c = search needs
-
-by-model-requires : tie.Need-by-model-requires
-by-model-requires c κs = tt
-
 mul-result : tie.Need-mul-result
 mul-result c = omega (arith, mul-le-mul (c .before .pre .0) (c .before .pre .0), cell-lt (c .before .args .w) (c .before .args .w) (c .before .args .i) (c .before .args .j) (c .before .pre .1) (c .before .pre .2))
 
@@ -26,17 +20,14 @@ mul-result-2 c = omega (arith, mul-le-mul (c .before .pre .0) (c .before .pre .0
 add-result-2 : tie.Need-add-result-2
 add-result-2 c = omega (arith, mul-le-mul (c .before .pre .0) (c .before .pre .0), cell-lt (c .before .args .w) (c .before .args .w) (c .before .args .i) (c .before .args .j) (c .before .pre .1) (c .before .pre .2), c .by-model .ensures, last-le (c .before .args .w + c .before .args .w) (c .before .args .model))
 
-returns : tie.Need-returns
-returns c = search needs
-
 pub td-at-spec : {M : Type 1} → statement M
 td-at-spec =
     tie.close
     (tie.spec
-    add-by-model
-    by-model-requires
+    (λ c. search needs)
+    (λ c κs. tt)
     mul-result
     add-result
     mul-result-2
     add-result-2
-    returns)
+    (λ c. search needs))

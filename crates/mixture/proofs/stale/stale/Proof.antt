@@ -16,29 +16,14 @@ Inv-loop marks₀ w diagonal bottom left right i₀ marks i = (i₀ ≤ i) × (i
 abbrev μ-loop : tie.MeasureT-loop
 μ-loop marks₀ w diagonal bottom left right i₀ marks i = bottom - i
 
-add-bottom : tie.Need-add-bottom Inv-loop μ-loop
-add-bottom c = omega arith
-
-add-right : tie.Need-add-right Inv-loop μ-loop
-add-right c = omega arith
-
 loop-holds : tie.Need-loop-holds Inv-loop μ-loop
 loop-holds c = (omega arith, omega arith, refl, stale-none (c .before .before .before .args .w) (c .before .before .before .args .diagonal) (c .before .before .before .args .block .top) (c .before .before .before .args .block .left) (c .before .before .before .args .block .left + c .before .before .before .args .block .columns) _)
-
-skipped-requires : tie.Need-skipped-requires Inv-loop μ-loop
-skipped-requires c κs = tt
 
 mul-stale-row : tie.Need-mul-stale-row Inv-loop μ-loop
 mul-stale-row c = omega (arith, row-end (c .before .before .before .before .before .before .before .args .w) (c .before .before .before .before .before .before .before .args .w) (c .before .before .before .loop .i) (omega arith), c .before .before .before .before .before .before .before .pre)
 
 stale-row-requires : tie.Need-stale-row-requires Inv-loop μ-loop
 stale-row-requires c κs = (omega arith, omega (arith, row-end (c .before .before .before .before .before .before .before .args .w) (c .before .before .before .before .before .before .before .args .w) (c .before .before .before .loop .i) (omega arith)))
-
-add-i : tie.Need-add-i Inv-loop μ-loop
-add-i c = omega arith
-
-loop-less : tie.Need-loop-less Inv-loop μ-loop
-loop-less c = omega arith
 
 loop-again : tie.Need-loop-again Inv-loop μ-loop
 loop-again c =
@@ -51,9 +36,6 @@ loop-again c =
       stale-turn (s .args .w) (s .args .diagonal) (b .top) (b .left) (b .left + b .columns) (l .i) (s .pre .0) (s .pre .3) (l .inv .0) _ _ _ (c .before .before .before .before .skipped .ensures) (l .inv .3) (c .before .before .stale-row .ensures),
     )
 
-same-length : tie.Need-same-length Inv-loop μ-loop
-same-length c = search needs
-
 returns : tie.Need-returns Inv-loop μ-loop
 returns c =
     let b = c .before .before .before .before .before .args .block in
@@ -65,14 +47,14 @@ stale-spec =
     (tie.spec
     Inv-loop
     μ-loop
-    add-bottom
-    add-right
+    (λ c. omega arith)
+    (λ c. omega arith)
     loop-holds
-    skipped-requires
+    (λ c κs. tt)
     mul-stale-row
     stale-row-requires
-    add-i
-    loop-less
+    (λ c. omega arith)
+    (λ c. omega arith)
     loop-again
-    same-length
+    (λ c. search needs)
     returns)

@@ -37,12 +37,6 @@ loop-holds c = (omega arith, refl, columns-none (term (c .before .before .before
 mul-start : tie.Need-mul-start Inv-loop μ-loop
 mul-start c = omega (arith, ends c)
 
-mul-add-unit-row : tie.Need-mul-add-unit-row Inv-loop μ-loop
-mul-add-unit-row c = omega arith
-
-shared-slice-read-add-unit-row : tie.Need-shared-slice-read-add-unit-row Inv-loop μ-loop
-shared-slice-read-add-unit-row c = omega arith
-
 mul-add-unit-row-2 : tie.Need-mul-add-unit-row-2 Inv-loop μ-loop
 mul-add-unit-row-2 c = omega (arith, ends (c .before .before))
 
@@ -52,20 +46,11 @@ sub-add-unit-row c = omega (arith, ends (c .before .before))
 part-add-unit-row-start : tie.Need-part-add-unit-row-start Inv-loop μ-loop
 part-add-unit-row-start c = omega (arith, ends (c .before .before))
 
-part-add-unit-row-end : tie.Need-part-add-unit-row-end Inv-loop μ-loop
-part-add-unit-row-end c = omega arith
-
 add-unit-row-requires : tie.Need-add-unit-row-requires Inv-loop μ-loop
 add-unit-row-requires c κs =
     let turn = c .before .before .before in
     let start = entry turn in
     (omega (arith, turn .before .loop .inv .1, start .pre .2), omega (arith, from-length (turn .before .loop .i * start .args .n) (now (start .args .table)), ends turn), turn .loop-test .taken)
-
-add-i : tie.Need-add-i Inv-loop μ-loop
-add-i c = omega arith
-
-loop-less : tie.Need-loop-less Inv-loop μ-loop
-loop-less c = omega arith
 
 loop-again : tie.Need-loop-again Inv-loop μ-loop
 loop-again c =
@@ -90,15 +75,15 @@ unit-column-sums-spec =
     μ-loop
     loop-holds
     mul-start
-    mul-add-unit-row
-    shared-slice-read-add-unit-row
+    (λ c. omega arith)
+    (λ c. omega arith)
     mul-add-unit-row-2
     sub-add-unit-row
     part-add-unit-row-start
-    part-add-unit-row-end
+    (λ c. omega arith)
     add-unit-row-requires
-    add-i
-    loop-less
+    (λ c. omega arith)
+    (λ c. omega arith)
     loop-again
     same-length
     returns)

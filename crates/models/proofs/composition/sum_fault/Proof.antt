@@ -1,4 +1,4 @@
--- Whether a sum is off 1 by more than the tolerance: |d| > t is d > t or d < -t. Assumes nothing.
+-- Whether a sum is off 1 by more than the tolerance: |d| > t is d > t or d < -t.
 use mathlib.Core.Path.{_≡_, refl}
 use mathlib.Core.Bool.{_||_, cond}
 use lib.Ieee.{Float, binary64, round, ofBits, lt, neg}

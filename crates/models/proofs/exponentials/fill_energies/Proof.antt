@@ -1,5 +1,5 @@
 -- The loop has written the arguments of the rows above i; a row comes back in the middle of the table, and each place takes
--- its exp. Assumes nothing.
+-- its exp.
 use mathlib.Core.Path.{_≡_, refl, _∙_}
 use Prim.Native.Nat.{_+_, _*_, _-_, _≤_}
 use native.Mathlib.Nat.{mul-le-mul, mul-le-mul-right}
@@ -43,9 +43,6 @@ sub-fill-arguments c = omega (arith, ends c)
 part-fill-arguments-start : tie.Need-part-fill-arguments-start Inv-loop μ-loop
 part-fill-arguments-start c = omega (arith, ends c)
 
-part-fill-arguments-end : tie.Need-part-fill-arguments-end Inv-loop μ-loop
-part-fill-arguments-end c = omega arith
-
 mul-fill-arguments-2 : tie.Need-mul-fill-arguments-2 Inv-loop μ-loop
 mul-fill-arguments-2 c = omega (arith, ends (c .before))
 
@@ -55,9 +52,6 @@ sub-fill-arguments-2 c = omega (arith, ends (c .before))
 part-fill-arguments-start-2 : tie.Need-part-fill-arguments-start-2 Inv-loop μ-loop
 part-fill-arguments-start-2 c = omega (arith, ends (c .before))
 
-part-fill-arguments-end-2 : tie.Need-part-fill-arguments-end-2 Inv-loop μ-loop
-part-fill-arguments-end-2 c = omega arith
-
 fill-arguments-requires : tie.Need-fill-arguments-requires Inv-loop μ-loop
 fill-arguments-requires c κs =
     let turn = c .before .before in
@@ -66,12 +60,6 @@ fill-arguments-requires c κs =
       omega (arith, from-length s (turn .before .loop .out), ends turn),
       turn .loop-test .taken,
     )
-
-add-i : tie.Need-add-i Inv-loop μ-loop
-add-i c = omega arith
-
-loop-less : tie.Need-loop-less Inv-loop μ-loop
-loop-less c = omega arith
 
 loop-again : tie.Need-loop-again Inv-loop μ-loop
 loop-again c =
@@ -90,9 +78,6 @@ loop-again c =
 
 mul-exp-each : tie.Need-mul-exp-each Inv-loop μ-loop
 mul-exp-each c = let start = c .before .before .before .before .before in omega (arith, mul-le-mul (start .pre .0) (start .pre .0))
-
-exp-each-requires : tie.Need-exp-each-requires Inv-loop μ-loop
-exp-each-requires c κs = omega arith
 
 same-length : tie.Need-same-length Inv-loop μ-loop
 same-length c = c .before .before .exp-each .kept .0 ∙ c .before .before .before .before .before .loop .inv .1
@@ -114,16 +99,16 @@ fill-energies-spec =
     mul-fill-arguments
     sub-fill-arguments
     part-fill-arguments-start
-    part-fill-arguments-end
+    (λ c. omega arith)
     mul-fill-arguments-2
     sub-fill-arguments-2
     part-fill-arguments-start-2
-    part-fill-arguments-end-2
+    (λ c. omega arith)
     fill-arguments-requires
-    add-i
-    loop-less
+    (λ c. omega arith)
+    (λ c. omega arith)
     loop-again
     mul-exp-each
-    exp-each-requires
+    (λ c κs. omega arith)
     same-length
     returns)

@@ -1,4 +1,4 @@
--- The first fault, or the value of the decoded fractions. Assumes nothing.
+-- The first fault, or the value of the decoded fractions.
 use mathlib.Core.Path.{ap, _∙_}
 use native.Mathlib.Omega.{arith}
 use borrow.Author.Needs.{needs}
@@ -12,31 +12,19 @@ use Rattle.models.proofs.ExportLaws.{whole-eights}
 use Rattle.models.proofs.exports.call_with.Statement.{statement}
 use Rattle.models.proofs.exports.call_with.Tie as tie
 
-load-fault-requires : tie.Need-load-fault-requires
-load-fault-requires c κs = tt
-
 returns : tie.Need-returns
 unfolding exportedBy
 returns c = answer-refused _ (first-left _ (c .before .load-fault .ensures .0) (c .if1 .taken)) (c .if1 .taken)
 
-fractions-fault-requires : tie.Need-fractions-fault-requires
-fractions-fault-requires c κs = tt
-
 returns-2 : tie.Need-returns-2
 unfolding exportedBy
 returns-2 c = answer-refused _ (first-right (c .before .before .before .load-fault .ensures .0) (c .before .before .if1 .left) (c .before .fractions-fault .ensures .0)) (c .if2 .taken)
-
-slice-aggregate-fill-floats : tie.Need-slice-aggregate-fill-floats
-slice-aggregate-fill-floats c = search needs
 
 fill-floats-requires : tie.Need-fill-floats-requires
 fill-floats-requires c κs = let ready = c .before .before .before .before .load-fault .ensures .1 (c .before .before .before .if1 .left) in (ready .few, omega (arith, c .before .before .fractions-fault .ensures .1 (c .before .if2 .left) .0))
 
 array-share-prefix-f : tie.Need-array-share-prefix-f
 array-share-prefix-f c = omega (arith, c .before .before .before .before .before .before .load-fault .ensures .1 (c .before .before .before .before .before .if1 .left) .few, c .before .fill-floats .kept .0)
-
-slice-aggregate-value-at : tie.Need-slice-aggregate-value-at
-slice-aggregate-value-at c = search needs
 
 value-at-requires : tie.Need-value-at-requires
 value-at-requires c κs =
@@ -57,13 +45,13 @@ pub call-with-spec : {M : Type 1} → statement M
 call-with-spec =
     tie.close
     (tie.spec
-    load-fault-requires
+    (λ c κs. tt)
     returns
-    fractions-fault-requires
+    (λ c κs. tt)
     returns-2
-    slice-aggregate-fill-floats
+    (λ c. search needs)
     fill-floats-requires
     array-share-prefix-f
-    slice-aggregate-value-at
+    (λ c. search needs)
     value-at-requires
     returns-3)

@@ -1,4 +1,4 @@
--- The first of 5, 6 and 7, by the laws on fractions in bytes; a 0 has whole eights, n of them. Assumes nothing.
+-- The first of 5, 6 and 7, by the laws on fractions in bytes; a 0 has whole eights, n of them.
 use mathlib.Core.Path.{sym, _∙_}
 use native.Mathlib.Omega.{arith}
 use denote.Ref.{now}
@@ -13,12 +13,6 @@ use Rattle.models.proofs.exports.fractions_fault.Tie as tie
 returns : tie.Need-returns
 returns c = (eights-empty (c .before .before .args .n) (now (c .before .before .args .x)) (c .before .before .args .q) _ (c .if1 .taken), λ e. absurd (omega arith))
 
-sum-floats-requires : tie.Need-sum-floats-requires
-sum-floats-requires c κs = tt
-
-sum-fault-requires : tie.Need-sum-fault-requires
-sum-fault-requires c κs = tt
-
 returns-2 : tie.Need-returns-2
 unfolding tolerance dec round ofBits
 returns-2 c = (eights-off (c .before .before .before .before .before .args .n) (now (c .before .before .before .before .before .args .x)) (c .before .before .before .before .before .args .q) _ (omega arith) (c .before .before .sum-floats .ensures) (c .before .sum-fault .ensures) (c .if2 .taken), λ e. absurd (c .if2 .taken e))
@@ -26,9 +20,6 @@ returns-2 c = (eights-off (c .before .before .before .before .before .args .n) (
 returns-3 : tie.Need-returns-3
 unfolding tolerance dec round ofBits
 returns-3 c = (eights-length (c .before .before .before .before .before .before .args .n) (now (c .before .before .before .before .before .before .args .x)) (c .before .before .before .before .before .before .args .q) _ (omega arith) (c .before .before .before .sum-floats .ensures) (c .before .before .sum-fault .ensures) (c .before .if2 .left) (c .if3 .taken), λ e. absurd (omega arith))
-
-index-fault-requires : tie.Need-index-fault-requires
-index-fault-requires c κs = tt
 
 returns-4 : tie.Need-returns-4
 unfolding tolerance dec round ofBits
@@ -52,11 +43,11 @@ fractions-fault-spec =
     tie.close
     (tie.spec
     returns
-    sum-floats-requires
-    sum-fault-requires
+    (λ c κs. tt)
+    (λ c κs. tt)
     returns-2
     returns-3
-    index-fault-requires
+    (λ c κs. tt)
     returns-4
     returns-5
     returns-6)

@@ -1,19 +1,10 @@
--- An answer's number, and its value where there is one: each case is the definition's. Assumes nothing.
+-- An answer's number, and its value where there is one: each case is the definition's.
 use mathlib.Core.Path.{refl}
 use borrow.Author.Needs.{needs}
 use Rattle.models.specs.Answers.{numberOf}
 use Rattle.models.specs.Exports.{left}
 use Rattle.models.proofs.exports.give.Statement.{statement}
 use Rattle.models.proofs.exports.give.Tie as tie
-
-enum-known-a : tie.Need-enum-known-a
-enum-known-a c = search needs
-
-enum-known-a-2 : tie.Need-enum-known-a-2
-enum-known-a-2 c = search needs
-
-cast-result : tie.Need-cast-result
-cast-result c = search needs
 
 returns : tie.Need-returns
 unfolding numberOf left
@@ -24,4 +15,4 @@ unfolding numberOf left
 returns-2 c = rw (c .before .a2 .given .1) (refl, refl)
 
 pub give-spec : {M : Type 1} → statement M
-give-spec = tie.close (tie.spec enum-known-a enum-known-a-2 cast-result returns returns-2)
+give-spec = tie.close (tie.spec (λ c. search needs) (λ c. search needs) (λ c. search needs) returns returns-2)

@@ -1,4 +1,4 @@
--- The model's own fault, by its number. Assumes nothing.
+-- The model's own fault, by its number.
 use mathlib.Core.Path.{_∙_}
 use native.Mathlib.Omega.{arith}
 use denote.Ref.{now}
@@ -8,12 +8,6 @@ use Rattle.models.proofs.ExportLaws.{load-wilson, ready-wilson, load-un
 use Rattle.models.proofs.exports.load_fault.Statement.{statement}
 use Rattle.models.proofs.exports.load_fault.Tie as tie
 
-size-requires : tie.Need-size-requires
-size-requires c κs = tt
-
-shape-fault-requires : tie.Need-shape-fault-requires
-shape-fault-requires c κs = tt
-
 returns : tie.Need-returns
 returns c =
     let is = c .before .before .if1 .taken in
@@ -21,12 +15,6 @@ returns c =
       load-wilson (c .before .before .before .before .before .before .args .model) (c .before .before .before .before .before .before .args .n) (c .before .before .before .before .before .before .args .ng) (now (c .before .before .before .before .before .before .args .lens)) (now (c .before .before .before .before .before .before .args .groups)) (now (c .before .before .before .before .before .before .args .values)) is (c .shape-fault .ensures .0 ∙ shape-size (c .before .before .before .before .before .before .args .n) _ (wilsonSize (c .before .before .before .before .before .before .args .n)) (now (c .before .before .before .before .before .before .args .values)) size),
       λ z. let passed = c .shape-fault .ensures .1 z in ready-wilson (c .before .before .before .before .before .before .args .model) (c .before .before .before .before .before .before .args .n) (c .before .before .before .before .before .before .args .ng) (now (c .before .before .before .before .before .before .args .lens)) (now (c .before .before .before .before .before .before .args .groups)) (now (c .before .before .before .before .before .before .args .values)) is (passed .1) (omega (arith, passed .2, size (passed .1))),
     )
-
-size-requires-2 : tie.Need-size-requires-2
-size-requires-2 c κs = tt
-
-shape-fault-requires-2 : tie.Need-shape-fault-requires-2
-shape-fault-requires-2 c κs = tt
 
 returns-2 : tie.Need-returns-2
 returns-2 c =
@@ -36,12 +24,6 @@ returns-2 c =
       λ z. let passed = c .shape-fault2 .ensures .1 z in ready-uniquac (c .before .before .before .before .before .before .before .args .model) (c .before .before .before .before .before .before .before .args .n) (c .before .before .before .before .before .before .before .args .ng) (now (c .before .before .before .before .before .before .before .args .lens)) (now (c .before .before .before .before .before .before .before .args .groups)) (now (c .before .before .before .before .before .before .before .args .values)) is (passed .1) (omega (arith, passed .2, size (passed .1))),
     )
 
-size-requires-3 : tie.Need-size-requires-3
-size-requires-3 c κs = tt
-
-shape-fault-requires-3 : tie.Need-shape-fault-requires-3
-shape-fault-requires-3 c κs = tt
-
 returns-3 : tie.Need-returns-3
 returns-3 c =
     let is = c .before .before .if3 .taken in
@@ -49,9 +31,6 @@ returns-3 c =
       load-nrtl (c .before .before .before .before .before .before .before .before .args .model) (c .before .before .before .before .before .before .before .before .args .n) (c .before .before .before .before .before .before .before .before .args .ng) (now (c .before .before .before .before .before .before .before .before .args .lens)) (now (c .before .before .before .before .before .before .before .before .args .groups)) (now (c .before .before .before .before .before .before .before .before .args .values)) is (c .shape-fault3 .ensures .0 ∙ shape-size (c .before .before .before .before .before .before .before .before .args .n) _ (nrtlSize (c .before .before .before .before .before .before .before .before .args .n)) (now (c .before .before .before .before .before .before .before .before .args .values)) size),
       λ z. let passed = c .shape-fault3 .ensures .1 z in ready-nrtl (c .before .before .before .before .before .before .before .before .args .model) (c .before .before .before .before .before .before .before .before .args .n) (c .before .before .before .before .before .before .before .before .args .ng) (now (c .before .before .before .before .before .before .before .before .args .lens)) (now (c .before .before .before .before .before .before .before .before .args .groups)) (now (c .before .before .before .before .before .before .before .before .args .values)) is (passed .1) (omega (arith, passed .2, size (passed .1))),
     )
-
-unifac-fault-requires : tie.Need-unifac-fault-requires
-unifac-fault-requires c κs = tt
 
 returns-4 : tie.Need-returns-4
 returns-4 c = let is = c .before .if4 .taken in (load-unifac (c .before .before .before .before .before .before .before .before .args .model) (c .before .before .before .before .before .before .before .before .args .n) (c .before .before .before .before .before .before .before .before .args .ng) (now (c .before .before .before .before .before .before .before .before .args .lens)) (now (c .before .before .before .before .before .before .before .before .args .groups)) (now (c .before .before .before .before .before .before .before .before .args .values)) is (c .unifac-fault .ensures .0), λ z. ready-unifac (c .before .before .before .before .before .before .before .before .args .model) (c .before .before .before .before .before .before .before .before .args .n) (c .before .before .before .before .before .before .before .before .args .ng) (now (c .before .before .before .before .before .before .before .before .args .lens)) (now (c .before .before .before .before .before .before .before .before .args .groups)) (now (c .before .before .before .before .before .before .before .before .args .values)) is (c .unifac-fault .ensures .1 z))
@@ -63,15 +42,15 @@ pub load-fault-spec : {M : Type 1} → statement M
 load-fault-spec =
     tie.close
     (tie.spec
-    size-requires
-    shape-fault-requires
+    (λ c κs. tt)
+    (λ c κs. tt)
     returns
-    size-requires-2
-    shape-fault-requires-2
+    (λ c κs. tt)
+    (λ c κs. tt)
     returns-2
-    size-requires-3
-    shape-fault-requires-3
+    (λ c κs. tt)
+    (λ c κs. tt)
     returns-3
-    unifac-fault-requires
+    (λ c κs. tt)
     returns-4
     returns-5)

@@ -1,4 +1,4 @@
--- The model's own value, by its number; a load that passed has one of the four. Assumes nothing.
+-- The model's own value, by its number; a load that passed has one of the four.
 use denote.Ref.{now}
 use Rattle.arithmetic.specs.Tables.{at}
 use Rattle.models.proofs.ExportLaws.{value-wilson, value-uniquac, value-nrtl, value-unifac}

@@ -1,18 +1,9 @@
--- 7 where no component i is there; each case makes the definition's own test. Assumes nothing.
+-- 7 where no component i is there; each case makes the definition's own test.
 use borrow.Author.Tests.{lt-ltb, le-ltb}
 use borrow.Author.Needs.{needs}
 use Rattle.models.specs.Answers.{indexFault}
 use Rattle.models.proofs.faults.index_fault.Statement.{statement}
 use Rattle.models.proofs.faults.index_fault.Tie as tie
-
-enum-known-q : tie.Need-enum-known-q
-enum-known-q c = search needs
-
-enum-known-q-2 : tie.Need-enum-known-q-2
-enum-known-q-2 c = search needs
-
-enum-told : tie.Need-enum-told
-enum-told c = search needs
 
 returns : tie.Need-returns
 unfolding indexFault
@@ -38,9 +29,9 @@ pub index-fault-spec : {M : Type 1} → statement M
 index-fault-spec =
     tie.close
     (tie.spec
-    enum-known-q
-    enum-known-q-2
-    enum-told
+    (λ c. search needs)
+    (λ c. search needs)
+    (λ c. search needs)
     returns
     returns-2
     returns-3

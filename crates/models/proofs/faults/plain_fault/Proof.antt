@@ -1,16 +1,10 @@
--- The first of the shape's fault and the fractions'; a 0 has passed both. Assumes nothing.
+-- The first of the shape's fault and the fractions'; a 0 has passed both.
 use Rattle.models.proofs.AnswerLaws.{first-left, first-right}
 use Rattle.models.proofs.faults.plain_fault.Statement.{statement}
 use Rattle.models.proofs.faults.plain_fault.Tie as tie
 
-shape-fault-requires : tie.Need-shape-fault-requires
-shape-fault-requires c κs = tt
-
 returns : tie.Need-returns
 returns c = (first-left _ (c .before .shape-fault .ensures .0) (c .if1 .taken), λ e. absurd (c .if1 .taken e))
-
-fractions-fault-requires : tie.Need-fractions-fault-requires
-fractions-fault-requires c κs = tt
 
 returns-2 : tie.Need-returns-2
 returns-2 c =
@@ -20,4 +14,4 @@ returns-2 c =
 
 pub plain-fault-spec : {M : Type 1} → statement M
 plain-fault-spec =
-    tie.close (tie.spec shape-fault-requires returns fractions-fault-requires returns-2)
+    tie.close (tie.spec (λ c κs. tt) returns (λ c κs. tt) returns-2)

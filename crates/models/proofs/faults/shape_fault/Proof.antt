@@ -1,4 +1,4 @@
--- n within 1–12 and the length of the values, by the definition's own tests; a 0 has passed them all. Assumes nothing.
+-- n within 1–12 and the length of the values, by the definition's own tests; a 0 has passed them all.
 use native.Mathlib.Omega.{arith}
 use borrow.Author.Tests.{le-leb, lt-leb, eq-eqb, ne-eqb}
 use Rattle.models.specs.Plain.{shapeFault}

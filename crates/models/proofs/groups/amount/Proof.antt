@@ -21,23 +21,8 @@ abbrev μ-loop : tie.MeasureT-loop
 loop-holds : tie.Need-loop-holds Inv-loop μ-loop
 loop-holds c = (omega arith, refl, amount-none _ _)
 
-mul-add-counts : tie.Need-mul-add-counts Inv-loop μ-loop
-mul-add-counts c = omega arith
-
-shared-slice-read-add-counts : tie.Need-shared-slice-read-add-counts Inv-loop μ-loop
-shared-slice-read-add-counts c = omega arith
-
-slice-aggregate-add-counts : tie.Need-slice-aggregate-add-counts Inv-loop μ-loop
-slice-aggregate-add-counts c = search needs
-
 add-counts-requires : tie.Need-add-counts-requires Inv-loop μ-loop
 add-counts-requires c κs = (listed-less (c .before .before .before .before .before .before .before .before .pre .0) (c .before .before .before .loop .i) _ (c .before .before .loop-test .taken) (omega arith), omega arith)
-
-add-i : tie.Need-add-i Inv-loop μ-loop
-add-i c = omega arith
-
-loop-less : tie.Need-loop-less Inv-loop μ-loop
-loop-less c = omega arith
 
 loop-again : tie.Need-loop-again Inv-loop μ-loop
 loop-again c =
@@ -58,11 +43,11 @@ amount-spec =
     Inv-loop
     μ-loop
     loop-holds
-    mul-add-counts
-    shared-slice-read-add-counts
-    slice-aggregate-add-counts
+    (λ c. omega arith)
+    (λ c. omega arith)
+    (λ c. search needs)
     add-counts-requires
-    add-i
-    loop-less
+    (λ c. omega arith)
+    (λ c. omega arith)
     loop-again
     returns)

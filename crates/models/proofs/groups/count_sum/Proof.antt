@@ -12,12 +12,6 @@ use Rattle.models.proofs.groups.count_sum.Tie as tie
 ends : (c : tie.After-shared-slice-known3) → c .before .start-of .result + getD (now (c .before .before .before .before .args .lens)) (c .before .before .before .before .args .i) 0 ≤ length (now (c .before .before .before .before .args .counts))
 ends c = let start = c .before .before .before .before in omega (arith, start-more (now (start .args .lens)) (start .args .i) (c .before .start-of .ensures) refl, start .pre .1)
 
-start-of-requires : tie.Need-start-of-requires
-start-of-requires c κs = search needs
-
-shared-slice-read-end : tie.Need-shared-slice-read-end
-shared-slice-read-end c = search needs
-
 cast-end : tie.Need-cast-end
 cast-end c = omega (arith, c .shared-slice-known3 .given (c .before .before .before .before .args .i))
 
@@ -27,17 +21,8 @@ add-end c = omega (arith, ends c, c .before .before .before .before .good)
 mul-sum : tie.Need-mul-sum
 mul-sum c = omega (arith, ends c, c .before .before .before .before .good)
 
-sub-sum : tie.Need-sub-sum
-sub-sum c = search needs
-
-part-sum-start : tie.Need-part-sum-start
-part-sum-start c = search needs
-
 part-sum-end : tie.Need-part-sum-end
 part-sum-end c = omega (arith, ends c)
-
-sum-requires : tie.Need-sum-requires
-sum-requires c κs = tt
 
 returns : tie.Need-returns
 returns c = let known = c .before .before in counts-is _ _ (known .before .before .before .before .args .i) (known .before .start-of .ensures) (ends known) (c .sum .ensures)
@@ -46,13 +31,13 @@ pub count-sum-spec : {M : Type 1} → statement M
 count-sum-spec =
     tie.close
     (tie.spec
-    start-of-requires
-    shared-slice-read-end
+    (λ c κs. search needs)
+    (λ c. search needs)
     cast-end
     add-end
     mul-sum
-    sub-sum
-    part-sum-start
+    (λ c. search needs)
+    (λ c. search needs)
     part-sum-end
-    sum-requires
+    (λ c κs. tt)
     returns)

@@ -7,9 +7,6 @@ use Rattle.models.specs.Values.{countsAt}
 use Rattle.models.proofs.groups.counts_at.Statement.{statement}
 use Rattle.models.proofs.groups.counts_at.Tie as tie
 
-add-result : tie.Need-add-result
-add-result c = search needs
-
 mul-result : tie.Need-mul-result
 mul-result c = omega (arith, mul-le-mul (c .pre) (c .pre))
 
@@ -24,4 +21,4 @@ unfolding countsAt
 returns c = (refl, omega (arith, mul-le-mul (c .pre) (c .pre)))
 
 pub counts-at-spec : {M : Type 1} → statement M
-counts-at-spec = tie.close (tie.spec add-result mul-result mul-result-2 add-result-2 returns)
+counts-at-spec = tie.close (tie.spec (λ c. search needs) mul-result mul-result-2 add-result-2 returns)

@@ -4,18 +4,6 @@ use Rattle.models.proofs.ListLaws.{fraction-over, fraction-none}
 use Rattle.models.proofs.groups.group_fractions.Statement.{statement}
 use Rattle.models.proofs.groups.group_fractions.Tie as tie
 
-amounts-requires : tie.Need-amounts-requires
-amounts-requires c κs = search needs
-
-amount-requires : tie.Need-amount-requires
-amount-requires c κs = search needs
-
-slice-aggregate-over : tie.Need-slice-aggregate-over
-slice-aggregate-over c = search needs
-
-over-requires : tie.Need-over-requires
-over-requires c κs = search needs
-
 returns : tie.Need-returns
 returns c = fraction-over _ _ _ _ (c .before .before .before .before .amounts .ensures) (c .before .before .before .if1 .taken) (c .before .before .before .before .before .before .before .before .before .pre .3) (c .before .before .amount .ensures) (c .over .ensures)
 
@@ -26,9 +14,9 @@ pub group-fractions-spec : {M : Type 1} → statement M
 group-fractions-spec =
     tie.close
     (tie.spec
-    amounts-requires
-    amount-requires
-    slice-aggregate-over
-    over-requires
+    (λ c κs. search needs)
+    (λ c κs. search needs)
+    (λ c. search needs)
+    (λ c κs. search needs)
     returns
     returns-2)

@@ -22,9 +22,6 @@ abbrev μ-loop : tie.MeasureT-loop
 loop-holds : tie.Need-loop-holds Inv-loop μ-loop
 loop-holds c = (omega arith, first-none _, λ k h. absurd (omega arith))
 
-shared-slice-read-if1 : tie.Need-shared-slice-read-if1 Inv-loop μ-loop
-shared-slice-read-if1 c = omega arith
-
 cast-if1 : tie.Need-cast-if1 Inv-loop μ-loop
 cast-if1 c = omega (arith, c .shared-slice-known .given (c .before .before .loop .p))
 
@@ -34,23 +31,11 @@ returns c =
     let top = c .before .before .before in
     (first-found _ _ _ (c .before .before .loop-test .taken) (top .loop .inv .1) (rw (le-ltb _ _ (c .if1 .taken))) (λ e. omega arith), λ e. absurd (omega arith))
 
-mul-if2 : tie.Need-mul-if2 Inv-loop μ-loop
-mul-if2 c = omega arith
-
-shared-slice-read-if2 : tie.Need-shared-slice-read-if2 Inv-loop μ-loop
-shared-slice-read-if2 c = omega arith
-
 returns-2 : tie.Need-returns-2 Inv-loop μ-loop
 unfolding groupsFault placeFault ofBits
 returns-2 c =
     let top = c .before .before .before .before .before in
     (first-found _ _ _ (c .before .before .before .before .loop-test .taken) (top .loop .inv .1) (rw (lt-ltb _ _ (c .before .before .if1 .left), c .if2 .taken)) (λ e. omega arith), λ e. absurd (omega arith))
-
-add-p : tie.Need-add-p Inv-loop μ-loop
-add-p c = omega arith
-
-loop-less : tie.Need-loop-less Inv-loop μ-loop
-loop-less c = omega arith
 
 loop-again : tie.Need-loop-again Inv-loop μ-loop
 unfolding placeFault ofBits
@@ -71,13 +56,13 @@ groups-fault-spec =
     Inv-loop
     μ-loop
     loop-holds
-    shared-slice-read-if1
+    (λ c. omega arith)
     cast-if1
     returns
-    mul-if2
-    shared-slice-read-if2
+    (λ c. omega arith)
+    (λ c. omega arith)
     returns-2
-    add-p
-    loop-less
+    (λ c. omega arith)
+    (λ c. omega arith)
     loop-again
     returns-3)

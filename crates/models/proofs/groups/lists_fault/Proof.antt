@@ -14,9 +14,6 @@ use Rattle.models.proofs.groups.lists_fault.Tie as tie
 size : (c : tie.After-counts-at) → c .counts-at .result + c .before .before .start-of .result ≡ countsAt (c .before .before .before .before .before .before .before .before .before .before .before .args .ng) + start (now (c .before .before .before .before .before .before .before .before .before .before .before .args .lens)) (c .before .before .before .before .before .before .before .before .before .before .before .args .n)
 size c = ap (λ (k : ℕ). k + c .before .before .start-of .result) (c .counts-at .ensures .0) ∙ ap (λ (k : ℕ). countsAt (c .before .before .before .before .before .before .before .before .before .before .before .args .ng) + k) (c .before .before .start-of .ensures)
 
-in-range-requires : tie.Need-in-range-requires
-in-range-requires c κs = tt
-
 returns : tie.Need-returns
 returns c = (
   lists-tests _ _ _ _ _ (sym (c .before .in-range .ensures .0) ∙ not-true _ (c .if1 .taken))
@@ -36,9 +33,6 @@ returns-2 c = (
       refl,
   λ e. absurd (omega arith),
 )
-
-short-requires : tie.Need-short-requires
-short-requires c κs = search needs
 
 returns-3 : tie.Need-returns-3
 returns-3 c = (
@@ -65,9 +59,6 @@ returns-4 c = (
 
 counts-at-requires : tie.Need-counts-at-requires
 counts-at-requires c κs = let range = c .before .before .before .before .before .before .in-range .ensures .1 (not-false _ (c .before .before .before .before .before .if1 .left)) in range .3
-
-add-size : tie.Need-add-size
-add-size c = search needs
 
 returns-5 : tie.Need-returns-5
 returns-5 c = (
@@ -102,14 +93,14 @@ pub lists-fault-spec : {M : Type 1} → statement M
 lists-fault-spec =
     tie.close
     (tie.spec
-    in-range-requires
+    (λ c κs. tt)
     returns
     returns-2
-    short-requires
+    (λ c κs. search needs)
     returns-3
     start-of-requires
     returns-4
     counts-at-requires
-    add-size
+    (λ c. search needs)
     returns-5
     returns-6)

@@ -18,24 +18,6 @@ abbrev μ-loop : tie.MeasureT-loop
 loop-holds : tie.Need-loop-holds Inv-loop μ-loop
 loop-holds c = (omega arith, refl, filled-none (omega arith))
 
-mul-xg : tie.Need-mul-xg Inv-loop μ-loop
-mul-xg c = omega arith
-
-shared-slice-read-xg : tie.Need-shared-slice-read-xg Inv-loop μ-loop
-shared-slice-read-xg c = omega arith
-
-mul-xg-2 : tie.Need-mul-xg-2 Inv-loop μ-loop
-mul-xg-2 c = omega arith
-
-array-write-xg : tie.Need-array-write-xg Inv-loop μ-loop
-array-write-xg c = omega arith
-
-add-g : tie.Need-add-g Inv-loop μ-loop
-add-g c = omega arith
-
-loop-less : tie.Need-loop-less Inv-loop μ-loop
-loop-less c = omega arith
-
 loop-again : tie.Need-loop-again Inv-loop μ-loop
 loop-again c = (omega arith, simp length-set (c .before .before .loop .inv .1), filled-more (omega arith) (omega arith) (c .before .before .loop .inv .2) refl)
 
@@ -49,11 +31,11 @@ over-spec =
     Inv-loop
     μ-loop
     loop-holds
-    mul-xg
-    shared-slice-read-xg
-    mul-xg-2
-    array-write-xg
-    add-g
-    loop-less
+    (λ c. omega arith)
+    (λ c. omega arith)
+    (λ c. omega arith)
+    (λ c. omega arith)
+    (λ c. omega arith)
+    (λ c. omega arith)
     loop-again
     returns)

@@ -25,12 +25,6 @@ entry c = c .before .before .before .before .before .before .before .before .bef
 group : (c : tie.In-loop Inv-loop μ-loop) → getD (now (entry c .args .groups)) (c .before .before .before .start-of .result + c .before .loop .k) 0 < length (now (entry c .args .m))
 group c = list-group (entry c .args .i) (entry c .pre .0) (c .before .before .before .start-of .ensures) (c .before .loop .k) (c .loop-test .taken)
 
-start-of-requires : tie.Need-start-of-requires Inv-loop μ-loop
-start-of-requires c κs = search needs
-
-shared-slice-read-len : tie.Need-shared-slice-read-len Inv-loop μ-loop
-shared-slice-read-len c = omega arith
-
 cast-len : tie.Need-cast-len Inv-loop μ-loop
 cast-len c = omega (arith, c .shared-slice-known6 .given (c .before .before .before .before .before .before .before .args .i))
 
@@ -40,20 +34,8 @@ loop-holds c =
     let ends = list-ends (start .args .i) (start .pre .0) (c .before .start-of .ensures) in
     (omega arith, ends .0, ends .1, sum-none _)
 
-add-place : tie.Need-add-place Inv-loop μ-loop
-add-place c = omega arith
-
-shared-slice-read-g : tie.Need-shared-slice-read-g Inv-loop μ-loop
-shared-slice-read-g c = omega arith
-
 cast-g : tie.Need-cast-g Inv-loop μ-loop
 cast-g c = omega (arith, group (c .before))
-
-mul-resid : tie.Need-mul-resid Inv-loop μ-loop
-mul-resid c = omega arith
-
-shared-slice-read-resid : tie.Need-shared-slice-read-resid Inv-loop μ-loop
-shared-slice-read-resid c = omega arith
 
 mul-resid-2 : tie.Need-mul-resid-2 Inv-loop μ-loop
 mul-resid-2 c = omega (arith, group (c .before .before))
@@ -66,12 +48,6 @@ mul-resid-3 c = omega (arith, group (c .before .before .before))
 
 shared-slice-read-resid-3 : tie.Need-shared-slice-read-resid-3 Inv-loop μ-loop
 shared-slice-read-resid-3 c = omega (arith, group (c .before .before .before .before))
-
-add-k : tie.Need-add-k Inv-loop μ-loop
-add-k c = omega arith
-
-loop-less : tie.Need-loop-less Inv-loop μ-loop
-loop-less c = omega arith
 
 loop-again : tie.Need-loop-again Inv-loop μ-loop
 loop-again c = (omega arith, c .before .before .before .before .before .loop .inv .1, c .before .before .before .before .before .loop .inv .2, search (sum-more, needs))
@@ -88,20 +64,20 @@ residual-spec =
     (tie.spec
     Inv-loop
     μ-loop
-    start-of-requires
-    shared-slice-read-len
+    (λ c κs. search needs)
+    (λ c. omega arith)
     cast-len
     loop-holds
-    add-place
-    shared-slice-read-g
+    (λ c. omega arith)
+    (λ c. omega arith)
     cast-g
-    mul-resid
-    shared-slice-read-resid
+    (λ c. omega arith)
+    (λ c. omega arith)
     mul-resid-2
     shared-slice-read-resid-2
     mul-resid-3
     shared-slice-read-resid-3
-    add-k
-    loop-less
+    (λ c. omega arith)
+    (λ c. omega arith)
     loop-again
     returns)

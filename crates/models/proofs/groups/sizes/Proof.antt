@@ -23,18 +23,6 @@ loop-holds c = (omega arith, refl, filled-none (omega arith))
 size-requires : tie.Need-size-requires Inv-loop μ-loop
 size-requires c κs = (listed-less (c .before .before .before .before .before .before .pre .0) (c .before .loop .i) _ (c .loop-test .taken) (omega arith), omega arith)
 
-mul-sizes : tie.Need-mul-sizes Inv-loop μ-loop
-mul-sizes c = omega arith
-
-array-write-sizes : tie.Need-array-write-sizes Inv-loop μ-loop
-array-write-sizes c = omega arith
-
-add-i : tie.Need-add-i Inv-loop μ-loop
-add-i c = omega arith
-
-loop-less : tie.Need-loop-less Inv-loop μ-loop
-loop-less c = omega arith
-
 loop-again : tie.Need-loop-again Inv-loop μ-loop
 loop-again c =
     let at-loop = c .before .before in
@@ -51,9 +39,9 @@ sizes-spec =
     μ-loop
     loop-holds
     size-requires
-    mul-sizes
-    array-write-sizes
-    add-i
-    loop-less
+    (λ c. omega arith)
+    (λ c. omega arith)
+    (λ c. omega arith)
+    (λ c. omega arith)
     loop-again
     returns)

@@ -18,20 +18,11 @@ abbrev μ-loop : tie.MeasureT-loop
 loop-holds : tie.Need-loop-holds Inv-loop μ-loop
 loop-holds c = (omega arith, omega arith, start-none _)
 
-shared-slice-read-s : tie.Need-shared-slice-read-s Inv-loop μ-loop
-shared-slice-read-s c = omega arith
-
 cast-s : tie.Need-cast-s Inv-loop μ-loop
 cast-s c = omega (arith, c .shared-slice-known .given (c .before .before .loop .k))
 
 add-s : tie.Need-add-s Inv-loop μ-loop
 add-s c = omega (arith, c .shared-slice-known .given (c .before .before .loop .k))
-
-add-k : tie.Need-add-k Inv-loop μ-loop
-add-k c = omega arith
-
-loop-less : tie.Need-loop-less Inv-loop μ-loop
-loop-less c = omega arith
 
 loop-again : tie.Need-loop-again Inv-loop μ-loop
 loop-again c = (omega arith, omega (arith, c .shared-slice-known .given (c .before .before .loop .k)), start-more _ _ (c .before .before .loop .inv .2) refl)
@@ -46,10 +37,10 @@ start-of-spec =
     Inv-loop
     μ-loop
     loop-holds
-    shared-slice-read-s
+    (λ c. omega arith)
     cast-s
     add-s
-    add-k
-    loop-less
+    (λ c. omega arith)
+    (λ c. omega arith)
     loop-again
     returns)

@@ -1,4 +1,4 @@
--- Each turn adds one row to every numerator and every denominator; at the end the rows are all. Assumes nothing.
+-- Each turn adds one row to every numerator and every denominator; at the end the rows are all.
 use mathlib.Core.Path.{_≡_, refl, _∙_}
 use Prim.Native.Nat.{ℕ, _+_, _*_, _-_, _≤_}
 use native.Mathlib.Omega.{arith}
@@ -47,12 +47,6 @@ loop-holds c = let start = c .before .before .before .before .before in (omega a
 mul-start : tie.Need-mul-start Inv-loop μ-loop
 mul-start c = omega (arith, ends c)
 
-mul-add-terms : tie.Need-mul-add-terms Inv-loop μ-loop
-mul-add-terms c = omega arith
-
-shared-slice-read-add-terms : tie.Need-shared-slice-read-add-terms Inv-loop μ-loop
-shared-slice-read-add-terms c = omega arith
-
 mul-add-terms-2 : tie.Need-mul-add-terms-2 Inv-loop μ-loop
 mul-add-terms-2 c = omega (arith, ends (c .before .before))
 
@@ -61,9 +55,6 @@ sub-add-terms c = omega (arith, ends (c .before .before))
 
 part-add-terms-start : tie.Need-part-add-terms-start Inv-loop μ-loop
 part-add-terms-start c = omega (arith, ends (c .before .before))
-
-part-add-terms-end : tie.Need-part-add-terms-end Inv-loop μ-loop
-part-add-terms-end c = omega arith
 
 mul-add-terms-3 : tie.Need-mul-add-terms-3 Inv-loop μ-loop
 mul-add-terms-3 c = omega (arith, ends (c .before .before .before))
@@ -74,21 +65,12 @@ sub-add-terms-2 c = omega (arith, ends (c .before .before .before))
 part-add-terms-start-2 : tie.Need-part-add-terms-start-2 Inv-loop μ-loop
 part-add-terms-start-2 c = omega (arith, ends (c .before .before .before))
 
-part-add-terms-end-2 : tie.Need-part-add-terms-end-2 Inv-loop μ-loop
-part-add-terms-end-2 c = omega arith
-
 add-terms-requires : tie.Need-add-terms-requires Inv-loop μ-loop
 add-terms-requires c κs =
     let turn = c .before .before .before .before in
     let start = entry turn in
     let at-row = turn .before .loop .i * start .args .n in
     (omega (arith, turn .before .loop .inv .1, start .pre .3), omega (arith, from-length at-row (now (start .args .g)), ends turn), omega (arith, from-length at-row (now (start .args .tau)), ends turn), turn .loop-test .taken)
-
-mul-add-unit-row : tie.Need-mul-add-unit-row Inv-loop μ-loop
-mul-add-unit-row c = omega arith
-
-shared-slice-read-add-unit-row : tie.Need-shared-slice-read-add-unit-row Inv-loop μ-loop
-shared-slice-read-add-unit-row c = omega arith
 
 mul-add-unit-row-2 : tie.Need-mul-add-unit-row-2 Inv-loop μ-loop
 mul-add-unit-row-2 c = omega (arith, ends (c .before .before .before .before .before .before .before .before .before))
@@ -99,20 +81,11 @@ sub-add-unit-row c = omega (arith, ends (c .before .before .before .before .befo
 part-add-unit-row-start : tie.Need-part-add-unit-row-start Inv-loop μ-loop
 part-add-unit-row-start c = omega (arith, ends (c .before .before .before .before .before .before .before .before .before))
 
-part-add-unit-row-end : tie.Need-part-add-unit-row-end Inv-loop μ-loop
-part-add-unit-row-end c = omega arith
-
 add-unit-row-requires : tie.Need-add-unit-row-requires Inv-loop μ-loop
 add-unit-row-requires c κs =
     let turn = c .before .before .before .before .before .before .before .before .before .before in
     let start = entry turn in
     (omega (arith, turn .before .loop .inv .2, start .pre .4), omega (arith, from-length (turn .before .loop .i * start .args .n) (now (start .args .g)), ends turn), turn .loop-test .taken)
-
-add-i : tie.Need-add-i Inv-loop μ-loop
-add-i c = omega arith
-
-loop-less : tie.Need-loop-less Inv-loop μ-loop
-loop-less c = omega arith
 
 loop-again : tie.Need-loop-again Inv-loop μ-loop
 loop-again c =
@@ -153,26 +126,26 @@ column-sums-spec =
     μ-loop
     loop-holds
     mul-start
-    mul-add-terms
-    shared-slice-read-add-terms
+    (λ c. omega arith)
+    (λ c. omega arith)
     mul-add-terms-2
     sub-add-terms
     part-add-terms-start
-    part-add-terms-end
+    (λ c. omega arith)
     mul-add-terms-3
     sub-add-terms-2
     part-add-terms-start-2
-    part-add-terms-end-2
+    (λ c. omega arith)
     add-terms-requires
-    mul-add-unit-row
-    shared-slice-read-add-unit-row
+    (λ c. omega arith)
+    (λ c. omega arith)
     mul-add-unit-row-2
     sub-add-unit-row
     part-add-unit-row-start
-    part-add-unit-row-end
+    (λ c. omega arith)
     add-unit-row-requires
-    add-i
-    loop-less
+    (λ c. omega arith)
+    (λ c. omega arith)
     loop-again
     same-length
     same-length-2

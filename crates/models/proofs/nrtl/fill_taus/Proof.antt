@@ -1,4 +1,4 @@
--- The values of n·n entries, read off the front. Assumes nothing.
+-- The values of n·n entries, read off the front.
 use native.Mathlib.Nat.{mul-le-mul}
 use native.Mathlib.Omega.{arith}
 use Rattle.models.specs.Values.{nrtlSize}

@@ -1,4 +1,4 @@
--- The first term by the sums given, the second over the rows that start at i. Assumes nothing.
+-- The first term by the sums given, the second over the rows that start at i.
 use Prim.Native.Nat.{_+_, _*_, _≤_}
 use native.Mathlib.Omega.{arith}
 use borrow.Author.Needs.{needs}
@@ -20,18 +20,6 @@ small c = mul-le-mul (c .pre .0) (c .pre .0)
 mul-start : tie.Need-mul-start
 mul-start c = omega (arith, ends (c .before .before .before .before .before), small (c .before .before .before .before .before))
 
-mul-result : tie.Need-mul-result
-mul-result c = search needs
-
-shared-slice-read-result : tie.Need-shared-slice-read-result
-shared-slice-read-result c = search needs
-
-mul-result-2 : tie.Need-mul-result-2
-mul-result-2 c = search needs
-
-shared-slice-read-result-2 : tie.Need-shared-slice-read-result-2
-shared-slice-read-result-2 c = search needs
-
 mul-second : tie.Need-mul-second
 mul-second c = omega (arith, ends (c .before .before .before .before .before .before .before), small (c .before .before .before .before .before .before .before))
 
@@ -41,9 +29,6 @@ sub-second c = omega (arith, ends (c .before .before .before .before .before .be
 part-second-start : tie.Need-part-second-start
 part-second-start c = omega (arith, ends (c .before .before .before .before .before .before .before), small (c .before .before .before .before .before .before .before))
 
-part-second-end : tie.Need-part-second-end
-part-second-end c = search needs
-
 mul-second-2 : tie.Need-mul-second-2
 mul-second-2 c = omega (arith, ends (c .before .before .before .before .before .before .before .before), small (c .before .before .before .before .before .before .before .before))
 
@@ -52,9 +37,6 @@ sub-second-2 c = omega (arith, ends (c .before .before .before .before .before .
 
 part-second-start-2 : tie.Need-part-second-start-2
 part-second-start-2 c = omega (arith, ends (c .before .before .before .before .before .before .before .before), small (c .before .before .before .before .before .before .before .before))
-
-part-second-end-2 : tie.Need-part-second-end-2
-part-second-end-2 c = search needs
 
 second-requires : tie.Need-second-requires
 second-requires c κs =
@@ -73,17 +55,17 @@ ln-gamma-spec =
     tie.close
     (tie.spec
     mul-start
-    mul-result
-    shared-slice-read-result
-    mul-result-2
-    shared-slice-read-result-2
+    (λ c. search needs)
+    (λ c. search needs)
+    (λ c. search needs)
+    (λ c. search needs)
     mul-second
     sub-second
     part-second-start
-    part-second-end
+    (λ c. search needs)
     mul-second-2
     sub-second-2
     part-second-start-2
-    part-second-end-2
+    (λ c. search needs)
     second-requires
     returns)

@@ -1,4 +1,4 @@
--- The size, worked out for n within range alone. Assumes nothing.
+-- The size, worked out for n within range alone.
 use mathlib.Core.Path.{refl}
 use native.Mathlib.Omega.{arith}
 use borrow.Author.Needs.{needs}
@@ -6,9 +6,6 @@ use native.Mathlib.Nat.{mul-le-mul}
 use Rattle.models.specs.Values.{nrtlSize}
 use Rattle.models.proofs.nrtl.size.Statement.{statement}
 use Rattle.models.proofs.nrtl.size.Tie as tie
-
-returns : tie.Need-returns
-returns c = search needs
 
 mul-result : tie.Need-mul-result
 mul-result c = omega (arith, mul-le-mul (c .if1 .left) (c .if1 .left))
@@ -27,4 +24,4 @@ unfolding nrtlSize
 returns-2 c = λ _. refl
 
 pub size-spec : {M : Type 1} → statement M
-size-spec = tie.close (tie.spec returns mul-result mul-result-2 mul-result-3 add-result returns-2)
+size-spec = tie.close (tie.spec (λ c. search needs) mul-result mul-result-2 mul-result-3 add-result returns-2)

@@ -1,4 +1,4 @@
--- τ at T fills its table, and G its own: equal entries, equal answers. Assumes nothing.
+-- τ at T fills its table, and G its own: equal entries, equal answers.
 use Prim.Native.Nat.{_+_, _*_, _≤_}
 use native.Mathlib.Nat.{mul-le-mul}
 use native.Mathlib.Omega.{arith}
@@ -15,9 +15,6 @@ use Rattle.models.proofs.nrtl.value_at.Tie as tie
 fits : (c : tie.Start) → (c .args .n * c .args .n * 5 + c .args .n * c .args .n ≤ length (now (c .args .values))) × (c .args .n * c .args .n ≤ 144)
 unfolding nrtlSize
 fits c = (c .pre .1, mul-le-mul (c .pre .0) (c .pre .0))
-
-slice-aggregate-fill-taus : tie.Need-slice-aggregate-fill-taus
-slice-aggregate-fill-taus c = search needs
 
 fill-taus-requires : tie.Need-fill-taus-requires
 fill-taus-requires c κs = let start = c .before .before .before in (start .pre .0, start .pre .1, omega (arith, fits start))
@@ -37,29 +34,14 @@ sub-fill-exponentials c = omega (arith, fits (c .before .before .before .before 
 part-fill-exponentials-start : tie.Need-part-fill-exponentials-start
 part-fill-exponentials-start c = omega (arith, fits (c .before .before .before .before .before))
 
-part-fill-exponentials-end : tie.Need-part-fill-exponentials-end
-part-fill-exponentials-end c = search needs
-
-slice-aggregate-fill-exponentials : tie.Need-slice-aggregate-fill-exponentials
-slice-aggregate-fill-exponentials c = search needs
-
 mul-fill-exponentials-2 : tie.Need-mul-fill-exponentials-2
 mul-fill-exponentials-2 c = omega (arith, fits (c .before .before .before .before .before .before .before))
-
-slice-aggregate-fill-exponentials-2 : tie.Need-slice-aggregate-fill-exponentials-2
-slice-aggregate-fill-exponentials-2 c = search needs
 
 fill-exponentials-requires : tie.Need-fill-exponentials-requires
 fill-exponentials-requires c κs =
     let start = c .before .before .before .before .before .before .before .before in
     let n = start .args .n in
     (omega (arith, from-length (n * n * 5) (now (start .args .values)), fits start), omega (arith, c .before .before .before .before .fill-taus .kept .1 .1 .1 .0, fits start), omega (arith, fits start))
-
-slice-aggregate-value-over : tie.Need-slice-aggregate-value-over
-slice-aggregate-value-over c = search needs
-
-slice-aggregate-value-over-2 : tie.Need-slice-aggregate-value-over-2
-slice-aggregate-value-over-2 c = search needs
 
 value-over-requires : tie.Need-value-over-requires
 value-over-requires c κs =
@@ -75,19 +57,19 @@ pub value-at-spec : {M : Type 1} → statement M
 value-at-spec =
     tie.close
     (tie.spec
-    slice-aggregate-fill-taus
+    (λ c. search needs)
     fill-taus-requires
     mul-at
     mul-at-2
     mul-fill-exponentials
     sub-fill-exponentials
     part-fill-exponentials-start
-    part-fill-exponentials-end
-    slice-aggregate-fill-exponentials
+    (λ c. search needs)
+    (λ c. search needs)
     mul-fill-exponentials-2
-    slice-aggregate-fill-exponentials-2
+    (λ c. search needs)
     fill-exponentials-requires
-    slice-aggregate-value-over
-    slice-aggregate-value-over-2
+    (λ c. search needs)
+    (λ c. search needs)
     value-over-requires
     returns)

@@ -1,4 +1,4 @@
--- The sums once, then the quantity asked for, by the laws that let them be worked out once. Assumes nothing.
+-- The sums once, then the quantity asked for, by the laws that let them be worked out once.
 use native.Mathlib.Omega.{arith}
 use borrow.Author.Needs.{needs}
 use denote.Ref.{now}
@@ -13,26 +13,11 @@ use Rattle.models.proofs.nrtl.value_over.Tie as tie
 abbrev entry : tie.After-column-sums → tie.Start
 entry c = c .before .before .before .before .before .before
 
-slice-aggregate-column-sums : tie.Need-slice-aggregate-column-sums
-slice-aggregate-column-sums c = search needs
-
-slice-aggregate-column-sums-2 : tie.Need-slice-aggregate-column-sums-2
-slice-aggregate-column-sums-2 c = search needs
-
 column-sums-requires : tie.Need-column-sums-requires
 column-sums-requires c κs =
     let pre = c .before .before .before .before .before .pre in
     let start = filled-less (pre .0) (zeros 12) in
     (pre .1, pre .2, pre .3, omega (arith, pre .0), omega (arith, pre .0), start, start)
-
-enum-known-q : tie.Need-enum-known-q
-enum-known-q c = search needs
-
-slice-aggregate-ln-gamma : tie.Need-slice-aggregate-ln-gamma
-slice-aggregate-ln-gamma c = search needs
-
-slice-aggregate-ln-gamma-2 : tie.Need-slice-aggregate-ln-gamma-2
-slice-aggregate-ln-gamma-2 c = search needs
 
 ln-gamma-requires : tie.Need-ln-gamma-requires
 ln-gamma-requires c κs =
@@ -40,32 +25,11 @@ ln-gamma-requires c κs =
     let pre = entry sums .pre in
     (pre .0, index-ln (c .before .before .before .q .given .1) (pre .4), pre .1, pre .2, omega (arith, sums .column-sums .kept .1 .1 .1 .1 .0, pre .0), omega (arith, sums .column-sums .kept .1 .1 .1 .1 .1 .0, pre .0), pre .3)
 
-enum-known-q-2 : tie.Need-enum-known-q-2
-enum-known-q-2 c = search needs
-
-slice-aggregate-ln-gamma-3 : tie.Need-slice-aggregate-ln-gamma-3
-slice-aggregate-ln-gamma-3 c = search needs
-
-slice-aggregate-ln-gamma-4 : tie.Need-slice-aggregate-ln-gamma-4
-slice-aggregate-ln-gamma-4 c = search needs
-
 ln-gamma-requires-2 : tie.Need-ln-gamma-requires-2
 ln-gamma-requires-2 c κs =
     let sums = c .before .before .before .before .before .before .before in
     let pre = entry sums .pre in
     (pre .0, index-gamma (c .before .before .before .q2 .given .1) (pre .4), pre .1, pre .2, omega (arith, sums .column-sums .kept .1 .1 .1 .1 .0, pre .0), omega (arith, sums .column-sums .kept .1 .1 .1 .1 .1 .0, pre .0), pre .3)
-
-exp-requires : tie.Need-exp-requires
-exp-requires c κs = tt
-
-enum-told : tie.Need-enum-told
-enum-told c = search needs
-
-slice-aggregate-excess-by : tie.Need-slice-aggregate-excess-by
-slice-aggregate-excess-by c = search needs
-
-slice-aggregate-excess-by-2 : tie.Need-slice-aggregate-excess-by-2
-slice-aggregate-excess-by-2 c = search needs
 
 excess-by-requires : tie.Need-excess-by-requires
 excess-by-requires c κs =
@@ -95,21 +59,21 @@ pub value-over-spec : {M : Type 1} → statement M
 value-over-spec =
     tie.close
     (tie.spec
-    slice-aggregate-column-sums
-    slice-aggregate-column-sums-2
+    (λ c. search needs)
+    (λ c. search needs)
     column-sums-requires
-    enum-known-q
-    slice-aggregate-ln-gamma
-    slice-aggregate-ln-gamma-2
+    (λ c. search needs)
+    (λ c. search needs)
+    (λ c. search needs)
     ln-gamma-requires
-    enum-known-q-2
-    slice-aggregate-ln-gamma-3
-    slice-aggregate-ln-gamma-4
+    (λ c. search needs)
+    (λ c. search needs)
+    (λ c. search needs)
     ln-gamma-requires-2
-    exp-requires
-    enum-told
-    slice-aggregate-excess-by
-    slice-aggregate-excess-by-2
+    (λ c κs. tt)
+    (λ c. search needs)
+    (λ c. search needs)
+    (λ c. search needs)
     excess-by-requires
     returns
     returns-2

@@ -1,4 +1,4 @@
--- The values by log(T), as the definition takes them. Assumes nothing.
+-- The values by log(T), as the definition takes them.
 use mathlib.Core.Path.{ap}
 use borrow.Author.Needs.{needs}
 use denote.Ref.{now}
@@ -9,15 +9,6 @@ use Rattle.models.specs.Values.{fiveAt}
 use Rattle.models.proofs.parameters.fill_values.Statement.{statement}
 use Rattle.models.proofs.parameters.fill_values.Tie as tie
 
-log-requires : tie.Need-log-requires
-log-requires c κs = tt
-
-fill-values-by-requires : tie.Need-fill-values-by-requires
-fill-values-by-requires c κs = search needs
-
-same-length : tie.Need-same-length
-same-length c = search needs
-
 returns : tie.Need-returns
 unfolding tdAt
 returns c =
@@ -26,4 +17,4 @@ returns c =
     filled-as (λ k b. ap (tdBy (fiveAt (now (a .fives)) (k * 5)) (a .t)) (call .before .before .log .ensures)) (call .fill-values-by .ensures)
 
 pub fill-values-spec : {M : Type 1} → statement M
-fill-values-spec = tie.close (tie.spec log-requires fill-values-by-requires same-length returns)
+fill-values-spec = tie.close (tie.spec (λ c κs. tt) (λ c κs. search needs) (λ c. search needs) returns)

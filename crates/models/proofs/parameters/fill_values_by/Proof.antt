@@ -1,4 +1,4 @@
--- Each turn writes one entry. Assumes nothing.
+-- Each turn writes one entry.
 use mathlib.Core.Path.{_≡_, refl, _∙_}
 use Prim.Native.Nat.{_*_, _-_, _≤_}
 use native.Mathlib.Omega.{arith}
@@ -19,27 +19,6 @@ abbrev μ-loop : tie.MeasureT-loop
 
 loop-holds : tie.Need-loop-holds Inv-loop μ-loop
 loop-holds c = (omega arith, refl, filled-none (omega arith))
-
-mul-five-at : tie.Need-mul-five-at Inv-loop μ-loop
-mul-five-at c = omega arith
-
-five-at-requires : tie.Need-five-at-requires Inv-loop μ-loop
-five-at-requires c κs = search needs
-
-value-by-requires : tie.Need-value-by-requires Inv-loop μ-loop
-value-by-requires c κs = tt
-
-mul-out : tie.Need-mul-out Inv-loop μ-loop
-mul-out c = omega arith
-
-slice-write-out : tie.Need-slice-write-out Inv-loop μ-loop
-slice-write-out c = omega arith
-
-add-k : tie.Need-add-k Inv-loop μ-loop
-add-k c = omega arith
-
-loop-less : tie.Need-loop-less Inv-loop μ-loop
-loop-less c = omega arith
 
 loop-again : tie.Need-loop-again Inv-loop μ-loop
 loop-again c =
@@ -62,13 +41,13 @@ fill-values-by-spec =
     Inv-loop
     μ-loop
     loop-holds
-    mul-five-at
-    five-at-requires
-    value-by-requires
-    mul-out
-    slice-write-out
-    add-k
-    loop-less
+    (λ c. omega arith)
+    (λ c κs. search needs)
+    (λ c κs. tt)
+    (λ c. omega arith)
+    (λ c. omega arith)
+    (λ c. omega arith)
+    (λ c. omega arith)
     loop-again
     same-length
     returns)

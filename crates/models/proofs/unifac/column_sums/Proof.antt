@@ -51,28 +51,10 @@ sub-add-row c = omega (arith, ends c)
 part-add-row-start : tie.Need-part-add-row-start Inv-loop μ-loop
 part-add-row-start c = omega (arith, ends c)
 
-part-add-row-end : tie.Need-part-add-row-end Inv-loop μ-loop
-part-add-row-end c = omega arith
-
-mul-add-row-2 : tie.Need-mul-add-row-2 Inv-loop μ-loop
-mul-add-row-2 c = omega arith
-
-shared-slice-read-add-row : tie.Need-shared-slice-read-add-row Inv-loop μ-loop
-shared-slice-read-add-row c = omega arith
-
-slice-aggregate-add-row : tie.Need-slice-aggregate-add-row Inv-loop μ-loop
-slice-aggregate-add-row c = search needs
-
 add-row-requires : tie.Need-add-row-requires Inv-loop μ-loop
 add-row-requires c κs =
     let turn = c .before .before .before in
     (omega (arith, from-length (turn .before .loop .m * entry turn .args .ng) (now (entry turn .args .psi)), ends turn), omega arith)
-
-add-m : tie.Need-add-m Inv-loop μ-loop
-add-m c = omega arith
-
-loop-less : tie.Need-loop-less Inv-loop μ-loop
-loop-less c = omega arith
 
 loop-again : tie.Need-loop-again Inv-loop μ-loop
 loop-again c =
@@ -101,12 +83,12 @@ column-sums-spec =
     mul-add-row
     sub-add-row
     part-add-row-start
-    part-add-row-end
-    mul-add-row-2
-    shared-slice-read-add-row
-    slice-aggregate-add-row
+    (λ c. omega arith)
+    (λ c. omega arith)
+    (λ c. omega arith)
+    (λ c. search needs)
     add-row-requires
-    add-m
-    loop-less
+    (λ c. omega arith)
+    (λ c. omega arith)
     loop-again
     returns)

@@ -5,15 +5,9 @@ use Rattle.models.specs.Unifac.{combinatorialBy, five}
 use Rattle.models.proofs.unifac.combinatorial.Statement.{statement}
 use Rattle.models.proofs.unifac.combinatorial.Tie as tie
 
-log-requires : tie.Need-log-requires
-log-requires c κs = tt
-
-log-requires-2 : tie.Need-log-requires-2
-log-requires-2 c κs = tt
-
 returns : tie.Need-returns
 unfolding combinatorialBy one five dec round ofBits
 returns c = rw (c .before .log .ensures, c .log2 .ensures)
 
 pub combinatorial-spec : {M : Type 1} → statement M
-combinatorial-spec = tie.close (tie.spec log-requires log-requires-2 returns)
+combinatorial-spec = tie.close (tie.spec (λ c κs. tt) (λ c κs. tt) returns)

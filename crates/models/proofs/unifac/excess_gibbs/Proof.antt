@@ -1,4 +1,4 @@
--- The sum of x_i ln γ_i, one component after the other. Assumes nothing.
+-- The sum of x_i ln γ_i, one component after the other.
 use mathlib.Core.Path.{_≡_}
 use Prim.Native.Nat.{_-_, _≤_}
 use native.Mathlib.Omega.{arith}
@@ -23,9 +23,6 @@ Inv-loop s lens groups counts q psi x n ng r-each q-each gamma total₀ i₀ tot
 abbrev μ-loop : tie.MeasureT-loop
 μ-loop s lens groups counts q psi x n ng r-each q-each gamma total₀ i₀ total i = n - i
 
-slice-aggregate-gamma-k : tie.Need-slice-aggregate-gamma-k Inv-loop μ-loop
-slice-aggregate-gamma-k c = search needs
-
 gamma-k-requires : tie.Need-gamma-k-requires Inv-loop μ-loop
 gamma-k-requires c κs =
     let start = c .before .before .before .before .before .before .before .before .before .before in
@@ -35,38 +32,11 @@ gamma-k-requires c κs =
 loop-holds : tie.Need-loop-holds Inv-loop μ-loop
 loop-holds c = (omega arith, search needs, search needs, search needs, sum-none _)
 
-mul-total : tie.Need-mul-total Inv-loop μ-loop
-mul-total c = omega arith
-
-shared-slice-read-total : tie.Need-shared-slice-read-total Inv-loop μ-loop
-shared-slice-read-total c = omega arith
-
-mul-ln-gamma-by : tie.Need-mul-ln-gamma-by Inv-loop μ-loop
-mul-ln-gamma-by c = omega arith
-
-array-read-ln-gamma-by : tie.Need-array-read-ln-gamma-by Inv-loop μ-loop
-array-read-ln-gamma-by c = omega arith
-
-mul-ln-gamma-by-2 : tie.Need-mul-ln-gamma-by-2 Inv-loop μ-loop
-mul-ln-gamma-by-2 c = omega arith
-
-array-read-ln-gamma-by-2 : tie.Need-array-read-ln-gamma-by-2 Inv-loop μ-loop
-array-read-ln-gamma-by-2 c = omega arith
-
-slice-aggregate-ln-gamma-by : tie.Need-slice-aggregate-ln-gamma-by Inv-loop μ-loop
-slice-aggregate-ln-gamma-by c = search needs
-
 ln-gamma-by-requires : tie.Need-ln-gamma-by-requires Inv-loop μ-loop
 ln-gamma-by-requires c κs =
     let start = c .before .before .before .before .before .before .before .before .before .before .before .before .before .before .before in
     let top = c .before .before .before in
     (listed-less (start .pre .0) (top .loop .i) (start .args .ng) (c .before .before .loop-test .taken) (omega arith), omega arith, start .pre .2, start .pre .3, start .pre .4, top .loop .inv .3)
-
-add-i : tie.Need-add-i Inv-loop μ-loop
-add-i c = omega arith
-
-loop-less : tie.Need-loop-less Inv-loop μ-loop
-loop-less c = omega arith
 
 loop-again : tie.Need-loop-again Inv-loop μ-loop
 loop-again c =
@@ -85,18 +55,18 @@ excess-gibbs-spec =
     (tie.spec
     Inv-loop
     μ-loop
-    slice-aggregate-gamma-k
+    (λ c. search needs)
     gamma-k-requires
     loop-holds
-    mul-total
-    shared-slice-read-total
-    mul-ln-gamma-by
-    array-read-ln-gamma-by
-    mul-ln-gamma-by-2
-    array-read-ln-gamma-by-2
-    slice-aggregate-ln-gamma-by
+    (λ c. omega arith)
+    (λ c. omega arith)
+    (λ c. omega arith)
+    (λ c. omega arith)
+    (λ c. omega arith)
+    (λ c. omega arith)
+    (λ c. search needs)
     ln-gamma-by-requires
-    add-i
-    loop-less
+    (λ c. omega arith)
+    (λ c. omega arith)
     loop-again
     returns)

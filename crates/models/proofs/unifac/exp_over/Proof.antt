@@ -1,4 +1,4 @@
--- The arguments are written place by place over what stood there, then each takes its exp. Assumes nothing.
+-- The arguments are written place by place over what stood there, then each takes its exp.
 use mathlib.Core.Path.{_≡_, refl, ap, _∙_}
 use Prim.Native.Nat.{_-_, _≤_}
 use native.Mathlib.Omega.{arith}
@@ -21,32 +21,11 @@ abbrev μ-loop : tie.MeasureT-loop
 loop-holds : tie.Need-loop-holds Inv-loop μ-loop
 loop-holds c = (omega arith, refl, upto-none _ _ _)
 
-mul-out : tie.Need-mul-out Inv-loop μ-loop
-mul-out c = omega arith
-
-slice-read-out : tie.Need-slice-read-out Inv-loop μ-loop
-slice-read-out c = omega arith
-
-mul-out-2 : tie.Need-mul-out-2 Inv-loop μ-loop
-mul-out-2 c = omega arith
-
-slice-write-out : tie.Need-slice-write-out Inv-loop μ-loop
-slice-write-out c = omega arith
-
-add-k : tie.Need-add-k Inv-loop μ-loop
-add-k c = omega arith
-
-loop-less : tie.Need-loop-less Inv-loop μ-loop
-loop-less c = omega arith
-
 loop-again : tie.Need-loop-again Inv-loop μ-loop
 loop-again c =
     let top = c .before .before in
     let t = top .before .before .args .t in
     (omega arith, simp length-set (top .loop .inv .1), upto-more _ _ _ _ (omega arith) (ap (λ (v : Float). neg v ⊘ t) (upto-next _ _ _ _ (omega arith) (top .loop .inv .2))) (top .loop .inv .2))
-
-exp-each-requires : tie.Need-exp-each-requires Inv-loop μ-loop
-exp-each-requires c κs = omega arith
 
 same-length : tie.Need-same-length Inv-loop μ-loop
 same-length c = c .before .before .exp-each .kept .0 ∙ c .before .before .before .before .before .loop .inv .1
@@ -65,13 +44,13 @@ exp-over-spec =
     Inv-loop
     μ-loop
     loop-holds
-    mul-out
-    slice-read-out
-    mul-out-2
-    slice-write-out
-    add-k
-    loop-less
+    (λ c. omega arith)
+    (λ c. omega arith)
+    (λ c. omega arith)
+    (λ c. omega arith)
+    (λ c. omega arith)
+    (λ c. omega arith)
     loop-again
-    exp-each-requires
+    (λ c κs. omega arith)
     same-length
     returns)

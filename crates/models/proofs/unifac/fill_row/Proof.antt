@@ -1,4 +1,4 @@
--- a of the row at T, then exp of each over T. Assumes nothing.
+-- a of the row at T, then exp of each over T.
 use mathlib.Core.Path.{ap}
 use borrow.Author.Needs.{needs}
 use lib.Ieee.{Float, neg}
@@ -9,15 +9,6 @@ use Rattle.models.specs.UnifacSteps.{psiBy}
 use Rattle.models.proofs.unifac.fill_row.Statement.{statement}
 use Rattle.models.proofs.unifac.fill_row.Tie as tie
 
-fill-values-by-requires : tie.Need-fill-values-by-requires
-fill-values-by-requires c κs = search needs
-
-exp-over-requires : tie.Need-exp-over-requires
-exp-over-requires c κs = search needs
-
-same-length : tie.Need-same-length
-same-length c = search needs
-
 returns : tie.Need-returns
 unfolding psiBy
 returns c =
@@ -27,4 +18,4 @@ returns c =
     filled-as (λ k b. ap (λ (v : Float). expOf (neg v ⊘ t)) (block .fill-values-by .ensures .each k b)) (over .exp-over .ensures)
 
 pub fill-row-spec : {M : Type 1} → statement M
-fill-row-spec = tie.close (tie.spec fill-values-by-requires exp-over-requires same-length returns)
+fill-row-spec = tie.close (tie.spec (λ c κs. search needs) (λ c κs. search needs) (λ c. search needs) returns)

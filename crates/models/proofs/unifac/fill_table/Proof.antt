@@ -1,4 +1,4 @@
--- a of each entry at T, then exp of each over T; the flat places are the table's. Assumes nothing.
+-- a of each entry at T, then exp of each over T; the flat places are the table's.
 use Prim.Native.Nat.{_+_}
 use native.Mathlib.Nat.{mul-le-mul}
 use native.Mathlib.Omega.{arith}
@@ -10,14 +10,8 @@ use Rattle.models.proofs.UnifacLaws.{table-filled}
 use Rattle.models.proofs.unifac.fill_table.Statement.{statement}
 use Rattle.models.proofs.unifac.fill_table.Tie as tie
 
-add-five : tie.Need-add-five
-add-five c = omega arith
-
 mul-count : tie.Need-mul-count
 mul-count c = omega (arith, mul-le-mul (c .before .before .pre .0) (c .before .before .pre .0))
-
-mul-fill-values : tie.Need-mul-fill-values
-mul-fill-values c = omega arith
 
 sub-fill-values : tie.Need-sub-fill-values
 unfolding countsAt
@@ -27,9 +21,6 @@ part-fill-values-start : tie.Need-part-fill-values-start
 unfolding countsAt
 part-fill-values-start c = omega (arith, c .before .before .pre .1)
 
-part-fill-values-end : tie.Need-part-fill-values-end
-part-fill-values-end c = omega arith
-
 fill-values-requires : tie.Need-fill-values-requires
 unfolding countsAt
 fill-values-requires c κs =
@@ -37,12 +28,6 @@ fill-values-requires c κs =
     let n = start .args .ng in
     let small = mul-le-mul (start .pre .0) (start .pre .0) in
     (omega (arith, from-length (n + n) (now (start .args .values)), start .pre .1), start .pre .2, omega (arith, small))
-
-exp-over-requires : tie.Need-exp-over-requires
-exp-over-requires c κs = search needs
-
-same-length : tie.Need-same-length
-same-length c = search needs
 
 returns : tie.Need-returns
 returns c =
@@ -54,13 +39,13 @@ pub fill-table-spec : {M : Type 1} → statement M
 fill-table-spec =
     tie.close
     (tie.spec
-    add-five
+    (λ c. omega arith)
     mul-count
-    mul-fill-values
+    (λ c. omega arith)
     sub-fill-values
     part-fill-values-start
-    part-fill-values-end
+    (λ c. omega arith)
     fill-values-requires
-    exp-over-requires
-    same-length
+    (λ c κs. search needs)
+    (λ c. search needs)
     returns)

@@ -18,49 +18,16 @@ Inv-loop q theta psi ng denom logs gamma₀ k₀ gamma k = (k ≤ ng) × (length
 abbrev μ-loop : tie.MeasureT-loop
 μ-loop q theta psi ng denom logs gamma₀ k₀ gamma k = ng - k
 
-column-sums-requires : tie.Need-column-sums-requires Inv-loop μ-loop
-column-sums-requires c κs = search needs
-
-slice-aggregate-log-each : tie.Need-slice-aggregate-log-each Inv-loop μ-loop
-slice-aggregate-log-each c = search needs
-
 log-each-requires : tie.Need-log-each-requires Inv-loop μ-loop
 log-each-requires c κs = omega (arith, c .before .column-sums .ok, c .before .before .before .before .before .pre .0)
 
 loop-holds : tie.Need-loop-holds Inv-loop μ-loop
 loop-holds c = (omega arith, refl, omega (arith, c .before .log-each .kept .0, c .before .before .before .column-sums .ok), filled-none (omega arith))
 
-mul-group-gamma : tie.Need-mul-group-gamma Inv-loop μ-loop
-mul-group-gamma c = omega arith
-
-shared-slice-read-group-gamma : tie.Need-shared-slice-read-group-gamma Inv-loop μ-loop
-shared-slice-read-group-gamma c = omega arith
-
-mul-group-gamma-2 : tie.Need-mul-group-gamma-2 Inv-loop μ-loop
-mul-group-gamma-2 c = omega arith
-
-array-read-group-gamma : tie.Need-array-read-group-gamma Inv-loop μ-loop
-array-read-group-gamma c = omega arith
-
-slice-aggregate-group-gamma : tie.Need-slice-aggregate-group-gamma Inv-loop μ-loop
-slice-aggregate-group-gamma c = search needs
-
 group-gamma-requires : tie.Need-group-gamma-requires Inv-loop μ-loop
 group-gamma-requires c κs =
     let start = c .before .before .before .before .before .before .before .before .before .before .before in
     (start .pre .0, c .before .before .loop-test .taken, start .pre .2, start .pre .3, omega (arith, start .pre .0, c .before .before .before .before .before .before .before .column-sums .ok))
-
-mul-gamma : tie.Need-mul-gamma Inv-loop μ-loop
-mul-gamma c = omega arith
-
-array-write-gamma : tie.Need-array-write-gamma Inv-loop μ-loop
-array-write-gamma c = omega arith
-
-add-k : tie.Need-add-k Inv-loop μ-loop
-add-k c = omega arith
-
-loop-less : tie.Need-loop-less Inv-loop μ-loop
-loop-less c = omega arith
 
 loop-again : tie.Need-loop-again Inv-loop μ-loop
 loop-again c =
@@ -86,19 +53,19 @@ gamma-k-spec =
     (tie.spec
     Inv-loop
     μ-loop
-    column-sums-requires
-    slice-aggregate-log-each
+    (λ c κs. search needs)
+    (λ c. search needs)
     log-each-requires
     loop-holds
-    mul-group-gamma
-    shared-slice-read-group-gamma
-    mul-group-gamma-2
-    array-read-group-gamma
-    slice-aggregate-group-gamma
+    (λ c. omega arith)
+    (λ c. omega arith)
+    (λ c. omega arith)
+    (λ c. omega arith)
+    (λ c. search needs)
     group-gamma-requires
-    mul-gamma
-    array-write-gamma
-    add-k
-    loop-less
+    (λ c. omega arith)
+    (λ c. omega arith)
+    (λ c. omega arith)
+    (λ c. omega arith)
     loop-again
     returns)

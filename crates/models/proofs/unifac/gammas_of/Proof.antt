@@ -27,14 +27,8 @@ entry c = c .before .before .before .before .before .before .before
 below : (c : tie.In-loop Inv-loop μ-loop) → (getD (now (entry c .args .named)) (c .before .loop .p) 0 < entry c .args .ng) × (entry c .args .ng ≤ 32) × (length (c .before .before .column-sums .result) ≡ 32)
 below c = (entry c .pre .4 _ (omega (arith, c .loop-test .taken, c .before .loop .inv .1)), entry c .pre .0, omega (arith, c .before .before .column-sums .ok))
 
-column-sums-requires : tie.Need-column-sums-requires Inv-loop μ-loop
-column-sums-requires c κs = search needs
-
 loop-holds : tie.Need-loop-holds Inv-loop μ-loop
 loop-holds c = (omega arith, refl, refl, named-none _ _ _)
-
-shared-slice-read-k : tie.Need-shared-slice-read-k Inv-loop μ-loop
-shared-slice-read-k c = omega arith
 
 cast-k : tie.Need-cast-k Inv-loop μ-loop
 cast-k c = omega (arith, below (c .before))
@@ -45,17 +39,11 @@ mul-log c = omega (arith, below (c .before))
 array-read-log : tie.Need-array-read-log Inv-loop μ-loop
 array-read-log c = omega (arith, below (c .before))
 
-log-requires : tie.Need-log-requires Inv-loop μ-loop
-log-requires c κs = search needs
-
 mul-group-gamma : tie.Need-mul-group-gamma Inv-loop μ-loop
 mul-group-gamma c = omega (arith, below (c .before .before))
 
 shared-slice-read-group-gamma : tie.Need-shared-slice-read-group-gamma Inv-loop μ-loop
 shared-slice-read-group-gamma c = omega (arith, below (c .before .before .before))
-
-slice-aggregate-group-gamma : tie.Need-slice-aggregate-group-gamma Inv-loop μ-loop
-slice-aggregate-group-gamma c = search needs
 
 group-gamma-requires : tie.Need-group-gamma-requires Inv-loop μ-loop
 group-gamma-requires c κs =
@@ -68,12 +56,6 @@ mul-gamma c = omega (arith, below (c .before .before .before .before .before))
 
 array-write-gamma : tie.Need-array-write-gamma Inv-loop μ-loop
 array-write-gamma c = omega (arith, below (c .before .before .before .before .before))
-
-add-p : tie.Need-add-p Inv-loop μ-loop
-add-p c = omega arith
-
-loop-less : tie.Need-loop-less Inv-loop μ-loop
-loop-less c = omega arith
 
 loop-again : tie.Need-loop-again Inv-loop μ-loop
 loop-again c =
@@ -98,20 +80,20 @@ gammas-of-spec =
     (tie.spec
     Inv-loop
     μ-loop
-    column-sums-requires
+    (λ c κs. search needs)
     loop-holds
-    shared-slice-read-k
+    (λ c. omega arith)
     cast-k
     mul-log
     array-read-log
-    log-requires
+    (λ c κs. search needs)
     mul-group-gamma
     shared-slice-read-group-gamma
-    slice-aggregate-group-gamma
+    (λ c. search needs)
     group-gamma-requires
     mul-gamma
     array-write-gamma
-    add-p
-    loop-less
+    (λ c. omega arith)
+    (λ c. omega arith)
     loop-again
     returns)

@@ -32,9 +32,6 @@ sub-row-sum c = omega (arith, ends (c .before .before .before))
 part-row-sum-start : tie.Need-part-row-sum-start
 part-row-sum-start c = omega (arith, ends (c .before .before .before))
 
-part-row-sum-end : tie.Need-part-row-sum-end
-part-row-sum-end c = search needs
-
 row-sum-requires : tie.Need-row-sum-requires
 row-sum-requires c κs =
     let start = c .before .before .before .before in (
@@ -58,6 +55,6 @@ group-gamma-spec =
     mul-row-sum
     sub-row-sum
     part-row-sum-start
-    part-row-sum-end
+    (λ c. search needs)
     row-sum-requires
     returns)

@@ -14,23 +14,11 @@ entry c = c .before .before .before .before .before .before .before .before
 ends : (c : tie.After-shared-slice-known7) → c .before .start-of .result + getD (now (entry c .args .lens)) (entry c .args .i) 0 ≤ length (now (entry c .args .groups))
 ends c = list-ends (entry c .args .i) (entry c .pre .0) (c .before .start-of .ensures) .0
 
-start-of-requires : tie.Need-start-of-requires
-start-of-requires c κs = search needs
-
-shared-slice-read-end : tie.Need-shared-slice-read-end
-shared-slice-read-end c = search needs
-
 cast-end : tie.Need-cast-end
 cast-end c = omega (arith, c .shared-slice-known7 .given (entry c .args .i))
 
 add-end : tie.Need-add-end
 add-end c = omega (arith, ends c, entry c .good)
-
-sub-gammas-of : tie.Need-sub-gammas-of
-sub-gammas-of c = search needs
-
-part-gammas-of-start : tie.Need-part-gammas-of-start
-part-gammas-of-start c = search needs
 
 part-gammas-of-end : tie.Need-part-gammas-of-end
 part-gammas-of-end c = omega (arith, ends c)
@@ -49,12 +37,12 @@ pub listed-gammas-spec : {M : Type 1} → statement M
 listed-gammas-spec =
     tie.close
     (tie.spec
-    start-of-requires
-    shared-slice-read-end
+    (λ c κs. search needs)
+    (λ c. search needs)
     cast-end
     add-end
-    sub-gammas-of
-    part-gammas-of-start
+    (λ c. search needs)
+    (λ c. search needs)
     part-gammas-of-end
     gammas-of-requires
     returns)

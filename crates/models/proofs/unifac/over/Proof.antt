@@ -7,33 +7,15 @@ use Rattle.models.proofs.ListLaws.{listed-less}
 use Rattle.models.proofs.unifac.over.Statement.{statement}
 use Rattle.models.proofs.unifac.over.Tie as tie
 
-share-requires : tie.Need-share-requires
-share-requires c κs = search needs
-
-enum-known-asked : tie.Need-enum-known-asked
-enum-known-asked c = search needs
-
 ln-gamma-requires : tie.Need-ln-gamma-requires
 ln-gamma-requires c κs =
     let start = c .before .before .before .before .before .before .before .before .before .before .before in
     (listed-less (start .pre .0) _ (start .args .ng) (index-ln (c .before .asked .given .1) (start .pre .7)) (omega arith), omega (arith, index-ln (c .before .asked .given .1) (start .pre .7), start .pre .1), start .pre .2, start .pre .4, start .pre .5)
 
-enum-known-asked-2 : tie.Need-enum-known-asked-2
-enum-known-asked-2 c = search needs
-
 ln-gamma-requires-2 : tie.Need-ln-gamma-requires-2
 ln-gamma-requires-2 c κs =
     let start = c .before .before .before .before .before .before .before .before .before .before .before in
     (listed-less (start .pre .0) _ (start .args .ng) (index-gamma (c .before .asked2 .given .1) (start .pre .7)) (omega arith), omega (arith, index-gamma (c .before .asked2 .given .1) (start .pre .7), start .pre .1), start .pre .2, start .pre .4, start .pre .5)
-
-exp-requires : tie.Need-exp-requires
-exp-requires c κs = tt
-
-enum-told : tie.Need-enum-told
-enum-told c = search needs
-
-excess-gibbs-requires : tie.Need-excess-gibbs-requires
-excess-gibbs-requires c κs = search needs
 
 returns : tie.Need-returns
 returns c =
@@ -54,14 +36,14 @@ pub over-spec : {M : Type 1} → statement M
 over-spec =
     tie.close
     (tie.spec
-    share-requires
-    enum-known-asked
+    (λ c κs. search needs)
+    (λ c. search needs)
     ln-gamma-requires
-    enum-known-asked-2
+    (λ c. search needs)
     ln-gamma-requires-2
-    exp-requires
-    enum-told
-    excess-gibbs-requires
+    (λ c κs. tt)
+    (λ c. search needs)
+    (λ c κs. search needs)
     returns
     returns-2
     returns-3)

@@ -5,15 +5,9 @@ use Rattle.models.proofs.AnswerLaws.{answer-refused, answer-value, firs
 use Rattle.models.proofs.unifac.plain.Statement.{statement}
 use Rattle.models.proofs.unifac.plain.Tie as tie
 
-unifac-fault-requires : tie.Need-unifac-fault-requires
-unifac-fault-requires c κs = tt
-
 returns : tie.Need-returns
 unfolding unifacPlain
 returns c = answer-refused _ (first-left _ (c .before .unifac-fault .ensures .0) (c .if1 .taken)) (c .if1 .taken)
-
-fractions-fault-requires : tie.Need-fractions-fault-requires
-fractions-fault-requires c κs = tt
 
 returns-2 : tie.Need-returns-2
 unfolding unifacPlain
@@ -36,9 +30,9 @@ pub plain-spec : {M : Type 1} → statement M
 plain-spec =
     tie.close
     (tie.spec
-    unifac-fault-requires
+    (λ c κs. tt)
     returns
-    fractions-fault-requires
+    (λ c κs. tt)
     returns-2
     value-at-requires
     returns-3)

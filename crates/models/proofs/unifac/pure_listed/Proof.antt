@@ -10,18 +10,6 @@ use Rattle.models.proofs.unifac.pure_listed.Tie as tie
 group-fractions-pure-requires : tie.Need-group-fractions-pure-requires
 group-fractions-pure-requires c κs = let start = c .before .before .before .before .before in (listed-wider (start .pre .0) 32 (start .pre .2), start .pre .1, start .pre .2)
 
-slice-aggregate-theta : tie.Need-slice-aggregate-theta
-slice-aggregate-theta c = search needs
-
-theta-requires : tie.Need-theta-requires
-theta-requires c κs = search needs
-
-slice-aggregate-listed-gammas : tie.Need-slice-aggregate-listed-gammas
-slice-aggregate-listed-gammas c = search needs
-
-listed-gammas-requires : tie.Need-listed-gammas-requires
-listed-gammas-requires c κs = search needs
-
 returns : tie.Need-returns
 unfolding Unifac.pure
 returns c =
@@ -33,8 +21,8 @@ pure-listed-spec =
     tie.close
     (tie.spec
     group-fractions-pure-requires
-    slice-aggregate-theta
-    theta-requires
-    slice-aggregate-listed-gammas
-    listed-gammas-requires
+    (λ c. search needs)
+    (λ c κs. search needs)
+    (λ c. search needs)
+    (λ c κs. search needs)
     returns)

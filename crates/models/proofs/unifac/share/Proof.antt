@@ -11,21 +11,6 @@ sizes-requires c κs = let start = c .before .before .before .before .before .be
 sizes-requires-2 : tie.Need-sizes-requires-2
 sizes-requires-2 c κs = let start = c .before .before .before .before .before .before .before in (listed-wider (start .pre .0) _ (start .pre .4), start .pre .1)
 
-slice-aggregate-dot : tie.Need-slice-aggregate-dot
-slice-aggregate-dot c = search needs
-
-dot-requires : tie.Need-dot-requires
-dot-requires c κs = search needs
-
-slice-aggregate-dot-2 : tie.Need-slice-aggregate-dot-2
-slice-aggregate-dot-2 c = search needs
-
-dot-requires-2 : tie.Need-dot-requires-2
-dot-requires-2 c κs = search needs
-
-theta-mixed-requires : tie.Need-theta-mixed-requires
-theta-mixed-requires c κs = search needs
-
 returns : tie.Need-returns
 returns c = shares-from _ _ _ _ _ _ (c .before .before .before .before .before .before .sizes .ensures) (c .before .before .before .before .before .sizes2 .ensures) (c .before .before .before .dot .ensures) (c .before .dot2 .ensures) (c .theta-mixed .ensures)
 
@@ -35,9 +20,9 @@ share-spec =
     (tie.spec
     sizes-requires
     sizes-requires-2
-    slice-aggregate-dot
-    dot-requires
-    slice-aggregate-dot-2
-    dot-requires-2
-    theta-mixed-requires
+    (λ c. search needs)
+    (λ c κs. search needs)
+    (λ c. search needs)
+    (λ c κs. search needs)
+    (λ c κs. search needs)
     returns)

@@ -16,35 +16,8 @@ Inv-loop q xg ng qs theta₀ g₀ theta g = (g ≤ ng) × (length theta ≡ 32) 
 abbrev μ-loop : tie.MeasureT-loop
 μ-loop q xg ng qs theta₀ g₀ theta g = ng - g
 
-dot-requires : tie.Need-dot-requires Inv-loop μ-loop
-dot-requires c κs = search needs
-
 loop-holds : tie.Need-loop-holds Inv-loop μ-loop
 loop-holds c = (omega arith, refl, filled-none (omega arith))
-
-mul-theta : tie.Need-mul-theta Inv-loop μ-loop
-mul-theta c = omega arith
-
-shared-slice-read-theta : tie.Need-shared-slice-read-theta Inv-loop μ-loop
-shared-slice-read-theta c = omega arith
-
-mul-theta-2 : tie.Need-mul-theta-2 Inv-loop μ-loop
-mul-theta-2 c = omega arith
-
-shared-slice-read-theta-2 : tie.Need-shared-slice-read-theta-2 Inv-loop μ-loop
-shared-slice-read-theta-2 c = omega arith
-
-mul-theta-3 : tie.Need-mul-theta-3 Inv-loop μ-loop
-mul-theta-3 c = omega arith
-
-array-write-theta : tie.Need-array-write-theta Inv-loop μ-loop
-array-write-theta c = omega arith
-
-add-g : tie.Need-add-g Inv-loop μ-loop
-add-g c = omega arith
-
-loop-less : tie.Need-loop-less Inv-loop μ-loop
-loop-less c = omega arith
 
 loop-again : tie.Need-loop-again Inv-loop μ-loop
 unfolding Unifac.theta
@@ -61,15 +34,15 @@ theta-spec =
     (tie.spec
     Inv-loop
     μ-loop
-    dot-requires
+    (λ c κs. search needs)
     loop-holds
-    mul-theta
-    shared-slice-read-theta
-    mul-theta-2
-    shared-slice-read-theta-2
-    mul-theta-3
-    array-write-theta
-    add-g
-    loop-less
+    (λ c. omega arith)
+    (λ c. omega arith)
+    (λ c. omega arith)
+    (λ c. omega arith)
+    (λ c. omega arith)
+    (λ c. omega arith)
+    (λ c. omega arith)
+    (λ c. omega arith)
     loop-again
     returns)

@@ -8,12 +8,6 @@ use Rattle.models.proofs.unifac.theta_mixed.Tie as tie
 group-fractions-requires : tie.Need-group-fractions-requires
 group-fractions-requires c κs = let start = c .before .before .before .before .before in (listed-wider (start .pre .0) 32 (start .pre .2), start .pre .1, start .pre .4, start .pre .2)
 
-slice-aggregate-theta : tie.Need-slice-aggregate-theta
-slice-aggregate-theta c = search needs
-
-theta-requires : tie.Need-theta-requires
-theta-requires c κs = search needs
-
 returns : tie.Need-returns
 returns c = theta-from _ _ _ (c .before .before .group-fractions .ensures) (c .theta .ensures)
 
@@ -22,6 +16,6 @@ theta-mixed-spec =
     tie.close
     (tie.spec
     group-fractions-requires
-    slice-aggregate-theta
-    theta-requires
+    (λ c. search needs)
+    (λ c κs. search needs)
     returns)

@@ -12,9 +12,6 @@ use Rattle.models.proofs.AnswerLaws.{first-left, first-right}
 use Rattle.models.proofs.unifac.unifac_fault.Statement.{statement}
 use Rattle.models.proofs.unifac.unifac_fault.Tie as tie
 
-lists-fault-requires : tie.Need-lists-fault-requires
-lists-fault-requires c κs = tt
-
 returns : tie.Need-returns
 unfolding unifacFault
 returns c = (first-left _ (c .before .lists-fault .ensures .0) (c .if1 .taken), λ e. absurd (c .if1 .taken e))
@@ -22,17 +19,11 @@ returns c = (first-left _ (c .before .lists-fault .ensures .0) (c .if1 .taken), 
 counts-at-requires : tie.Need-counts-at-requires
 counts-at-requires c κs = c .before .lists-fault .ensures .1 (c .if1 .left) .fewGroups
 
-mul-groups-fault : tie.Need-mul-groups-fault
-mul-groups-fault c = search needs
-
 sub-groups-fault : tie.Need-sub-groups-fault
 sub-groups-fault c = let fit = c .before .before .lists-fault .ensures .1 (c .before .if1 .left) in omega (arith, fit .whole, c .counts-at .ensures .0)
 
 part-groups-fault-start : tie.Need-part-groups-fault-start
 part-groups-fault-start c = let fit = c .before .before .lists-fault .ensures .1 (c .before .if1 .left) in omega (arith, fit .whole, c .counts-at .ensures .0)
-
-part-groups-fault-end : tie.Need-part-groups-fault-end
-part-groups-fault-end c = search needs
 
 groups-fault-requires : tie.Need-groups-fault-requires
 groups-fault-requires c κs =
@@ -55,12 +46,12 @@ pub unifac-fault-spec : {M : Type 1} → statement M
 unifac-fault-spec =
     tie.close
     (tie.spec
-    lists-fault-requires
+    (λ c κs. tt)
     returns
     counts-at-requires
-    mul-groups-fault
+    (λ c. search needs)
     sub-groups-fault
     part-groups-fault-start
-    part-groups-fault-end
+    (λ c. search needs)
     groups-fault-requires
     returns-2)

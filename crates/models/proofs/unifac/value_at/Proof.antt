@@ -6,14 +6,8 @@ use Rattle.models.proofs.UnifacLaws.{value-filled}
 use Rattle.models.proofs.unifac.value_at.Statement.{statement}
 use Rattle.models.proofs.unifac.value_at.Tie as tie
 
-slice-aggregate-fill-table : tie.Need-slice-aggregate-fill-table
-slice-aggregate-fill-table c = search needs
-
 fill-table-requires : tie.Need-fill-table-requires
 fill-table-requires c κs = let all = c .before .before .before .before .before .pre .0 in (all .fewGroups, all .tables, mul-le-mul (all .fewGroups) (all .fewGroups))
-
-slice-aggregate-value-over : tie.Need-slice-aggregate-value-over
-slice-aggregate-value-over c = search needs
 
 value-over-requires : tie.Need-value-over-requires
 value-over-requires c κs =
@@ -30,8 +24,8 @@ pub value-at-spec : {M : Type 1} → statement M
 value-at-spec =
     tie.close
     (tie.spec
-    slice-aggregate-fill-table
+    (λ c. search needs)
     fill-table-requires
-    slice-aggregate-value-over
+    (λ c. search needs)
     value-over-requires
     returns)

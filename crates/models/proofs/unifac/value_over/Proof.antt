@@ -16,32 +16,11 @@ before-counts : (c : tie.Start) → c .args .ng + c .args .ng ≤ length (now (c
 unfolding countsAt
 before-counts c = omega (arith, c .pre .0 .tables)
 
-counts-at-requires : tie.Need-counts-at-requires
-counts-at-requires c κs = search needs
-
-mul-over : tie.Need-mul-over
-mul-over c = search needs
-
-sub-over : tie.Need-sub-over
-sub-over c = search needs
-
-part-over-start : tie.Need-part-over-start
-part-over-start c = search needs
-
-part-over-end : tie.Need-part-over-end
-part-over-end c = search needs
-
-mul-over-2 : tie.Need-mul-over-2
-mul-over-2 c = search needs
-
 sub-over-2 : tie.Need-sub-over-2
 sub-over-2 c = omega (arith, before-counts (c .before .before .before .before .before .before .before))
 
 part-over-start-2 : tie.Need-part-over-start-2
 part-over-start-2 c = omega (arith, before-counts (c .before .before .before .before .before .before .before))
-
-part-over-end-2 : tie.Need-part-over-end-2
-part-over-end-2 c = search needs
 
 over-requires : tie.Need-over-requires
 over-requires c κs =
@@ -66,14 +45,14 @@ pub value-over-spec : {M : Type 1} → statement M
 value-over-spec =
     tie.close
     (tie.spec
-    counts-at-requires
-    mul-over
-    sub-over
-    part-over-start
-    part-over-end
-    mul-over-2
+    (λ c κs. search needs)
+    (λ c. search needs)
+    (λ c. search needs)
+    (λ c. search needs)
+    (λ c. search needs)
+    (λ c. search needs)
     sub-over-2
     part-over-start-2
-    part-over-end-2
+    (λ c. search needs)
     over-requires
     returns)

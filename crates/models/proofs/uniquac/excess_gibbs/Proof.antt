@@ -1,5 +1,5 @@
 -- The three logs of each component are filled before the loop, which keeps the sum of x_k ln γ_k passed; at its end these are
--- all. Assumes nothing.
+-- all.
 use mathlib.Core.Path.{_≡_, refl, ap}
 use Prim.Native.Nat.{_+_, _*_, _-_, _≤_}
 use native.Mathlib.Omega.{arith}
@@ -37,34 +37,10 @@ ratios c = c .before .before .before .before .before .before .before .before .be
 ends : (c : tie.In-loop Inv-loop μ-loop) → let a = start (ratios (c .before)) .args in c .before .loop .i * a .n + a .n ≤ length (now (a .e))
 ends c = let begun = start (ratios (c .before)) in omega (arith, begun .pre .2, row-end (begun .args .n) (begun .args .n) (c .before .loop .i) (c .loop-test .taken))
 
-slice-aggregate-fill-ratios : tie.Need-slice-aggregate-fill-ratios Inv-loop μ-loop
-slice-aggregate-fill-ratios c = search needs
-
-slice-aggregate-fill-ratios-2 : tie.Need-slice-aggregate-fill-ratios-2 Inv-loop μ-loop
-slice-aggregate-fill-ratios-2 c = search needs
-
-fill-ratios-requires : tie.Need-fill-ratios-requires Inv-loop μ-loop
-fill-ratios-requires c κs = search needs
-
-slice-aggregate-fill-logs : tie.Need-slice-aggregate-fill-logs Inv-loop μ-loop
-slice-aggregate-fill-logs c = search needs
-
-slice-aggregate-fill-logs-2 : tie.Need-slice-aggregate-fill-logs-2 Inv-loop μ-loop
-slice-aggregate-fill-logs-2 c = search needs
-
 fill-logs-requires : tie.Need-fill-logs-requires Inv-loop μ-loop
 fill-logs-requires c κs =
     let made = c .before .before .before .before in
     (omega (arith, made .fill-ratios .kept .1 .1 .1 .1 .1 .0, start made .pre .7), omega (arith, start made .pre .7))
-
-slice-aggregate-fill-logs-3 : tie.Need-slice-aggregate-fill-logs-3 Inv-loop μ-loop
-slice-aggregate-fill-logs-3 c = search needs
-
-fill-logs-requires-2 : tie.Need-fill-logs-requires-2 Inv-loop μ-loop
-fill-logs-requires-2 c κs = search needs
-
-slice-aggregate-log-each : tie.Need-slice-aggregate-log-each Inv-loop μ-loop
-slice-aggregate-log-each c = search needs
 
 log-each-requires : tie.Need-log-each-requires Inv-loop μ-loop
 log-each-requires c κs =
@@ -83,53 +59,8 @@ loop-holds c =
       sum-none _,
     )
 
-mul-combinatorial : tie.Need-mul-combinatorial Inv-loop μ-loop
-mul-combinatorial c = omega arith
-
-shared-slice-read-combinatorial : tie.Need-shared-slice-read-combinatorial Inv-loop μ-loop
-shared-slice-read-combinatorial c = omega arith
-
-mul-combinatorial-2 : tie.Need-mul-combinatorial-2 Inv-loop μ-loop
-mul-combinatorial-2 c = omega arith
-
-shared-slice-read-combinatorial-2 : tie.Need-shared-slice-read-combinatorial-2 Inv-loop μ-loop
-shared-slice-read-combinatorial-2 c = omega arith
-
-mul-combinatorial-3 : tie.Need-mul-combinatorial-3 Inv-loop μ-loop
-mul-combinatorial-3 c = omega arith
-
-array-read-combinatorial : tie.Need-array-read-combinatorial Inv-loop μ-loop
-array-read-combinatorial c = omega arith
-
-mul-combinatorial-4 : tie.Need-mul-combinatorial-4 Inv-loop μ-loop
-mul-combinatorial-4 c = omega arith
-
-array-read-combinatorial-2 : tie.Need-array-read-combinatorial-2 Inv-loop μ-loop
-array-read-combinatorial-2 c = omega arith
-
-mul-combinatorial-5 : tie.Need-mul-combinatorial-5 Inv-loop μ-loop
-mul-combinatorial-5 c = omega arith
-
-array-read-combinatorial-3 : tie.Need-array-read-combinatorial-3 Inv-loop μ-loop
-array-read-combinatorial-3 c = omega arith
-
-combinatorial-requires : tie.Need-combinatorial-requires Inv-loop μ-loop
-combinatorial-requires c κs = tt
-
 mul-at : tie.Need-mul-at Inv-loop μ-loop
 mul-at c = let turn = c .before .before .before in omega (arith, ends turn, start (ratios (turn .before)) .good)
-
-mul-s : tie.Need-mul-s Inv-loop μ-loop
-mul-s c = omega arith
-
-shared-slice-read-s : tie.Need-shared-slice-read-s Inv-loop μ-loop
-shared-slice-read-s c = omega arith
-
-mul-residual : tie.Need-mul-residual Inv-loop μ-loop
-mul-residual c = omega arith
-
-shared-slice-read-residual : tie.Need-shared-slice-read-residual Inv-loop μ-loop
-shared-slice-read-residual c = omega arith
 
 mul-residual-2 : tie.Need-mul-residual-2 Inv-loop μ-loop
 mul-residual-2 c = let turn = c .before .before .before .before .before in omega (arith, ends turn, start (ratios (turn .before)) .good)
@@ -140,27 +71,12 @@ sub-residual c = omega (arith, ends (c .before .before .before .before .before))
 part-residual-start : tie.Need-part-residual-start Inv-loop μ-loop
 part-residual-start c = omega (arith, ends (c .before .before .before .before .before))
 
-part-residual-end : tie.Need-part-residual-end Inv-loop μ-loop
-part-residual-end c = omega arith
-
-mul-residual-3 : tie.Need-mul-residual-3 Inv-loop μ-loop
-mul-residual-3 c = omega arith
-
-array-read-residual : tie.Need-array-read-residual Inv-loop μ-loop
-array-read-residual c = omega arith
-
 residual-requires : tie.Need-residual-requires Inv-loop μ-loop
 residual-requires c κs =
     let turn = c .before .before .before .before .before .before in
     let begun = start (ratios (turn .before)) in
     let row = from-length (turn .before .loop .i * begun .args .n) (now (begun .args .e)) in
     (omega (arith, row, ends turn), begun .pre .4, begun .pre .5, turn .loop-test .taken, begun .pre .7)
-
-add-i : tie.Need-add-i Inv-loop μ-loop
-add-i c = omega arith
-
-loop-less : tie.Need-loop-less Inv-loop μ-loop
-loop-less c = omega arith
 
 loop-again : tie.Need-loop-again Inv-loop μ-loop
 loop-again c =
@@ -194,41 +110,41 @@ excess-gibbs-spec =
     (tie.spec
     Inv-loop
     μ-loop
-    slice-aggregate-fill-ratios
-    slice-aggregate-fill-ratios-2
-    fill-ratios-requires
-    slice-aggregate-fill-logs
-    slice-aggregate-fill-logs-2
+    (λ c. search needs)
+    (λ c. search needs)
+    (λ c κs. search needs)
+    (λ c. search needs)
+    (λ c. search needs)
     fill-logs-requires
-    slice-aggregate-fill-logs-3
-    fill-logs-requires-2
-    slice-aggregate-log-each
+    (λ c. search needs)
+    (λ c κs. search needs)
+    (λ c. search needs)
     log-each-requires
     loop-holds
-    mul-combinatorial
-    shared-slice-read-combinatorial
-    mul-combinatorial-2
-    shared-slice-read-combinatorial-2
-    mul-combinatorial-3
-    array-read-combinatorial
-    mul-combinatorial-4
-    array-read-combinatorial-2
-    mul-combinatorial-5
-    array-read-combinatorial-3
-    combinatorial-requires
+    (λ c. omega arith)
+    (λ c. omega arith)
+    (λ c. omega arith)
+    (λ c. omega arith)
+    (λ c. omega arith)
+    (λ c. omega arith)
+    (λ c. omega arith)
+    (λ c. omega arith)
+    (λ c. omega arith)
+    (λ c. omega arith)
+    (λ c κs. tt)
     mul-at
-    mul-s
-    shared-slice-read-s
-    mul-residual
-    shared-slice-read-residual
+    (λ c. omega arith)
+    (λ c. omega arith)
+    (λ c. omega arith)
+    (λ c. omega arith)
     mul-residual-2
     sub-residual
     part-residual-start
-    part-residual-end
-    mul-residual-3
-    array-read-residual
+    (λ c. omega arith)
+    (λ c. omega arith)
+    (λ c. omega arith)
     residual-requires
-    add-i
-    loop-less
+    (λ c. omega arith)
+    (λ c. omega arith)
     loop-again
     returns)

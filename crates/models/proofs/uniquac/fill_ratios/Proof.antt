@@ -1,4 +1,4 @@
--- The loop has filled both ratios below i. Assumes nothing.
+-- The loop has filled both ratios below i.
 use mathlib.Core.Path.{_≡_, refl}
 use Prim.Native.Nat.{_-_, _≤_}
 use native.Mathlib.Omega.{arith}
@@ -18,48 +18,6 @@ abbrev μ-loop : tie.MeasureT-loop
 
 loop-holds : tie.Need-loop-holds Inv-loop μ-loop
 loop-holds c = (omega arith, refl, refl, filled-none (omega arith), filled-none (omega arith))
-
-mul-phi : tie.Need-mul-phi Inv-loop μ-loop
-mul-phi c = omega arith
-
-shared-slice-read-phi : tie.Need-shared-slice-read-phi Inv-loop μ-loop
-shared-slice-read-phi c = omega arith
-
-mul-phi-2 : tie.Need-mul-phi-2 Inv-loop μ-loop
-mul-phi-2 c = omega arith
-
-shared-slice-read-phi-2 : tie.Need-shared-slice-read-phi-2 Inv-loop μ-loop
-shared-slice-read-phi-2 c = omega arith
-
-mul-segments : tie.Need-mul-segments Inv-loop μ-loop
-mul-segments c = omega arith
-
-shared-slice-read-segments : tie.Need-shared-slice-read-segments Inv-loop μ-loop
-shared-slice-read-segments c = omega arith
-
-mul-segments-2 : tie.Need-mul-segments-2 Inv-loop μ-loop
-mul-segments-2 c = omega arith
-
-slice-write-segments : tie.Need-slice-write-segments Inv-loop μ-loop
-slice-write-segments c = omega arith
-
-mul-areas : tie.Need-mul-areas Inv-loop μ-loop
-mul-areas c = omega arith
-
-shared-slice-read-areas : tie.Need-shared-slice-read-areas Inv-loop μ-loop
-shared-slice-read-areas c = omega arith
-
-mul-areas-2 : tie.Need-mul-areas-2 Inv-loop μ-loop
-mul-areas-2 c = omega arith
-
-slice-write-areas : tie.Need-slice-write-areas Inv-loop μ-loop
-slice-write-areas c = omega arith
-
-add-i : tie.Need-add-i Inv-loop μ-loop
-add-i c = omega arith
-
-loop-less : tie.Need-loop-less Inv-loop μ-loop
-loop-less c = omega arith
 
 loop-again : tie.Need-loop-again Inv-loop μ-loop
 loop-again c =
@@ -89,20 +47,20 @@ fill-ratios-spec =
     Inv-loop
     μ-loop
     loop-holds
-    mul-phi
-    shared-slice-read-phi
-    mul-phi-2
-    shared-slice-read-phi-2
-    mul-segments
-    shared-slice-read-segments
-    mul-segments-2
-    slice-write-segments
-    mul-areas
-    shared-slice-read-areas
-    mul-areas-2
-    slice-write-areas
-    add-i
-    loop-less
+    (λ c. omega arith)
+    (λ c. omega arith)
+    (λ c. omega arith)
+    (λ c. omega arith)
+    (λ c. omega arith)
+    (λ c. omega arith)
+    (λ c. omega arith)
+    (λ c. omega arith)
+    (λ c. omega arith)
+    (λ c. omega arith)
+    (λ c. omega arith)
+    (λ c. omega arith)
+    (λ c. omega arith)
+    (λ c. omega arith)
     loop-again
     same-length
     same-length-2

@@ -1,4 +1,4 @@
--- The definition's own steps. Assumes nothing.
+-- The definition's own steps.
 use mathlib.Core.Path.{refl}
 use lib.Ieee.{round, ofBits}
 use Rattle.arithmetic.specs.Floats.{dec, one, half}

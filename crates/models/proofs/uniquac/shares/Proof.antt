@@ -1,4 +1,4 @@
--- The loop has filled the shares below i; their sum is worked out once. Assumes nothing.
+-- The loop has filled the shares below i; their sum is worked out once.
 use mathlib.Core.Path.{_≡_, refl}
 use Prim.Native.Nat.{_-_, _≤_}
 use native.Mathlib.Omega.{arith}
@@ -17,35 +17,8 @@ Inv-loop n s x shares₀ sum i₀ shares i = (i ≤ n) × (length shares ≡ len
 abbrev μ-loop : tie.MeasureT-loop
 μ-loop n s x shares₀ sum i₀ shares i = n - i
 
-dot-requires : tie.Need-dot-requires Inv-loop μ-loop
-dot-requires c κs = search needs
-
 loop-holds : tie.Need-loop-holds Inv-loop μ-loop
 loop-holds c = (omega arith, refl, filled-none (omega arith))
-
-mul-shares : tie.Need-mul-shares Inv-loop μ-loop
-mul-shares c = omega arith
-
-shared-slice-read-shares : tie.Need-shared-slice-read-shares Inv-loop μ-loop
-shared-slice-read-shares c = omega arith
-
-mul-shares-2 : tie.Need-mul-shares-2 Inv-loop μ-loop
-mul-shares-2 c = omega arith
-
-shared-slice-read-shares-2 : tie.Need-shared-slice-read-shares-2 Inv-loop μ-loop
-shared-slice-read-shares-2 c = omega arith
-
-mul-shares-3 : tie.Need-mul-shares-3 Inv-loop μ-loop
-mul-shares-3 c = omega arith
-
-slice-write-shares : tie.Need-slice-write-shares Inv-loop μ-loop
-slice-write-shares c = omega arith
-
-add-i : tie.Need-add-i Inv-loop μ-loop
-add-i c = omega arith
-
-loop-less : tie.Need-loop-less Inv-loop μ-loop
-loop-less c = omega arith
 
 loop-again : tie.Need-loop-again Inv-loop μ-loop
 unfolding share
@@ -65,16 +38,16 @@ shares-spec =
     (tie.spec
     Inv-loop
     μ-loop
-    dot-requires
+    (λ c κs. search needs)
     loop-holds
-    mul-shares
-    shared-slice-read-shares
-    mul-shares-2
-    shared-slice-read-shares-2
-    mul-shares-3
-    slice-write-shares
-    add-i
-    loop-less
+    (λ c. omega arith)
+    (λ c. omega arith)
+    (λ c. omega arith)
+    (λ c. omega arith)
+    (λ c. omega arith)
+    (λ c. omega arith)
+    (λ c. omega arith)
+    (λ c. omega arith)
     loop-again
     same-length
     returns)

@@ -1,5 +1,5 @@
 -- The table holds the exponentials, the part from n·n on the r's, and n places further the q's: equal entries, equal
--- answers. Assumes nothing.
+-- answers.
 use Prim.Native.Nat.{_+_, _*_, _≤_}
 use native.Mathlib.Nat.{mul-le-mul}
 use native.Mathlib.Omega.{arith}
@@ -16,9 +16,6 @@ use Rattle.models.proofs.uniquac.value_at.Tie as tie
 fits : (c : tie.Start) → (c .args .n * c .args .n + c .args .n + c .args .n ≤ length (now (c .args .values))) × (c .args .n * c .args .n ≤ 144)
 unfolding uniquacSize
 fits c = (c .pre .1, mul-le-mul (c .pre .0) (c .pre .0))
-
-slice-aggregate-fill-energies : tie.Need-slice-aggregate-fill-energies
-slice-aggregate-fill-energies c = search needs
 
 fill-energies-requires : tie.Need-fill-energies-requires
 fill-energies-requires c κs = let start = c .before .before .before in (start .pre .0, omega (arith, fits start), omega (arith, fits start))
@@ -38,9 +35,6 @@ sub-value-over c = omega (arith, fits (c .before .before .before .before .before
 part-value-over-start : tie.Need-part-value-over-start
 part-value-over-start c = omega (arith, fits (c .before .before .before .before .before))
 
-part-value-over-end : tie.Need-part-value-over-end
-part-value-over-end c = search needs
-
 mul-value-over-2 : tie.Need-mul-value-over-2
 mul-value-over-2 c = omega (arith, fits (c .before .before .before .before .before .before))
 
@@ -49,12 +43,6 @@ sub-value-over-2 c = omega (arith, fits (c .before .before .before .before .befo
 
 part-value-over-start-2 : tie.Need-part-value-over-start-2
 part-value-over-start-2 c = omega (arith, fits (c .before .before .before .before .before .before))
-
-part-value-over-end-2 : tie.Need-part-value-over-end-2
-part-value-over-end-2 c = search needs
-
-slice-aggregate-value-over : tie.Need-slice-aggregate-value-over
-slice-aggregate-value-over c = search needs
 
 value-over-requires : tie.Need-value-over-requires
 value-over-requires c κs =
@@ -73,18 +61,18 @@ pub value-at-spec : {M : Type 1} → statement M
 value-at-spec =
     tie.close
     (tie.spec
-    slice-aggregate-fill-energies
+    (λ c. search needs)
     fill-energies-requires
     mul-at
     add-qs-at
     mul-value-over
     sub-value-over
     part-value-over-start
-    part-value-over-end
+    (λ c. search needs)
     mul-value-over-2
     sub-value-over-2
     part-value-over-start-2
-    part-value-over-end-2
-    slice-aggregate-value-over
+    (λ c. search needs)
+    (λ c. search needs)
     value-over-requires
     returns)

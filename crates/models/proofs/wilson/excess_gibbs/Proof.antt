@@ -1,4 +1,4 @@
--- Each row sum takes its log; the loop keeps the fold of the terms passed. Assumes nothing.
+-- Each row sum takes its log; the loop keeps the fold of the terms passed.
 use mathlib.Core.Path.{_≡_, refl}
 use Prim.Native.Nat.{_-_, _≤_}
 use native.Mathlib.Omega.{arith}
@@ -20,30 +20,9 @@ Inv-loop n x sums s₀ i₀ s i = (i ≤ n) × (n ≤ length sums) × (s ≡ fol
 abbrev μ-loop : tie.MeasureT-loop
 μ-loop n x sums s₀ i₀ s i = n - i
 
-log-each-requires : tie.Need-log-each-requires Inv-loop μ-loop
-log-each-requires c κs = search needs
-
 loop-holds : tie.Need-loop-holds Inv-loop μ-loop
 unfolding fold ofBits
 loop-holds c = (omega arith, omega (arith, c .before .before .log-each .kept .0, c .before .before .before .before .before .before .pre .1), refl)
-
-mul-s : tie.Need-mul-s Inv-loop μ-loop
-mul-s c = omega arith
-
-shared-slice-read-s : tie.Need-shared-slice-read-s Inv-loop μ-loop
-shared-slice-read-s c = omega arith
-
-mul-s-2 : tie.Need-mul-s-2 Inv-loop μ-loop
-mul-s-2 c = omega arith
-
-slice-read-s : tie.Need-slice-read-s Inv-loop μ-loop
-slice-read-s c = omega arith
-
-add-i : tie.Need-add-i Inv-loop μ-loop
-add-i c = omega arith
-
-loop-less : tie.Need-loop-less Inv-loop μ-loop
-loop-less c = omega arith
 
 loop-again : tie.Need-loop-again Inv-loop μ-loop
 loop-again c = let top = c .before .before .before in (omega arith, top .loop .inv .1, fold-more _ _ _ (top .loop .inv .2) refl)
@@ -64,14 +43,14 @@ excess-gibbs-spec =
     (tie.spec
     Inv-loop
     μ-loop
-    log-each-requires
+    (λ c κs. search needs)
     loop-holds
-    mul-s
-    shared-slice-read-s
-    mul-s-2
-    slice-read-s
-    add-i
-    loop-less
+    (λ c. omega arith)
+    (λ c. omega arith)
+    (λ c. omega arith)
+    (λ c. omega arith)
+    (λ c. omega arith)
+    (λ c. omega arith)
     loop-again
     same-length
     returns)

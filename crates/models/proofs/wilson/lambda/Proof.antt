@@ -1,4 +1,4 @@
--- The ratio of the volumes times the entry of row i and column j. Assumes nothing.
+-- The ratio of the volumes times the entry of row i and column j.
 use mathlib.Core.Path.{refl}
 use Prim.Native.Nat.{_+_, _*_, _<_, _≤_}
 use native.Mathlib.Nat.{mul-le-mul}
@@ -10,18 +10,6 @@ use Rattle.models.proofs.wilson.lambda.Tie as tie
 -- entry i, j is within the table, and this within 144 places
 cell : (c : tie.Start) → (c .args .i * c .args .n + c .args .j < c .args .n * c .args .n) × (c .args .n * c .args .n ≤ 144)
 cell c = (cell-lt (c .args .n) (c .args .n) (c .args .i) (c .args .j) (c .pre .3) (c .pre .4), mul-le-mul (c .pre .0) (c .pre .0))
-
-mul-result : tie.Need-mul-result
-mul-result c = omega arith
-
-shared-slice-read-result : tie.Need-shared-slice-read-result
-shared-slice-read-result c = omega arith
-
-mul-result-2 : tie.Need-mul-result-2
-mul-result-2 c = omega arith
-
-shared-slice-read-result-2 : tie.Need-shared-slice-read-result-2
-shared-slice-read-result-2 c = omega arith
 
 mul-result-3 : tie.Need-mul-result-3
 mul-result-3 c = omega (arith, cell (c .before .before))
@@ -42,10 +30,10 @@ pub lambda-spec : {M : Type 1} → statement M
 lambda-spec =
     tie.close
     (tie.spec
-    mul-result
-    shared-slice-read-result
-    mul-result-2
-    shared-slice-read-result-2
+    (λ c. omega arith)
+    (λ c. omega arith)
+    (λ c. omega arith)
+    (λ c. omega arith)
     mul-result-3
     add-result
     mul-result-4

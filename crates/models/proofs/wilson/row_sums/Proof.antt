@@ -1,4 +1,4 @@
--- The loop has filled the sums of the rows above i. Assumes nothing.
+-- The loop has filled the sums of the rows above i.
 use mathlib.Core.Path.{_≡_, refl, _∙_}
 use Prim.Native.Nat.{_+_, _*_, _-_, _≤_}
 use native.Mathlib.Omega.{arith}
@@ -38,27 +38,12 @@ sub-row-sum c = omega (arith, ends c)
 part-row-sum-start : tie.Need-part-row-sum-start Inv-loop μ-loop
 part-row-sum-start c = omega (arith, ends c)
 
-part-row-sum-end : tie.Need-part-row-sum-end Inv-loop μ-loop
-part-row-sum-end c = omega arith
-
 row-sum-requires : tie.Need-row-sum-requires Inv-loop μ-loop
 row-sum-requires c κs =
     let turn = c .before in
     let start = turn .before .before .before .before .before .before in
     let row = from-length (turn .before .loop .i * start .args .n) (now (start .args .e)) in
     (start .pre .1, omega (arith, row, ends turn), start .pre .3, turn .loop-test .taken, start .pre .0)
-
-mul-sums : tie.Need-mul-sums Inv-loop μ-loop
-mul-sums c = omega arith
-
-slice-write-sums : tie.Need-slice-write-sums Inv-loop μ-loop
-slice-write-sums c = omega arith
-
-add-i : tie.Need-add-i Inv-loop μ-loop
-add-i c = omega arith
-
-loop-less : tie.Need-loop-less Inv-loop μ-loop
-loop-less c = omega arith
 
 loop-again : tie.Need-loop-again Inv-loop μ-loop
 loop-again c =
@@ -85,12 +70,12 @@ row-sums-spec =
     mul-row-sum
     sub-row-sum
     part-row-sum-start
-    part-row-sum-end
+    (λ c. omega arith)
     row-sum-requires
-    mul-sums
-    slice-write-sums
-    add-i
-    loop-less
+    (λ c. omega arith)
+    (λ c. omega arith)
+    (λ c. omega arith)
+    (λ c. omega arith)
     loop-again
     same-length
     returns)

@@ -1,4 +1,4 @@
--- The size, worked out for n within range alone. Assumes nothing.
+-- The size, worked out for n within range alone.
 use mathlib.Core.Path.{refl}
 use native.Mathlib.Nat.{mul-le-mul}
 use native.Mathlib.Omega.{arith}
@@ -6,9 +6,6 @@ use borrow.Author.Needs.{needs}
 use Rattle.models.specs.Values.{wilsonSize}
 use Rattle.models.proofs.wilson.size.Statement.{statement}
 use Rattle.models.proofs.wilson.size.Tie as tie
-
-returns : tie.Need-returns
-returns c = search needs
 
 mul-result : tie.Need-mul-result
 mul-result c = omega (arith, mul-le-mul (c .if1 .left) (c .if1 .left))
@@ -21,4 +18,4 @@ unfolding wilsonSize
 returns-2 c = λ _. refl
 
 pub size-spec : {M : Type 1} → statement M
-size-spec = tie.close (tie.spec returns mul-result add-result returns-2)
+size-spec = tie.close (tie.spec (λ c. search needs) mul-result add-result returns-2)

@@ -1,4 +1,4 @@
--- The table holds the exponentials, and the part from n·n on the volumes: equal entries, equal answers. Assumes nothing.
+-- The table holds the exponentials, and the part from n·n on the volumes: equal entries, equal answers.
 use Prim.Native.Nat.{_+_, _*_, _≤_}
 use native.Mathlib.Nat.{mul-le-mul}
 use native.Mathlib.Omega.{arith}
@@ -16,9 +16,6 @@ fits : (c : tie.Start) → (c .args .n * c .args .n + c .args .n ≤ length (now
 unfolding wilsonSize
 fits c = (c .pre .1, mul-le-mul (c .pre .0) (c .pre .0))
 
-slice-aggregate-fill-energies : tie.Need-slice-aggregate-fill-energies
-slice-aggregate-fill-energies c = search needs
-
 fill-energies-requires : tie.Need-fill-energies-requires
 fill-energies-requires c κs = let start = c .before .before .before in (start .pre .0, omega (arith, fits start), omega (arith, fits start))
 
@@ -33,12 +30,6 @@ sub-value-over c = omega (arith, fits (c .before .before .before .before .before
 
 part-value-over-start : tie.Need-part-value-over-start
 part-value-over-start c = omega (arith, fits (c .before .before .before .before .before))
-
-part-value-over-end : tie.Need-part-value-over-end
-part-value-over-end c = search needs
-
-slice-aggregate-value-over : tie.Need-slice-aggregate-value-over
-slice-aggregate-value-over c = search needs
 
 value-over-requires : tie.Need-value-over-requires
 value-over-requires c κs =
@@ -55,13 +46,13 @@ pub value-at-spec : {M : Type 1} → statement M
 value-at-spec =
     tie.close
     (tie.spec
-    slice-aggregate-fill-energies
+    (λ c. search needs)
     fill-energies-requires
     mul-at
     mul-value-over
     sub-value-over
     part-value-over-start
-    part-value-over-end
-    slice-aggregate-value-over
+    (λ c. search needs)
+    (λ c. search needs)
     value-over-requires
     returns)

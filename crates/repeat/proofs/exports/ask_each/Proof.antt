@@ -1,4 +1,4 @@
--- After k queries memory and last reply are those of the definition; at the end these are all. Assumes nothing.
+-- After k queries memory and last reply are those of the definition; at the end these are all.
 use mathlib.Core.Path.{_≡_, refl, _∙_}
 use Prim.Native.Nat.{_-_, _≤_}
 use native.Mathlib.Omega.{arith}
@@ -20,15 +20,6 @@ abbrev μ-loop : tie.MeasureT-loop
 loop-holds : tie.Need-loop-holds Inv-loop μ-loop
 loop-holds c = (omega arith, refl, refl, asked-none _ _)
 
-query-requires : tie.Need-query-requires Inv-loop μ-loop
-query-requires c κs = tt
-
-add-counter : tie.Need-add-counter Inv-loop μ-loop
-add-counter c = omega arith
-
-loop-less : tie.Need-loop-less Inv-loop μ-loop
-loop-less c = omega arith
-
 loop-again : tie.Need-loop-again Inv-loop μ-loop
 loop-again c =
     let t = c .before .before .before .before in
@@ -38,9 +29,6 @@ loop-again c =
       t .query .kept .1 .1 .0 ∙ top .loop .inv .2,
       asked-more _ _ _ (top .loop .inv .3) (t .query .ensures),
     )
-
-value-of-requires : tie.Need-value-of-requires Inv-loop μ-loop
-value-of-requires c κs = tt
 
 same-length : tie.Need-same-length Inv-loop μ-loop
 same-length c = c .before .before .loop .inv .1
@@ -58,11 +46,11 @@ ask-each-spec =
     Inv-loop
     μ-loop
     loop-holds
-    query-requires
-    add-counter
-    loop-less
+    (λ c κs. tt)
+    (λ c. omega arith)
+    (λ c. omega arith)
     loop-again
-    value-of-requires
+    (λ c κs. tt)
     same-length
     same-length-2
     returns)

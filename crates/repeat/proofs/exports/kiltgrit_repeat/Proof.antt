@@ -1,4 +1,4 @@
--- The three cases that give 0, and else the decoded values. Assumes nothing.
+-- The three cases that give 0, and else the decoded values.
 use borrow.Author.Needs.{needs}
 use lib.Ieee.{ofBits}
 use borrow.Author.Tests.{lt-ltb, le-ltb}
@@ -19,39 +19,6 @@ returns-3 : tie.Need-returns-3
 unfolding repeatedBytes ofBits
 returns-3 c = rw (le-ltb _ _ (c .before .before .if1 .left), le-ltb _ _ (c .before .if2 .left), lt-ltb _ _ (c .if3 .taken))
 
-slice-aggregate-fill-floats : tie.Need-slice-aggregate-fill-floats
-slice-aggregate-fill-floats c = search needs
-
-fill-floats-requires : tie.Need-fill-floats-requires
-fill-floats-requires c κs = search needs
-
-slice-aggregate-fill-floats-2 : tie.Need-slice-aggregate-fill-floats-2
-slice-aggregate-fill-floats-2 c = search needs
-
-fill-floats-requires-2 : tie.Need-fill-floats-requires-2
-fill-floats-requires-2 c κs = search needs
-
-model-of-requires : tie.Need-model-of-requires
-model-of-requires c κs = tt
-
-array-share-prefix-given : tie.Need-array-share-prefix-given
-array-share-prefix-given c = search needs
-
-slice-aggregate-repeat : tie.Need-slice-aggregate-repeat
-slice-aggregate-repeat c = search needs
-
-array-share-prefix-fractions : tie.Need-array-share-prefix-fractions
-array-share-prefix-fractions c = search needs
-
-slice-aggregate-repeat-2 : tie.Need-slice-aggregate-repeat-2
-slice-aggregate-repeat-2 c = search needs
-
-quantity-of-requires : tie.Need-quantity-of-requires
-quantity-of-requires c κs = tt
-
-repeat-requires : tie.Need-repeat-requires
-repeat-requires c κs = search needs
-
 returns-4 : tie.Need-returns-4
 returns-4 c = bytes-are _ _ _ _ _ _ _ _ _ _ _ _ (c .before .before .before .before .before .before .before .before .before .before .before .before .before .if1 .left) (c .before .before .before .before .before .before .before .before .before .before .before .before .if2 .left) (c .before .before .before .before .before .before .before .before .before .before .before .if3 .left) (c .before .before .before .before .model-of .ensures) (c .before .before .before .before .before .before .before .before .before .fill-floats .ensures .1) (c .before .before .before .before .before .before .fill-floats2 .ensures .1) (c .before .quantity-of .ensures) (c .repeat .ensures)
 
@@ -62,15 +29,15 @@ kiltgrit-repeat-spec =
     returns
     returns-2
     returns-3
-    slice-aggregate-fill-floats
-    fill-floats-requires
-    slice-aggregate-fill-floats-2
-    fill-floats-requires-2
-    model-of-requires
-    array-share-prefix-given
-    slice-aggregate-repeat
-    array-share-prefix-fractions
-    slice-aggregate-repeat-2
-    quantity-of-requires
-    repeat-requires
+    (λ c. search needs)
+    (λ c κs. search needs)
+    (λ c. search needs)
+    (λ c κs. search needs)
+    (λ c κs. tt)
+    (λ c. search needs)
+    (λ c. search needs)
+    (λ c. search needs)
+    (λ c. search needs)
+    (λ c κs. tt)
+    (λ c κs. search needs)
     returns-4)

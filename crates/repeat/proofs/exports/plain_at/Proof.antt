@@ -1,46 +1,10 @@
--- Each model's plain call. Assumes nothing.
+-- Each model's plain call.
 use mathlib.Core.Path.{ap, _∙_}
 use borrow.Author.Needs.{needs}
 use Rattle.mixture.specs.Plain.{plainCall}
 use Rattle.repeat.specs.Exports.{plainValue}
 use Rattle.repeat.proofs.exports.plain_at.Statement.{statement}
 use Rattle.repeat.proofs.exports.plain_at.Tie as tie
-
-enum-told : tie.Need-enum-told
-enum-told c = search needs
-
-plain-requires : tie.Need-plain-requires
-plain-requires c κs = tt
-
-plain-value-requires : tie.Need-plain-value-requires
-plain-value-requires c κs = tt
-
-enum-told-2 : tie.Need-enum-told-2
-enum-told-2 c = search needs
-
-plain-requires-2 : tie.Need-plain-requires-2
-plain-requires-2 c κs = tt
-
-plain-value-requires-2 : tie.Need-plain-value-requires-2
-plain-value-requires-2 c κs = tt
-
-enum-told-3 : tie.Need-enum-told-3
-enum-told-3 c = search needs
-
-plain-requires-3 : tie.Need-plain-requires-3
-plain-requires-3 c κs = tt
-
-plain-value-requires-3 : tie.Need-plain-value-requires-3
-plain-value-requires-3 c κs = tt
-
-enum-told-4 : tie.Need-enum-told-4
-enum-told-4 c = search needs
-
-plain-requires-4 : tie.Need-plain-requires-4
-plain-requires-4 c κs = tt
-
-plain-value-requires-4 : tie.Need-plain-value-requires-4
-plain-value-requires-4 c κs = tt
 
 returns : tie.Need-returns
 unfolding plainCall
@@ -62,18 +26,18 @@ pub plain-at-spec : {M : Type 1} → statement M
 plain-at-spec =
     tie.close
     (tie.spec
-    enum-told
-    plain-requires
-    plain-value-requires
-    enum-told-2
-    plain-requires-2
-    plain-value-requires-2
-    enum-told-3
-    plain-requires-3
-    plain-value-requires-3
-    enum-told-4
-    plain-requires-4
-    plain-value-requires-4
+    (λ c. search needs)
+    (λ c κs. tt)
+    (λ c κs. tt)
+    (λ c. search needs)
+    (λ c κs. tt)
+    (λ c κs. tt)
+    (λ c. search needs)
+    (λ c κs. tt)
+    (λ c κs. tt)
+    (λ c. search needs)
+    (λ c κs. tt)
+    (λ c κs. tt)
     returns
     returns-2
     returns-3

@@ -1,4 +1,4 @@
--- The two tests in the definition's order. Assumes nothing.
+-- The two tests in the definition's order.
 use borrow.Author.Tests.{eq-eqb, ne-eqb}
 use Rattle.repeat.specs.Exports.{quantityOf}
 use Rattle.repeat.proofs.exports.quantity_of.Statement.{statement}

@@ -1,4 +1,4 @@
--- Before turn k memory, head and answer are those after the definition's k - from turns; at the end these are all. Assumes nothing.
+-- Before turn k memory, head and answer are those after the definition's k - from turns; at the end these are all.
 use mathlib.Core.Path.{_≡_, refl, _∙_}
 use Prim.Native.Nat.{ℕ, _+_, _-_, _*_, _≤_}
 use native.Mathlib.Omega.{arith}
@@ -28,26 +28,8 @@ T s k = floatAt (now (s .args .temperatures)) (8 * k)
 loop-holds : tie.Need-loop-holds Inv-loop μ-loop
 loop-holds c = (omega arith, omega arith, refl, refl, refl, set-none _ _ _ _ (T (c .before .before .before .before .before)) _ _)
 
-mul-float-at : tie.Need-mul-float-at Inv-loop μ-loop
-mul-float-at c = omega arith
-
-float-at-requires : tie.Need-float-at-requires Inv-loop μ-loop
-float-at-requires c κs = search needs
-
-setting-of-requires : tie.Need-setting-of-requires Inv-loop μ-loop
-setting-of-requires c κs = tt
-
-set-requires : tie.Need-set-requires Inv-loop μ-loop
-set-requires c κs = tt
-
-query-requires : tie.Need-query-requires Inv-loop μ-loop
-query-requires c κs = tt
-
 add-k : tie.Need-add-k Inv-loop μ-loop
 add-k c = omega (arith, c .before .before .before .before .before .before .before .before .before .before .before .before .before .before .before .before .before .before .before .before .loop-test .taken, c .before .before .before .before .before .before .before .before .before .before .before .before .before .before .before .before .before .before .before .before .before .before .before .before .before .before .before .good)
-
-loop-less : tie.Need-loop-less Inv-loop μ-loop
-loop-less c = omega arith
 
 loop-again : tie.Need-loop-again Inv-loop μ-loop
 loop-again c =
@@ -82,13 +64,13 @@ set-each-spec =
     Inv-loop
     μ-loop
     loop-holds
-    mul-float-at
-    float-at-requires
-    setting-of-requires
-    set-requires
-    query-requires
+    (λ c. omega arith)
+    (λ c κs. search needs)
+    (λ c κs. tt)
+    (λ c κs. tt)
+    (λ c κs. tt)
     add-k
-    loop-less
+    (λ c. omega arith)
     loop-again
     same-length
     same-length-2

@@ -1,4 +1,4 @@
--- The test, then the model's case. Assumes nothing.
+-- The test, then the model's case.
 use borrow.Author.Needs.{needs}
 use lib.Ieee.{ofBits}
 use borrow.Author.Tests.{eq-eqb, ne-eqb}
@@ -9,18 +9,6 @@ use Rattle.repeat.proofs.exports.setting_of.Tie as tie
 returns : tie.Need-returns
 unfolding settingOf
 returns c = simp (eq-eqb _ _ (c .if1 .taken))
-
-enum-told : tie.Need-enum-told
-enum-told c = search needs
-
-enum-told-2 : tie.Need-enum-told-2
-enum-told-2 c = search needs
-
-enum-told-3 : tie.Need-enum-told-3
-enum-told-3 c = search needs
-
-enum-told-4 : tie.Need-enum-told-4
-enum-told-4 c = search needs
 
 returns-2 : tie.Need-returns-2
 unfolding settingOf
@@ -43,10 +31,10 @@ setting-of-spec =
     tie.close
     (tie.spec
     returns
-    enum-told
-    enum-told-2
-    enum-told-3
-    enum-told-4
+    (λ c. search needs)
+    (λ c. search needs)
+    (λ c. search needs)
+    (λ c. search needs)
     returns-2
     returns-3
     returns-4

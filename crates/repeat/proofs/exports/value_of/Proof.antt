@@ -1,18 +1,9 @@
--- An answer's value, 0 where it has none: each case is the definition's. Assumes nothing.
+-- An answer's value, 0 where it has none: each case is the definition's.
 use borrow.Author.Needs.{needs}
 use lib.Ieee.{ofBits}
 use Rattle.repeat.specs.Exports.{valueOf}
 use Rattle.repeat.proofs.exports.value_of.Statement.{statement}
 use Rattle.repeat.proofs.exports.value_of.Tie as tie
-
-enum-told : tie.Need-enum-told
-enum-told c = search needs
-
-enum-told-2 : tie.Need-enum-told-2
-enum-told-2 c = search needs
-
-enum-known-a : tie.Need-enum-known-a
-enum-known-a c = search needs
 
 returns : tie.Need-returns
 unfolding valueOf ofBits
@@ -27,4 +18,4 @@ unfolding valueOf
 returns-3 c = rw (c .before .a .given .1)
 
 pub value-of-spec : {M : Type 1} → statement M
-value-of-spec = tie.close (tie.spec enum-told enum-told-2 enum-known-a returns returns-2 returns-3)
+value-of-spec = tie.close (tie.spec (λ c. search needs) (λ c. search needs) (λ c. search needs) returns returns-2 returns-3)

@@ -13,44 +13,11 @@ Inv-loop fd list answers₀ differ₀ counter₀ answers differ counter = (count
 abbrev μ-loop : tie.MeasureT-loop
 μ-loop fd list answers₀ differ₀ counter₀ answers differ counter = 1000000 - counter
 
-loop-holds : tie.Need-loop-holds Inv-loop μ-loop
-loop-holds c = omega arith
-
-next-line-requires : tie.Need-next-line-requires Inv-loop μ-loop
-next-line-requires c κs = search needs
-
-enum-told : tie.Need-enum-told Inv-loop μ-loop
-enum-told c = search needs
-
-add-answers : tie.Need-add-answers Inv-loop μ-loop
-add-answers c = omega arith
-
-enum-told-2 : tie.Need-enum-told-2 Inv-loop μ-loop
-enum-told-2 c = search needs
-
-add-answers-2 : tie.Need-add-answers-2 Inv-loop μ-loop
-add-answers-2 c = omega arith
-
-add-differ : tie.Need-add-differ Inv-loop μ-loop
-add-differ c = omega arith
-
-enum-told-3 : tie.Need-enum-told-3 Inv-loop μ-loop
-enum-told-3 c = search needs
-
 returns : tie.Need-returns Inv-loop μ-loop
 returns c = tt
 
-enum-told-4 : tie.Need-enum-told-4 Inv-loop μ-loop
-enum-told-4 c = search needs
-
 returns-2 : tie.Need-returns-2 Inv-loop μ-loop
 returns-2 c = tt
-
-add-counter : tie.Need-add-counter Inv-loop μ-loop
-add-counter c = omega arith
-
-loop-less : tie.Need-loop-less Inv-loop μ-loop
-loop-less c = omega arith
 
 loop-again : tie.Need-loop-again Inv-loop μ-loop
 loop-again c = ⊎-elim (λ w. omega arith) (λ w. omega arith) (c .match .came)
@@ -64,18 +31,18 @@ replay-spec =
     (tie.spec
     Inv-loop
     μ-loop
-    loop-holds
-    next-line-requires
-    enum-told
-    add-answers
-    enum-told-2
-    add-answers-2
-    add-differ
-    enum-told-3
+    (λ c. omega arith)
+    (λ c κs. search needs)
+    (λ c. search needs)
+    (λ c. omega arith)
+    (λ c. search needs)
+    (λ c. omega arith)
+    (λ c. omega arith)
+    (λ c. search needs)
     returns
-    enum-told-4
+    (λ c. search needs)
     returns-2
-    add-counter
-    loop-less
+    (λ c. omega arith)
+    (λ c. omega arith)
     loop-again
     returns-3)

@@ -6,14 +6,8 @@ use lib.Seq.{length-take-le}
 use Rattle.replay.proofs.strips.fill.Statement.{statement}
 use Rattle.replay.proofs.strips.fill.Tie as tie
 
-slice-relend-prefix-read-full : tie.Need-slice-relend-prefix-read-full
-slice-relend-prefix-read-full c = search needs
-
 slice-aggregate-read-full : tie.Need-slice-aggregate-read-full
 slice-aggregate-read-full c = sym (length-take-le _ _ (c .before .before .pre))
-
-read-full-requires : tie.Need-read-full-requires
-read-full-requires c κs = tt
 
 same-length : tie.Need-same-length
 same-length c = search needs
@@ -25,8 +19,8 @@ pub fill-spec : {M : Type 1} → statement M
 fill-spec =
     tie.close
     (tie.spec
-    slice-relend-prefix-read-full
+    (λ c. search needs)
     slice-aggregate-read-full
-    read-full-requires
+    (λ c κs. tt)
     same-length
     returns)

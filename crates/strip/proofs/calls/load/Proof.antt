@@ -1,5 +1,5 @@
 -- Fills three buffers with a load's lists and floats and makes the call: what the buffers hold is the definition's load.
--- Assumes nothing.
+--
 use Prim.Native.Nat.{_+_}
 use native.Mathlib.Omega.{arith}
 use mathlib.Core.Path.{_≡_, sym, _∙_}
@@ -19,14 +19,8 @@ it-fits c = sym (c .before .does-fit .ensures) ∙ not-false _ (c .if1 .left)
 fit : (c : tie.Else1) → Fitting (c .before .before .before .before .before .before .args .s .now) (c .before .before .before .before .before .before .args .r)
 fit c = fitting _ _ (it-fits c)
 
-does-fit-requires : tie.Need-does-fit-requires
-does-fit-requires c κs = tt
-
 returns : tie.Need-returns
 returns c = made-none _ (c .before .before .before .before .before .before .args .r) _ _ _ (sym (c .before .does-fit .ensures) ∙ not-true _ (c .if1 .taken))
-
-slice-aggregate-fill-floats : tie.Need-slice-aggregate-fill-floats
-slice-aggregate-fill-floats c = search needs
 
 fill-floats-requires : tie.Need-fill-floats-requires
 fill-floats-requires c κs = let w = fit (c .before) in (omega (arith, w .floats, w .short), w .floats)
@@ -37,29 +31,8 @@ mul-at c = let w = fit (c .before .before .before) in omega (arith, w .floats, w
 add-at : tie.Need-add-at
 add-at c = let w = fit (c .before .before .before) in omega (arith, w .floats, w .short)
 
-slice-aggregate-fill-lists : tie.Need-slice-aggregate-fill-lists
-slice-aggregate-fill-lists c = search needs
-
-slice-aggregate-fill-lists-2 : tie.Need-slice-aggregate-fill-lists-2
-slice-aggregate-fill-lists-2 c = search needs
-
-slice-aggregate-fill-lists-3 : tie.Need-slice-aggregate-fill-lists-3
-slice-aggregate-fill-lists-3 c = search needs
-
-fill-lists-requires : tie.Need-fill-lists-requires
-fill-lists-requires c κs = tt
-
 add-e : tie.Need-add-e
 add-e c = omega (arith, fit-lists _ _ (fit (c .before .before .before .before .before .before .before .before .before .before)) (omega arith) (c .before .before .before .fill-lists .ensures) .2)
-
-model-of-requires : tie.Need-model-of-requires
-model-of-requires c κs = tt
-
-cast-load : tie.Need-cast-load
-cast-load c = search needs
-
-cast-load-2 : tie.Need-cast-load-2
-cast-load-2 c = search needs
 
 array-share-prefix-lens : tie.Need-array-share-prefix-lens
 array-share-prefix-lens c = omega (arith, fit-lists _ _ (fit (c .before .before .before .before .before .before .before .before .before .before .before .before .before .before .before)) (omega arith) (c .before .before .before .before .before .before .before .before .fill-lists .ensures) .0)
@@ -79,15 +52,6 @@ array-share-prefix-given c = omega (arith, fit-lists _ _ (fit (c .before .before
 slice-aggregate-load-3 : tie.Need-slice-aggregate-load-3
 slice-aggregate-load-3 c = let f = c .before .before .before .before .before .before .before .before .before .before .before .fill-lists in sym (length-take-le (c .before .before .before .before .before .before .before .before .before .before .before .before .before .before .before .before .before .before .before .before .before .before .before .before .args .r .floats + f .result .groups) _ (omega (arith, fit-lists _ _ (fit (c .before .before .before .before .before .before .before .before .before .before .before .before .before .before .before .before .before .before)) (omega arith) (f .ensures) .2, f .kept .1 .1 .0, c .before .before .before .before .before .before .before .before .before .before .before .before .before .before .before .before .fill-floats .kept .0)))
 
-load-requires : tie.Need-load-requires
-load-requires c κs = tt
-
-same-length : tie.Need-same-length
-same-length c = search needs
-
-same-length-2 : tie.Need-same-length-2
-same-length-2 c = search needs
-
 returns-2 : tie.Need-returns-2
 returns-2 c =
     let a = c .before .before .before .before .before .before .before .before .before .before .before .before .before .before .before .before .before .before .before .before .before .before .before .before .before .before .before .before .before .args in
@@ -100,27 +64,27 @@ pub load-spec : {M : Type 1} → statement M
 load-spec =
     tie.close
     (tie.spec
-    does-fit-requires
+    (λ c κs. tt)
     returns
-    slice-aggregate-fill-floats
+    (λ c. search needs)
     fill-floats-requires
     mul-at
     add-at
-    slice-aggregate-fill-lists
-    slice-aggregate-fill-lists-2
-    slice-aggregate-fill-lists-3
-    fill-lists-requires
+    (λ c. search needs)
+    (λ c. search needs)
+    (λ c. search needs)
+    (λ c κs. tt)
     add-e
-    model-of-requires
-    cast-load
-    cast-load-2
+    (λ c κs. tt)
+    (λ c. search needs)
+    (λ c. search needs)
     array-share-prefix-lens
     slice-aggregate-load
     array-share-prefix-groups
     slice-aggregate-load-2
     array-share-prefix-given
     slice-aggregate-load-3
-    load-requires
-    same-length
-    same-length-2
+    (λ c κs. tt)
+    (λ c. search needs)
+    (λ c. search needs)
     returns-2)

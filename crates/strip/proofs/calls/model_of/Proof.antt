@@ -1,4 +1,4 @@
--- The model that a kind loads: each kind in turn is the definition's. Assumes nothing.
+-- The model that a kind loads: each kind in turn is the definition's.
 use Rattle.strip.specs.Calls.{modelOf}
 use borrow.Author.Tests.{ne-eqb}
 use Rattle.strip.proofs.calls.model_of.Statement.{statement}

@@ -1,4 +1,4 @@
--- What a query asks for, by its fields: each j in turn is the definition's. Assumes nothing.
+-- What a query asks for, by its fields: each j in turn is the definition's.
 use Rattle.strip.specs.Calls.{quantityOf}
 use borrow.Author.Tests.{ne-eqb}
 use Rattle.strip.proofs.calls.quantity_of.Statement.{statement}

@@ -1,4 +1,4 @@
--- The setting of a kind, by its first floats: each kind in turn is the definition's. Assumes nothing.
+-- The setting of a kind, by its first floats: each kind in turn is the definition's.
 use borrow.Author.Tests.{ne-eqb}
 use Rattle.strip.specs.Inner.{settingBy}
 use Rattle.strip.proofs.calls.setting_of.Statement.{statement}

@@ -1,4 +1,4 @@
--- Stores a kind 4's lists in three buffers, word by word: what is stored and what is left make the lists. Assumes nothing.
+-- Stores a kind 4's lists in three buffers, word by word: what is stored and what is left make the lists.
 use Prim.Native.Nat.{_+_, _-_, _≤_}
 use native.Mathlib.Omega.{arith}
 use mathlib.Core.Path.{_≡_, sym, _∙_}
@@ -45,9 +45,6 @@ same-length-3 c = store-kept (c .before .before .loop .inv .2) .2
 returns : tie.Need-returns Inv-loop μ-loop
 returns c = store-ends (c .before .before .loop .inv .2) _ (no-more _ _ (c .before .before .loop .pairs) _ (c .before .if1 .taken) (omega (arith, c .if2 .taken)))
 
-is-word-requires : tie.Need-is-word-requires Inv-loop μ-loop
-is-word-requires c κs = tt
-
 same-length-4 : tie.Need-same-length-4 Inv-loop μ-loop
 same-length-4 c = store-kept (c .before .before .before .before .loop .inv .2) .0
 
@@ -66,15 +63,6 @@ returns-2 c =
 word-at-requires : tie.Need-word-at-requires Inv-loop μ-loop
 word-at-requires c κs = in-12 c
 
-i-of-requires : tie.Need-i-of-requires Inv-loop μ-loop
-i-of-requires c κs = tt
-
-store-requires : tie.Need-store-requires Inv-loop μ-loop
-store-requires c κs = tt
-
-cast-pairs : tie.Need-cast-pairs Inv-loop μ-loop
-cast-pairs c = omega arith
-
 add-lists : tie.Need-add-lists Inv-loop μ-loop
 add-lists c = omega (arith, c .before .before .before .before .before .before .before .before .before .before .loop .inv .0, c .before .before .before .before .before .before .before .before .if2 .left)
 
@@ -91,9 +79,6 @@ loop-again c =
     let word = one-12 _ (c .before .before .before .before .before .before .before .before .before .before .before .before .before .before .before .args .n - l .lists) (l .pairs) (l .place) (c .before .before .before .before .before .before .before .before .before .if1 .taken) (c .before .before .before .before .before .before .before .before .before .before .before .before .before .before .before .args .n - (l .lists + 1)) (omega (arith, l .inv .0, c .before .before .before .before .before .before .before .before .if2 .left)) (is-12 (c .before .before .before .before .before .before)) _ i in
     (omega (arith, l .inv .0, c .before .before .before .before .before .before .before .before .if2 .left), omega (arith, l .inv .1), store-12 (l .inv .2) _ _ word _ (c .before .before .store .ensures))
 
-is-pair-requires : tie.Need-is-pair-requires Inv-loop μ-loop
-is-pair-requires c κs = tt
-
 same-length-7 : tie.Need-same-length-7 Inv-loop μ-loop
 same-length-7 c = store-kept (c .before .before .before .loop .inv .2) .0
 
@@ -109,26 +94,14 @@ returns-3 c = let l = c .before .before .before .loop in store-ends (l .inv .2) 
 word-at-requires-2 : tie.Need-word-at-requires-2 Inv-loop μ-loop
 word-at-requires-2 c κs = omega (arith, in-13 (c .before))
 
-i-of-requires-2 : tie.Need-i-of-requires-2 Inv-loop μ-loop
-i-of-requires-2 c κs = tt
-
-store-requires-2 : tie.Need-store-requires-2 Inv-loop μ-loop
-store-requires-2 c κs = tt
-
 add-float-at : tie.Need-add-float-at Inv-loop μ-loop
 add-float-at c = omega (arith, in-13 (c .before .before .before .before .before .before .before))
 
 float-at-requires : tie.Need-float-at-requires Inv-loop μ-loop
 float-at-requires c κs = omega (arith, in-13 (c .before .before .before .before .before .before .before))
 
-store-float-requires : tie.Need-store-float-requires Inv-loop μ-loop
-store-float-requires c κs = tt
-
 add-filled : tie.Need-add-filled Inv-loop μ-loop
 add-filled c = omega (arith, in-13 (c .before .before .before .before .before .before .before .before .before .before .before), c .before .before .before .before .before .before .before .before .before .before .before .before .before .before .loop .inv .1)
-
-sub-pairs : tie.Need-sub-pairs Inv-loop μ-loop
-sub-pairs c = omega arith
 
 add-place-2 : tie.Need-add-place-2 Inv-loop μ-loop
 add-place-2 c = omega (arith, in-13 (c .before .before .before .before .before .before .before .before .before .before .before))
@@ -155,32 +128,32 @@ fill-lists-spec =
     same-length-2
     same-length-3
     returns
-    is-word-requires
+    (λ c κs. tt)
     same-length-4
     same-length-5
     same-length-6
     returns-2
     word-at-requires
-    i-of-requires
-    store-requires
-    cast-pairs
+    (λ c κs. tt)
+    (λ c κs. tt)
+    (λ c. omega arith)
     add-lists
     add-place
     loop-less
     loop-again
-    is-pair-requires
+    (λ c κs. tt)
     same-length-7
     same-length-8
     same-length-9
     returns-3
     word-at-requires-2
-    i-of-requires-2
-    store-requires-2
+    (λ c κs. tt)
+    (λ c κs. tt)
     add-float-at
     float-at-requires
-    store-float-requires
+    (λ c κs. tt)
     add-filled
-    sub-pairs
+    (λ c. omega arith)
     add-place-2
     loop-less-2
     loop-again-2)

@@ -1,4 +1,4 @@
--- Whether n bytes stand from p on, by a difference that cannot wrap. Assumes nothing.
+-- Whether n bytes stand from p on, by a difference that cannot wrap.
 use borrow.Author.Needs.{needs}
 use Rattle.strip.proofs.ListLaws.{has-not, has-rest}
 use Rattle.strip.proofs.lists.has.Statement.{statement}
@@ -6,9 +6,6 @@ use Rattle.strip.proofs.lists.has.Tie as tie
 
 returns : tie.Need-returns
 returns c = has-not (c .before .args .p) _ _ (c .if1 .taken)
-
-sub-result : tie.Need-sub-result
-sub-result c = search needs
 
 returns-2 : tie.Need-returns-2
 returns-2 c = has-rest (c .before .args .p) _ _ (c .if1 .left)
@@ -18,5 +15,5 @@ has-spec =
     tie.close
     (tie.spec
     returns
-    sub-result
+    (λ c. search needs)
     returns-2)

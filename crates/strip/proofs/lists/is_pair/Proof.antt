@@ -1,18 +1,12 @@
--- Whether a kind 13 stands at p with the eight bytes of its count: the word's test and the room's. Assumes nothing.
+-- Whether a kind 13 stands at p with the eight bytes of its count: the word's test and the room's.
 use mathlib.Core.Path.{sym, _∙_}
 use borrow.Author.Tests.{not-true, not-false}
 use Rattle.strip.proofs.ListLaws.{word-cut, word-pair}
 use Rattle.strip.proofs.lists.is_pair.Statement.{statement}
 use Rattle.strip.proofs.lists.is_pair.Tie as tie
 
-has-requires : tie.Need-has-requires
-has-requires c κs = tt
-
 returns : tie.Need-returns
 returns c = word-cut _ 13 12 (c .before .before .before .args .p) (sym (c .before .has .ensures) ∙ not-true _ (c .if1 .taken))
-
-is-word-requires : tie.Need-is-word-requires
-is-word-requires c κs = tt
 
 returns-2 : tie.Need-returns-2
 returns-2 c = c .is-word .ensures ∙ word-pair _ 13 (c .before .before .before .before .args .p) (sym (c .before .before .has .ensures) ∙ not-false _ (c .before .if1 .left))
@@ -21,7 +15,7 @@ pub is-pair-spec : {M : Type 1} → statement M
 is-pair-spec =
     tie.close
     (tie.spec
-    has-requires
+    (λ c κs. tt)
     returns
-    is-word-requires
+    (λ c κs. tt)
     returns-2)

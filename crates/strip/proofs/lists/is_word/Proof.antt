@@ -1,4 +1,4 @@
--- Whether a word of the kind stands at p, its other fields 0: the definition's tests in turn. Assumes nothing.
+-- Whether a word of the kind stands at p, its other fields 0: the definition's tests in turn.
 use mathlib.Core.Path.{_≡_, sym, _∙_}
 use mathlib.Core.Bool.{true}
 use Prim.Native.Nat.{_+_}
@@ -13,29 +13,17 @@ use Rattle.strip.proofs.lists.is_word.Tie as tie
 inside : (c : tie.Else1) → leb (c .before .before .before .args .p + 4) (length (c .before .before .before .args .s .now)) ≡ true
 inside c = sym (c .before .has .ensures) ∙ not-false _ (c .if1 .left)
 
-has-requires : tie.Need-has-requires
-has-requires c κs = tt
-
 returns : tie.Need-returns
 returns c = word-cut _ (c .before .before .before .args .kind) _ _ (sym (c .before .has .ensures) ∙ not-true _ (c .if1 .taken))
 
 word-at-requires : tie.Need-word-at-requires
 word-at-requires c κs = leb-true _ _ (inside c)
 
-kind-of-requires : tie.Need-kind-of-requires
-kind-of-requires c κs = tt
-
 returns-2 : tie.Need-returns-2
 returns-2 c = word-kind _ (c .before .before .before .before .before .before .args .kind) _ _ (c .before .before .word-at .result) (inside (c .before .before .before)) (c .before .before .word-at .ensures .0) (c .before .kind-of .result) (c .before .kind-of .ensures) (c .if2 .taken)
 
-j-of-requires : tie.Need-j-of-requires
-j-of-requires c κs = tt
-
 returns-3 : tie.Need-returns-3
 returns-3 c = word-field _ (c .before .before .before .before .before .before .before .before .args .kind) _ _ (c .before .before .before .before .word-at .result) (inside (c .before .before .before .before .before)) (c .before .before .before .before .word-at .ensures .0) (c .before .before .before .kind-of .result) (c .before .before .before .kind-of .ensures) (c .before .before .if2 .left) (c .before .j-of .result) (c .before .j-of .ensures) (c .if3 .taken)
-
-rest-of-requires : tie.Need-rest-of-requires
-rest-of-requires c κs = tt
 
 returns-4 : tie.Need-returns-4
 returns-4 c = word-rest _ (c .before .before .before .before .before .before .before .before .before .args .kind) _ _ (c .before .before .before .before .before .word-at .result) (inside (c .before .before .before .before .before .before)) (c .before .before .before .before .before .word-at .ensures .0) (c .before .before .before .before .kind-of .result) (c .before .before .before .before .kind-of .ensures) (c .before .before .before .if2 .left) (c .before .before .j-of .result) (c .before .before .j-of .ensures) (c .before .if3 .left) (c .rest-of .result) (c .rest-of .ensures)
@@ -44,12 +32,12 @@ pub is-word-spec : {M : Type 1} → statement M
 is-word-spec =
     tie.close
     (tie.spec
-    has-requires
+    (λ c κs. tt)
     returns
     word-at-requires
-    kind-of-requires
+    (λ c κs. tt)
     returns-2
-    j-of-requires
+    (λ c κs. tt)
     returns-3
-    rest-of-requires
+    (λ c κs. tt)
     returns-4)

@@ -1,4 +1,4 @@
--- Walks along the lists, word by word: from each place on they end where they end from the start. Assumes nothing.
+-- Walks along the lists, word by word: from each place on they end where they end from the start.
 use Prim.Native.Nat.{_-_}
 use native.Mathlib.Omega.{arith}
 use mathlib.Core.Path.{_≡_, refl, sym, _∙_}
@@ -30,23 +30,11 @@ loop-holds c = refl
 returns : tie.Need-returns Inv-loop μ-loop
 returns c = let l = c .before .before .loop in ends (no-more _ (l .left) (l .pairs) _ (c .before .if1 .taken) (c .if2 .taken)) (l .inv)
 
-is-word-requires : tie.Need-is-word-requires Inv-loop μ-loop
-is-word-requires c κs = tt
-
 returns-2 : tie.Need-returns-2 Inv-loop μ-loop
 returns-2 c = let l = c .before .before .before .before .loop in ends (no-12 _ (l .left) (l .pairs) _ (c .before .before .before .if1 .taken) (l .left - 1) (omega (arith, c .before .before .if2 .left)) (sym (c .before .is-word .ensures) ∙ not-true _ (c .if3 .taken))) (l .inv)
 
 word-at-requires : tie.Need-word-at-requires Inv-loop μ-loop
 word-at-requires c κs = word-in _ 12 4 (c .before .before .before .before .loop .p) (is-12 c)
-
-i-of-requires : tie.Need-i-of-requires Inv-loop μ-loop
-i-of-requires c κs = tt
-
-cast-pairs : tie.Need-cast-pairs Inv-loop μ-loop
-cast-pairs c = omega arith
-
-sub-left : tie.Need-sub-left Inv-loop μ-loop
-sub-left c = omega arith
 
 add-p : tie.Need-add-p Inv-loop μ-loop
 add-p c = omega (arith, word-in _ 12 4 (c .before .before .before .before .before .before .loop .p) (is-12 (c .before .before)))
@@ -59,14 +47,8 @@ loop-again c =
     let l = c .before .before .before .before .before .before .loop in
     ends (one-12 _ (l .left) (l .pairs) (l .p) (c .before .before .before .before .before .if1 .taken) (l .left - 1) (omega (arith, c .before .before .before .before .if2 .left)) (is-12 (c .before .before)) _ (i-is _ _ _ (c .before .word-at .ensures .0) (c .i-of .ensures))) (l .inv)
 
-is-pair-requires : tie.Need-is-pair-requires Inv-loop μ-loop
-is-pair-requires c κs = tt
-
 returns-3 : tie.Need-returns-3 Inv-loop μ-loop
 returns-3 c = let l = c .before .before .before .loop in ends (no-13 _ (l .left) (l .pairs) _ (c .before .before .if1 .left) (sym (c .before .is-pair .ensures) ∙ not-true _ (c .if4 .taken))) (l .inv)
-
-sub-pairs : tie.Need-sub-pairs Inv-loop μ-loop
-sub-pairs c = omega arith
 
 add-p-2 : tie.Need-add-p-2 Inv-loop μ-loop
 add-p-2 c = omega (arith, word-in _ 13 12 (c .before .before .before .loop .p) (is-13 c))
@@ -85,18 +67,18 @@ lists-end-spec =
     μ-loop
     loop-holds
     returns
-    is-word-requires
+    (λ c κs. tt)
     returns-2
     word-at-requires
-    i-of-requires
-    cast-pairs
-    sub-left
+    (λ c κs. tt)
+    (λ c. omega arith)
+    (λ c. omega arith)
     add-p
     loop-less
     loop-again
-    is-pair-requires
+    (λ c κs. tt)
     returns-3
-    sub-pairs
+    (λ c. omega arith)
     add-p-2
     loop-less-2
     loop-again-2)

@@ -1,21 +1,12 @@
--- Stores a byte where there is a place for it: past the end the definition stores none. Assumes nothing.
+-- Stores a byte where there is a place for it: past the end the definition stores none.
 use mathlib.Core.Path.{sym}
 use lib.Seq.{set-out}
 use borrow.Author.Needs.{needs}
 use Rattle.strip.proofs.lists.store.Statement.{statement}
 use Rattle.strip.proofs.lists.store.Tie as tie
 
-slice-write-l : tie.Need-slice-write-l
-slice-write-l c = search needs
-
-same-length : tie.Need-same-length
-same-length c = search needs
-
-returns : tie.Need-returns
-returns c = search needs
-
 returns-2 : tie.Need-returns-2
 returns-2 c = sym (set-out _ _ _ (c .if1 .left))
 
 pub store-spec : {M : Type 1} → statement M
-store-spec = tie.close (tie.spec slice-write-l same-length returns returns-2)
+store-spec = tie.close (tie.spec (λ c. search needs) (λ c. search needs) (λ c. search needs) returns-2)

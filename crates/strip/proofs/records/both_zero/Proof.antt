@@ -1,4 +1,4 @@
--- Whether both fields are 0: the two tests in turn. Assumes nothing.
+-- Whether both fields are 0: the two tests in turn.
 use borrow.Author.Tests.{eq-eqb, ne-eqb}
 use Rattle.strip.proofs.records.both_zero.Statement.{statement}
 use Rattle.strip.proofs.records.both_zero.Tie as tie

@@ -1,4 +1,4 @@
--- Whether a record fits: the definition's tests in turn. Assumes nothing.
+-- Whether a record fits: the definition's tests in turn.
 use borrow.Author.Tests.{lt-leb, not-true, not-false, eq-eqb, ne-eqb}
 use borrow.Author.Needs.{needs}
 use Rattle.strip.specs.Inner.{fits}
@@ -10,9 +10,6 @@ returns : tie.Need-returns
 unfolding fits
 returns c = simp (lt-leb _ _ (c .if1 .taken))
 
-shape-of-requires : tie.Need-shape-of-requires
-shape-of-requires c κs = tt
-
 returns-2 : tie.Need-returns-2
 returns-2 c = fits-by _ _ _ (c .before .before .shape-of .result) (c .before .before .before .if1 .left) (c .before .before .shape-of .ensures .0) (simp (not-true (c .before .before .shape-of .result .formed) (c .if2 .taken)))
 
@@ -22,12 +19,6 @@ returns-3 c = fits-by _ _ _ (c .before .before .before .before .before .shape-of
 returns-4 : tie.Need-returns-4
 returns-4 c = fits-by _ _ _ (c .before .before .before .before .before .before .before .before .shape-of .result) (c .before .before .before .before .before .before .before .before .before .if1 .left) (c .before .before .before .before .before .before .before .before .shape-of .ensures .0) (simp (not-false (c .before .before .before .before .before .before .before .before .shape-of .result .formed) (c .before .before .before .before .before .before .if2 .left), eq-eqb _ _ (c .before .before .before .if3 .left), ne-eqb _ _ (c .if4 .taken)))
 
-mul-has : tie.Need-mul-has
-mul-has c = search needs
-
-has-requires : tie.Need-has-requires
-has-requires c κs = tt
-
 returns-5 : tie.Need-returns-5
 returns-5 c = fits-by _ _ _ (c .before .before .before .before .before .before .before .before .before .before .shape-of .result) (c .before .before .before .before .before .before .before .before .before .before .before .if1 .left) (c .before .before .before .before .before .before .before .before .before .before .shape-of .ensures .0) (simp (not-false (c .before .before .before .before .before .before .before .before .before .before .shape-of .result .formed) (c .before .before .before .before .before .before .before .before .if2 .left), eq-eqb _ _ (c .before .before .before .before .before .if3 .left), eq-eqb _ _ (c .before .before .if4 .left)) (c .has .ensures))
 
@@ -36,10 +27,10 @@ does-fit-spec =
     tie.close
     (tie.spec
     returns
-    shape-of-requires
+    (λ c κs. tt)
     returns-2
     returns-3
     returns-4
-    mul-has
-    has-requires
+    (λ c. search needs)
+    (λ c κs. tt)
     returns-5)

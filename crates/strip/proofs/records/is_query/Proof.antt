@@ -1,4 +1,4 @@
--- Whether i and j are a query's: the definition's tests in turn. Assumes nothing.
+-- Whether i and j are a query's: the definition's tests in turn.
 use borrow.Author.Tests.{lt-ltb, le-ltb, eq-eqb, ne-eqb}
 use Rattle.strip.proofs.records.is_query.Statement.{statement}
 use Rattle.strip.proofs.records.is_query.Tie as tie

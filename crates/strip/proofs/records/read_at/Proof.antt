@@ -1,4 +1,4 @@
--- What stands at a place: the definition's tests in turn; a byte's square is small, so that no place wraps. Assumes nothing.
+-- What stands at a place: the definition's tests in turn; a byte's square is small, so that no place wraps.
 use borrow.Author.Tests.{not-true, not-false}
 use Rattle.strip.proofs.RecordLaws.{read-end, read-cut, read-rest, read-malformed, read-missing, read-long, read-record}
 use borrow.Author.Needs.{needs}
@@ -8,47 +8,14 @@ use Rattle.strip.proofs.records.read_at.Tie as tie
 returns : tie.Need-returns
 returns c = read-end _ _ (c .if1 .taken)
 
-add-if2 : tie.Need-add-if2
-add-if2 c = search needs
-
 returns-2 : tie.Need-returns-2
 returns-2 c = read-cut _ _ (c .before .if1 .left) (c .if2 .taken)
-
-word-at-requires : tie.Need-word-at-requires
-word-at-requires c κs = search needs
-
-kind-of-requires : tie.Need-kind-of-requires
-kind-of-requires c κs = tt
-
-i-of-requires : tie.Need-i-of-requires
-i-of-requires c κs = tt
-
-j-of-requires : tie.Need-j-of-requires
-j-of-requires c κs = tt
-
-shape-of-requires : tie.Need-shape-of-requires
-shape-of-requires c κs = tt
-
-rest-of-requires : tie.Need-rest-of-requires
-rest-of-requires c κs = tt
 
 returns-3 : tie.Need-returns-3
 returns-3 c = read-rest _ _ (c .before .before .before .before .before .before .word-at .result) (c .before .before .before .before .before .kind-of .result) (c .before .before .before .before .i-of .result) (c .before .before .before .j-of .result) (c .before .before .shape-of .result) (c .before .before .before .before .before .before .before .before .if1 .left) (c .before .before .before .before .before .before .before .if2 .left) (c .before .before .before .before .before .before .word-at .ensures .0) (c .before .before .before .before .before .kind-of .ensures) (c .before .before .before .before .i-of .ensures) (c .before .before .before .j-of .ensures) (c .before .before .shape-of .ensures .0) (c .before .rest-of .result) (c .before .rest-of .ensures) (c .if3 .taken)
 
 returns-4 : tie.Need-returns-4
 returns-4 c = read-malformed _ _ (c .before .before .before .before .before .before .before .before .word-at .result) (c .before .before .before .before .before .before .before .kind-of .result) (c .before .before .before .before .before .before .i-of .result) (c .before .before .before .before .before .j-of .result) (c .before .before .before .before .shape-of .result) (c .before .before .before .before .before .before .before .before .before .before .if1 .left) (c .before .before .before .before .before .before .before .before .before .if2 .left) (c .before .before .before .before .before .before .before .before .word-at .ensures .0) (c .before .before .before .before .before .before .before .kind-of .ensures) (c .before .before .before .before .before .before .i-of .ensures) (c .before .before .before .before .before .j-of .ensures) (c .before .before .before .before .shape-of .ensures .0) (c .before .before .before .rest-of .result) (c .before .before .before .rest-of .ensures) (c .before .before .if3 .left) (not-true _ (c .if4 .taken))
-
-add-body : tie.Need-add-body
-add-body c = search needs
-
-mul-lists-end : tie.Need-mul-lists-end
-mul-lists-end c = search needs
-
-add-lists-end : tie.Need-add-lists-end
-add-lists-end c = search needs
-
-lists-end-requires : tie.Need-lists-end-requires
-lists-end-requires c κs = tt
 
 returns-5 : tie.Need-returns-5
 returns-5 c = read-missing _ _ (c .before .before .before .before .before .before .before .before .before .before .before .word-at .result) (c .before .before .before .before .before .before .before .before .before .before .kind-of .result) (c .before .before .before .before .before .before .before .before .before .i-of .result) (c .before .before .before .before .before .before .before .before .j-of .result) (c .before .before .before .before .before .before .before .shape-of .result) (c .before .before .before .before .before .before .before .before .before .before .before .before .before .if1 .left) (c .before .before .before .before .before .before .before .before .before .before .before .before .if2 .left) (c .before .before .before .before .before .before .before .before .before .before .before .word-at .ensures .0) (c .before .before .before .before .before .before .before .before .before .before .kind-of .ensures) (c .before .before .before .before .before .before .before .before .before .i-of .ensures) (c .before .before .before .before .before .before .before .before .j-of .ensures) (c .before .before .before .before .before .before .before .shape-of .ensures .0) (c .before .before .before .before .before .before .rest-of .result) (c .before .before .before .before .before .before .rest-of .ensures) (c .before .before .before .before .before .if3 .left) (not-false _ (c .before .before .before .if4 .left)) (c .before .lists-end .result) (c .before .lists-end .ensures) (c .if5 .taken)
@@ -64,20 +31,20 @@ read-at-spec =
     tie.close
     (tie.spec
     returns
-    add-if2
+    (λ c. search needs)
     returns-2
-    word-at-requires
-    kind-of-requires
-    i-of-requires
-    j-of-requires
-    shape-of-requires
-    rest-of-requires
+    (λ c κs. search needs)
+    (λ c κs. tt)
+    (λ c κs. tt)
+    (λ c κs. tt)
+    (λ c κs. tt)
+    (λ c κs. tt)
     returns-3
     returns-4
-    add-body
-    mul-lists-end
-    add-lists-end
-    lists-end-requires
+    (λ c. search needs)
+    (λ c. search needs)
+    (λ c. search needs)
+    (λ c κs. tt)
     returns-5
     returns-6
     returns-7)

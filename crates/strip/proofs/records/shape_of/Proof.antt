@@ -1,4 +1,4 @@
--- The shape of each kind in turn; i and j are bytes, so that no product wraps. Assumes nothing.
+-- The shape of each kind in turn; i and j are bytes, so that no product wraps.
 use Rattle.strip.specs.Records.{shapeOf}
 use Rattle.models.specs.Values.{wilsonSize, uniquacSize, nrtlSize, countsAt}
 use Rattle.strip.proofs.RecordLaws.{square, shape-by, floats-is}
@@ -25,17 +25,11 @@ mul-mm c = omega (arith, square (c .args .j) (j-small c))
 add-with-shape : tie.Need-add-with-shape
 add-with-shape c = omega (arith, square (c .before .args .i) (i-small (c .before)))
 
-with-shape-requires : tie.Need-with-shape-requires
-with-shape-requires c κs = tt
-
 add-with-shape-2 : tie.Need-add-with-shape-2
 add-with-shape-2 c = omega (arith, square (c .before .args .i) (i-small (c .before)))
 
 add-with-shape-3 : tie.Need-add-with-shape-3
 add-with-shape-3 c = omega (arith, square (c .before .args .i) (i-small (c .before)))
-
-with-shape-requires-2 : tie.Need-with-shape-requires-2
-with-shape-requires-2 c κs = tt
 
 mul-with-shape : tie.Need-mul-with-shape
 mul-with-shape c = omega (arith, square (c .before .args .i) (i-small (c .before)))
@@ -43,50 +37,11 @@ mul-with-shape c = omega (arith, square (c .before .args .i) (i-small (c .before
 add-with-shape-4 : tie.Need-add-with-shape-4
 add-with-shape-4 c = omega (arith, square (c .before .args .i) (i-small (c .before)))
 
-with-shape-requires-3 : tie.Need-with-shape-requires-3
-with-shape-requires-3 c κs = tt
-
-add-with-shape-5 : tie.Need-add-with-shape-5
-add-with-shape-5 c = search needs
-
 mul-with-shape-2 : tie.Need-mul-with-shape-2
 mul-with-shape-2 c = omega (arith, square (c .before .args .j) (j-small (c .before)))
 
 add-with-shape-6 : tie.Need-add-with-shape-6
 add-with-shape-6 c = omega (arith, square (c .before .args .j) (j-small (c .before)))
-
-with-shape-requires-4 : tie.Need-with-shape-requires-4
-with-shape-requires-4 c κs = tt
-
-both-zero-requires : tie.Need-both-zero-requires
-both-zero-requires c κs = tt
-
-with-shape-requires-5 : tie.Need-with-shape-requires-5
-with-shape-requires-5 c κs = tt
-
-with-shape-requires-6 : tie.Need-with-shape-requires-6
-with-shape-requires-6 c κs = tt
-
-with-shape-requires-7 : tie.Need-with-shape-requires-7
-with-shape-requires-7 c κs = tt
-
-with-shape-requires-8 : tie.Need-with-shape-requires-8
-with-shape-requires-8 c κs = tt
-
-with-shape-requires-9 : tie.Need-with-shape-requires-9
-with-shape-requires-9 c κs = tt
-
-with-shape-requires-10 : tie.Need-with-shape-requires-10
-with-shape-requires-10 c κs = tt
-
-is-query-requires : tie.Need-is-query-requires
-is-query-requires c κs = tt
-
-with-shape-requires-11 : tie.Need-with-shape-requires-11
-with-shape-requires-11 c κs = tt
-
-with-shape-requires-12 : tie.Need-with-shape-requires-12
-with-shape-requires-12 c κs = tt
 
 returns : tie.Need-returns
 unfolding shapeOf wilsonSize
@@ -143,27 +98,27 @@ shape-of-spec =
     mul-nn
     mul-mm
     add-with-shape
-    with-shape-requires
+    (λ c κs. tt)
     add-with-shape-2
     add-with-shape-3
-    with-shape-requires-2
+    (λ c κs. tt)
     mul-with-shape
     add-with-shape-4
-    with-shape-requires-3
-    add-with-shape-5
+    (λ c κs. tt)
+    (λ c. search needs)
     mul-with-shape-2
     add-with-shape-6
-    with-shape-requires-4
-    both-zero-requires
-    with-shape-requires-5
-    with-shape-requires-6
-    with-shape-requires-7
-    with-shape-requires-8
-    with-shape-requires-9
-    with-shape-requires-10
-    is-query-requires
-    with-shape-requires-11
-    with-shape-requires-12
+    (λ c κs. tt)
+    (λ c κs. tt)
+    (λ c κs. tt)
+    (λ c κs. tt)
+    (λ c κs. tt)
+    (λ c κs. tt)
+    (λ c κs. tt)
+    (λ c κs. tt)
+    (λ c κs. tt)
+    (λ c κs. tt)
+    (λ c κs. tt)
     returns
     returns-2
     returns-3

@@ -1,4 +1,4 @@
--- Walks from record to record: what is stored and what is left make the text. Assumes nothing.
+-- Walks from record to record: what is stored and what is left make the text.
 use Prim.Native.Nat.{_*_, _-_, _≤_}
 use native.Mathlib.Omega.{arith}
 use mathlib.Core.Path.{_≡_, refl, sym, _∙_}
@@ -21,26 +21,11 @@ Inv-loop s values₀ cells₀ marks₀ out₀ h₀ at₀ pos₀ t14 values cells
 abbrev μ-loop : tie.MeasureT-loop
 μ-loop s values₀ cells₀ marks₀ out₀ h₀ at₀ pos₀ t14 values cells marks out h at pos = length s - at
 
-slice-aggregate-put : tie.Need-slice-aggregate-put Inv-loop μ-loop
-slice-aggregate-put c = search needs
-
-put-requires : tie.Need-put-requires Inv-loop μ-loop
-put-requires c κs = tt
-
-same-length : tie.Need-same-length Inv-loop μ-loop
-same-length c = search needs
-
 returns : tie.Need-returns Inv-loop μ-loop
 returns c = (walked-long _ _ _ (c .before .before .before .before .before .if1 .taken) (c .before .before .put .ensures), omega (arith, c .before .before .put .ensures .long))
 
 loop-holds : tie.Need-loop-holds Inv-loop μ-loop
 loop-holds c = (omega arith, omega arith, refl, refl, refl, refl, refl, walk-starts _ _ _ _)
-
-read-at-requires : tie.Need-read-at-requires Inv-loop μ-loop
-read-at-requires c κs = tt
-
-enum-told : tie.Need-enum-told Inv-loop μ-loop
-enum-told c = search needs
 
 same-length-2 : tie.Need-same-length-2 Inv-loop μ-loop
 same-length-2 c = c .before .before .before .loop .inv .2
@@ -59,43 +44,13 @@ returns-2 c =
     let l = c .before .before .before .loop in
     (walked-short _ _ _ (c .before .before .before .before .if1 .left) (walk-ends _ _ _ (l .at) _ _ _ _ (l .inv .7) (read-done _ _ (sym (c .before .before .read-at .ensures) ∙ c .enum-told .given .1))), omega (arith, l .inv .0, l .inv .1, c .before .before .before .before .if1 .left))
 
-enum-told-2 : tie.Need-enum-told-2 Inv-loop μ-loop
-enum-told-2 c = search needs
-
-slice-aggregate-put-2 : tie.Need-slice-aggregate-put-2 Inv-loop μ-loop
-slice-aggregate-put-2 c = search needs
-
-put-requires-2 : tie.Need-put-requires-2 Inv-loop μ-loop
-put-requires-2 c κs = tt
-
 add-result : tie.Need-add-result Inv-loop μ-loop
 add-result c = omega (arith, c .before .before .before .before .before .before .before .before .loop .inv .0, c .before .before .before .before .before .before .before .before .loop .inv .1, c .before .before .before .before .before .before .before .before .before .if1 .left, c .before .before .put2 .ensures .long)
-
-same-length-6 : tie.Need-same-length-6 Inv-loop μ-loop
-same-length-6 c = search needs
-
-same-length-7 : tie.Need-same-length-7 Inv-loop μ-loop
-same-length-7 c = search needs
-
-same-length-8 : tie.Need-same-length-8 Inv-loop μ-loop
-same-length-8 c = search needs
-
-same-length-9 : tie.Need-same-length-9 Inv-loop μ-loop
-same-length-9 c = search needs
 
 returns-3 : tie.Need-returns-3 Inv-loop μ-loop
 returns-3 c =
     let l = c .before .before .before .before .before .before .before .before .loop in
     (walked-short _ _ _ (c .before .before .before .before .before .before .before .before .before .if1 .left) (walk-breaks _ _ _ (l .at) _ _ _ _ (l .inv .7) (sym (c .before .before .before .before .before .before .before .read-at .ensures) ∙ c .before .before .before .before .before .enum-told2 .given .1) _ _ (c .before .before .put2 .ensures)), omega (arith, l .inv .0, l .inv .1, c .before .before .before .before .before .before .before .before .before .if1 .left, c .before .before .put2 .ensures .long))
-
-enum-known-r : tie.Need-enum-known-r Inv-loop μ-loop
-enum-known-r c = search needs
-
-make-requires : tie.Need-make-requires Inv-loop μ-loop
-make-requires c κs = tt
-
-put-answer-requires : tie.Need-put-answer-requires Inv-loop μ-loop
-put-answer-requires c κs = tt
 
 add-pos : tie.Need-add-pos Inv-loop μ-loop
 add-pos c = omega (arith, c .before .before .before .before .before .before .before .before .before .before .before .before .before .before .before .before .before .before .loop .inv .0, c .before .before .before .before .before .before .before .before .before .before .before .before .before .before .before .before .before .before .loop .inv .1, c .before .before .before .before .before .before .before .before .before .before .before .before .before .before .before .before .before .before .before .if1 .left, c .before .before .put-answer .ensures .1)
@@ -128,30 +83,30 @@ walk-spec =
     (tie.spec
     Inv-loop
     μ-loop
-    slice-aggregate-put
-    put-requires
-    same-length
+    (λ c. search needs)
+    (λ c κs. tt)
+    (λ c. search needs)
     returns
     loop-holds
-    read-at-requires
-    enum-told
+    (λ c κs. tt)
+    (λ c. search needs)
     same-length-2
     same-length-3
     same-length-4
     same-length-5
     returns-2
-    enum-told-2
-    slice-aggregate-put-2
-    put-requires-2
+    (λ c. search needs)
+    (λ c. search needs)
+    (λ c κs. tt)
     add-result
-    same-length-6
-    same-length-7
-    same-length-8
-    same-length-9
+    (λ c. search needs)
+    (λ c. search needs)
+    (λ c. search needs)
+    (λ c. search needs)
     returns-3
-    enum-known-r
-    make-requires
-    put-answer-requires
+    (λ c. search needs)
+    (λ c κs. tt)
+    (λ c κs. tt)
     add-pos
     loop-less
     loop-again)

@@ -1,4 +1,4 @@
--- Stores what fits, byte by byte: the buffer after a turn and the bytes that are left make the text stored whole. Assumes nothing.
+-- Stores what fits, byte by byte: the buffer after a turn and the bytes that are left make the text stored whole.
 use Prim.Native.Nat.{_+_, _-_, _<_, _≤_}
 use native.Mathlib.Nat.{add-zero}
 use native.Mathlib.Omega.{arith}
@@ -20,26 +20,8 @@ abbrev μ-loop : tie.MeasureT-loop
 returns : tie.Need-returns Inv-loop μ-loop
 returns c = put-past _ _ _ (c .if1 .taken)
 
-sub-room : tie.Need-sub-room Inv-loop μ-loop
-sub-room c = omega arith
-
 loop-holds : tie.Need-loop-holds Inv-loop μ-loop
 loop-holds c = (omega arith, refl, rw (add-zero (c .before .args .at)))
-
-shared-slice-read-out : tie.Need-shared-slice-read-out Inv-loop μ-loop
-shared-slice-read-out c = omega arith
-
-add-out : tie.Need-add-out Inv-loop μ-loop
-add-out c = omega arith
-
-slice-write-out : tie.Need-slice-write-out Inv-loop μ-loop
-slice-write-out c = omega arith
-
-add-k : tie.Need-add-k Inv-loop μ-loop
-add-k c = omega arith
-
-loop-less : tie.Need-loop-less Inv-loop μ-loop
-loop-less c = omega arith
 
 loop-again : tie.Need-loop-again Inv-loop μ-loop
 loop-again c =
@@ -65,13 +47,13 @@ put-spec =
     Inv-loop
     μ-loop
     returns
-    sub-room
+    (λ c. omega arith)
     loop-holds
-    shared-slice-read-out
-    add-out
-    slice-write-out
-    add-k
-    loop-less
+    (λ c. omega arith)
+    (λ c. omega arith)
+    (λ c. omega arith)
+    (λ c. omega arith)
+    (λ c. omega arith)
     loop-again
     same-length
     returns-2)

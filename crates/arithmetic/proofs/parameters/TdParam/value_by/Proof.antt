@@ -1,4 +1,4 @@
--- The code is the definition, operation by operation. Assumes nothing.
+-- The code is the definition, operation by operation.
 use Rattle.arithmetic.specs.Parameters.{tdBy}
 use mathlib.Core.Path.{refl}
 use Rattle.arithmetic.proofs.parameters.TdParam.value_by.Statement.{statement}
