@@ -6,7 +6,7 @@ use mathlib.Core.Bool.{Bool, true, false, cond}
 use mathlib.Core.List.{List}
 use lib.Dec.{eqb}
 use lib.ListN.{length, take}
-use lib.Seq.{sets, getD-take}
+use lib.Seq.{sets, getD-take, length-sets}
 use lib.Ieee.{Float, nan}
 use borrow.Author.Tests.{lt-ltb, le-ltb, eq-eqb, ne-eqb, eqb-true}
 use Rattle.arithmetic.specs.Bytes.{floatAt, floatsAt}
@@ -99,7 +99,13 @@ eight : (kind i j f l : ℕ) → kind ≡ 8 → shapeOf kind i j ≡ shape true 
 unfolding shapeOf
 eight kind i j f l e h = floats-is (shapeOf 8 i j) (shape true f l) (rw e at h)
 
-module _ (s : List ℕ) (r : Rec) (w : Fitting s r) where
+-- a load's buffers have room for its lists and groups, and for their counts after its floats
+pub record Room (r : Rec) (met : Met) (ls gs : List ℕ) (a : List Float) : Type 0 where
+  pub lists : met .lists ≤ length ls
+  pub groups : met .groups ≤ length gs
+  pub floats : r .floats + met .groups ≤ length a
+
+module _ {s : List ℕ} {r : Rec} (w : Fitting s r) where
   pub fit-255 : r .i < 256 → 5 ≤ r .kind → r .floats ≤ 255
   fit-255 i h = omega (arith, floats-is _ _ (w .shaped), few-floats (r .kind) (r .i) (r .j) h i)
 
@@ -109,29 +115,51 @@ module _ (s : List ℕ) (r : Rec) (w : Fitting s r) where
   fit-td : r .kind ≡ 8 → _≡_ {A = ℕ} 5 (r .floats)
   fit-td e = eight (r .kind) (r .i) (r .j) (r .floats) (r .lists) e (w .shaped)
 
-  -- its lists and groups, and their counts after its floats, have room in a load's buffers
-  pub fit-lists : r .i < 256 → {ls gs ls′ gs′ : List ℕ} {a a′ : List Float} {met : Met} → Stored (listsOf s r) (r .floats) met ls gs a ls′ gs′ a′
-      → (met .lists ≤ 256) × (met .groups ≤ 5461) × (r .floats + met .groups ≤ 8192)
-  fit-lists i l =
+  pub has-room : r .i < 256 → {ls gs ls′ gs′ : List ℕ} {a a′ : List Float} {met : Met} → Stored (listsOf s r) (r .floats) met ls gs a ls′ gs′ a′
+      → length ls′ ≡ 256 → length gs′ ≡ 5461 → length a′ ≡ 8192 → Room r met ls′ gs′ a′
+  has-room i l u v y =
       let f = lists-few s (r .lists) in
       let n = f .lens (r .body + 8 * r .floats) in
       let m = f .groups (r .body + 8 * r .floats) (w .floats) in
-      (omega (arith, l .lists, n, few-lists (r .kind) (r .i) (r .j), lists-is _ _ (w .shaped), i), omega (arith, l .groups, m, w .short), omega (arith, l .groups, m, w .short))
+      record {
+        lists = omega (arith, l .lists, n, few-lists (r .kind) (r .i) (r .j), lists-is _ _ (w .shaped), i, u);
+        groups = omega (arith, l .groups, m, w .short, v);
+        floats = omega (arith, l .groups, m, w .short, y);
+      }
+
+-- ---- a record's call, where it fits or not
+
+-- a run meets records that fit
+pub found-call : (s : List ℕ) (p : ℕ) (r : Rec) (m : Memory) (h : Head) {x : After} (c : Call) → length s ≤ mostBytes → readAt s p ≡ Record r
+    → x ≡ made s r m h c → x ≡ afterCall m h c
+unfolding made
+found-call s p r m h c l e q = q ∙ rw (found-fits s p r l e)
+
+pub made-none : (s : List ℕ) (r : Rec) (m : Memory) (h : Head) (c : Call) → fits s r ≡ false → after m h (Refused 2) ≡ made s r m h c
+unfolding made
+made-none s r m h c f = rw f
+
+made-call : {s : List ℕ} {r : Rec} → Fitting s r → (m : Memory) (h : Head) {x : After} (c : Call) → x ≡ afterCall m h c → x ≡ made s r m h c
+unfolding made
+made-call w m h c e = rw (w .passes) e
 
 -- ---- a load
 
-stored-whole : {n : ℕ} (t l l′ : List ℕ) → n ≡ length t → l′ ≡ sets l 0 t → n ≤ length l → take n l′ ≡ t
-stored-whole t l l′ e f h = put-whole (record { long = e; text = f }) h
+stored-whole : {n : ℕ} (t l l′ : List ℕ) → n ≡ length t → l′ ≡ sets l 0 t → n ≤ length l′ → take n l′ ≡ t
+stored-whole t l l′ e f h = put-whole (record { long = e; text = f }) (omega (arith, h, ap length f, length-sets l 0 t))
 
 -- the buffers of a load hold the definition's lists and floats
-pub load-is : (s : List ℕ) (r : Rec) (k : Model) (met : Met) {ls gs : List ℕ} {a : List Float} (ls′ gs′ : List ℕ) (a′ : List Float) (m : Memory) (h : Head) (x : After)
+pub load-is : {s : List ℕ} {r : Rec} → Fitting s r → (m : Memory) (h : Head) {x : After} {k : Model} {met : Met} {ls gs ls′ gs′ : List ℕ} {a a′ : List Float}
     → x ≡ afterLoad m h (record { model = k; n = r .i; ng = r .j; lens = take (met .lists) ls′; groups = take (met .groups) gs′; values = take (r .floats + met .groups) a′ })
-    → k ≡ modelOf (r .kind) → take (r .floats) a ≡ floatsOf s r → Stored (listsOf s r) (r .floats) met ls gs a ls′ gs′ a′
-    → met .lists ≤ length ls → met .groups ≤ length gs → r .floats + met .groups ≤ length a → x ≡ afterCall m h (Load (dataOf s r))
+    → k ≡ modelOf (r .kind) → take (r .floats) a ≡ floatsOf s r → Stored (listsOf s r) (r .floats) met ls gs a ls′ gs′ a′ → Room r met ls′ gs′ a′
+    → x ≡ made s r m h (Load (dataOf s r))
 unfolding afterCall
-load-is s r k met {ls} {gs} {a} ls′ gs′ a′ m h x e q t l u v y =
+load-is {s} {r} w m h {met = met} {ls} {gs} {ls′} {gs′} {a} e q t l g =
+    let p = listsOf s r in
     let c = lists-few s (r .lists) .counts (r .body + 8 * r .floats) in
-    e ∙ rw (q, stored-whole (listsOf s r .lens) ls ls′ (l .lists) (l .lengths) u, stored-whole (listsOf s r .groups) gs gs′ (l .groups) (l .members) v, l .numbers, sets-whole Float a (r .floats) (listsOf s r .counts) (met .groups) (l .groups ∙ sym c) y, t)
+    let y : r .floats + met .groups ≤ length a = omega (arith, g .floats, ap length (l .numbers), length-sets a (r .floats) (p .counts)) in
+    made-call w m h (Load (dataOf s r))
+    (e ∙ rw (q, stored-whole (p .lens) ls ls′ (l .lists) (l .lengths) (g .lists), stored-whole (p .groups) gs gs′ (l .groups) (l .members) (g .groups), l .numbers, sets-whole Float a (r .floats) (p .counts) (met .groups) (l .groups ∙ sym c) y, t))
 
 -- ---- a setting
 
@@ -160,48 +188,28 @@ by-floats s r f x y =
     (ap (λ (z : Setting). cond (eqb (r .kind) 5) (Temperature (f .a)) (cond (eqb (r .kind) 7) (Entry (r .i) (r .j) (f .a)) z))
     (arm (eqb (r .kind) 8) _ _ _ (λ t. ap (TdEntry (r .i) (r .j)) (y (eqb-true (r .kind) 8 t)))))
 
-pub setting-is : (s : List ℕ) (r : Rec) (l : List Float) → Fitting s r → 5 ≤ r .kind → (r .kind ≡ 6 → ⊥) → (r .kind ≡ 11 → ⊥) → take (r .floats) l ≡ floatsOf s r
+setting-is : {s : List ℕ} {r : Rec} (l : List Float) → Fitting s r → 5 ≤ r .kind → (r .kind ≡ 6 → ⊥) → (r .kind ≡ 11 → ⊥) → take (r .floats) l ≡ floatsOf s r
     → settingBy (r .kind) (r .i) (r .j) (fiveAt l 0) ≡ settingOf s r
-setting-is s r l w a b c e =
-    by-floats s r (fiveAt l 0) (first l e) (λ k. five-is (r .floats) l (sym (fit-td s r w k)) ∙ ap (λ (z : List Float). fiveAt z 0) e)
-  where
-    first : (l : List Float) → take (r .floats) l ≡ floatsOf s r → fiveAt l 0 .a ≡ floatAt s (r .body)
-    first l e = five-first l ∙ first-is s (r .body) (r .floats) l e (fit-one s r w a b c)
+setting-is {s} {r} l w a b c e =
+    by-floats s r (fiveAt l 0) (five-first l ∙ first-is s (r .body) (r .floats) l e (fit-one w a b c))
+    (λ k. five-is (r .floats) l (sym (fit-td w k)) ∙ ap (λ (z : List Float). fiveAt z 0) e)
 
 -- ---- the call, by its kind
 
-pub fractions-is : (s : List ℕ) (r : Rec) (m : Memory) (h : Head) (x : After) {a : List Float} → x ≡ afterFractions m h a → a ≡ floatsOf s r → x ≡ afterFractions m h (floatsOf s r)
-fractions-is s r m h x e f = e ∙ ap (afterFractions m h) f
+pub by-load : (s : List ℕ) (r : Rec) (m : Memory) (h : Head) {x : After} → r .kind < 5 → x ≡ made s r m h (Load (dataOf s r)) → x ≡ made s r m h (callOf s r)
+unfolding callOf
+by-load s r m h l e = rw (lt-ltb (r .kind) 5 l) e
 
-module _ (s : List ℕ) (r : Rec) (m : Memory) (h : Head) where
-  pub made-call : {x : After} (c : Call) → fits s r ≡ true → x ≡ afterCall m h c → x ≡ made s r m h c
-  unfolding made
-  made-call c f e = rw f e
+module _ {s : List ℕ} {r : Rec} (w : Fitting s r) (m : Memory) (h : Head) {x : After} (l : 5 ≤ r .kind) where
+  pub by-fractions : {a : List Float} → r .kind ≡ 6 → x ≡ afterFractions m h a → a ≡ floatsOf s r → x ≡ made s r m h (callOf s r)
+  unfolding callOf afterCall
+  by-fractions a e f = made-call w m h (callOf s r) (rw (le-ltb (r .kind) 5 l, eq-eqb (r .kind) 6 a, ← f) e)
 
-  pub made-none : (c : Call) → fits s r ≡ false → after m h (Refused 2) ≡ made s r m h c
-  unfolding made
-  made-none c f = rw f
+  pub by-query : {q : Quantity} → (r .kind ≡ 6 → ⊥) → r .kind ≡ 11 → x ≡ afterQuery m h q → q ≡ quantityOf (r .i) (r .j) → x ≡ made s r m h (callOf s r)
+  unfolding callOf afterCall
+  by-query a b e f = made-call w m h (callOf s r) (rw (le-ltb (r .kind) 5 l, ne-eqb (r .kind) 6 a, eq-eqb (r .kind) 11 b, ← f) e)
 
--- a run meets records that fit
-pub found-call : (s : List ℕ) (p : ℕ) (r : Rec) (m : Memory) (h : Head) {x : After} (c : Call) → length s ≤ mostBytes → readAt s p ≡ Record r
-    → x ≡ made s r m h c → x ≡ afterCall m h c
-unfolding made
-found-call s p r m h c l e q = q ∙ rw (found-fits s p r l e)
-
-module _ (s : List ℕ) (r : Rec) (m : Memory) (h : Head) (x : After) where
-  pub by-load : r .kind < 5 → x ≡ made s r m h (Load (dataOf s r)) → x ≡ made s r m h (callOf s r)
-  unfolding callOf
-  by-load l e = rw (lt-ltb (r .kind) 5 l) e
-
-  module _ (l : 5 ≤ r .kind) where
-    pub by-fractions : r .kind ≡ 6 → x ≡ afterFractions m h (floatsOf s r) → x ≡ afterCall m h (callOf s r)
-    unfolding callOf afterCall
-    by-fractions a e = rw (le-ltb (r .kind) 5 l, eq-eqb (r .kind) 6 a) e
-
-    pub by-query : (r .kind ≡ 6 → ⊥) → r .kind ≡ 11 → (q : Quantity) → q ≡ quantityOf (r .i) (r .j) → x ≡ afterQuery m h q → x ≡ afterCall m h (callOf s r)
-    unfolding callOf afterCall
-    by-query a b q f e = rw (le-ltb (r .kind) 5 l, ne-eqb (r .kind) 6 a, eq-eqb (r .kind) 11 b) (e ∙ rw f)
-
-    pub by-setting : (r .kind ≡ 6 → ⊥) → (r .kind ≡ 11 → ⊥) → (q : Setting) → q ≡ settingOf s r → x ≡ afterSetting m h q → x ≡ afterCall m h (callOf s r)
-    unfolding callOf afterCall
-    by-setting a b q f e = rw (le-ltb (r .kind) 5 l, ne-eqb (r .kind) 6 a, ne-eqb (r .kind) 11 b) (e ∙ rw f)
+  pub by-setting : (g : List Float) {q : Setting} {p : TdParam} → (r .kind ≡ 6 → ⊥) → (r .kind ≡ 11 → ⊥) → x ≡ afterSetting m h q
+      → q ≡ settingBy (r .kind) (r .i) (r .j) p → p ≡ fiveAt g 0 → take (r .floats) g ≡ floatsOf s r → x ≡ made s r m h (callOf s r)
+  unfolding callOf afterCall
+  by-setting g a b e f t k = made-call w m h (callOf s r) (rw (le-ltb (r .kind) 5 l, ne-eqb (r .kind) 6 a, ne-eqb (r .kind) 11 b, ← setting-is g w l a b k, ← t, ← f) e)

@@ -47,19 +47,19 @@ pub word-pair : (s : List ℕ) (kind p : ℕ) → leb (p + 12) (length s) ≡ tr
 unfolding isWord
 word-pair s kind p h = rw (h, le-leb (p + 4) (length s) (omega (arith, leb-true (p + 12) (length s) h)))
 
-module _ (s : List ℕ) (kind n p w : ℕ) (h : leb (p + n) (length s) ≡ true) (e : w ≡ wordAt s p) where
-  pub word-kind : (k : ℕ) → k ≡ kindOf w → (k ≡ kind → ⊥) → false ≡ isWord s kind n p
+module _ (s : List ℕ) (kind n p : ℕ) (h : leb (p + n) (length s) ≡ true) {w k : ℕ} (e : w ≡ wordAt s p) (a : k ≡ kindOf w) where
+  pub word-kind : (k ≡ kind → ⊥) → false ≡ isWord s kind n p
   unfolding isWord
-  word-kind k a b = rw (h, ← e, ← a, ne-eqb k kind b)
+  word-kind b = rw (h, ← e, ← a, ne-eqb k kind b)
 
-  module _ (k : ℕ) (a : k ≡ kindOf w) (b : k ≡ kind) (j : ℕ) (c : j ≡ jOf w) where
+  module _ (b : k ≡ kind) {j : ℕ} (c : j ≡ jOf w) where
     pub word-field : (j ≡ 0 → ⊥) → false ≡ isWord s kind n p
     unfolding isWord
     word-field d = rw (h, ← e, ← a, eq-eqb k kind b, ← c, ne-eqb j 0 d)
 
-    pub word-rest : j ≡ 0 → (r : ℕ) → r ≡ restOf w → eqb r 0 ≡ isWord s kind n p
+    pub word-rest : j ≡ 0 → {r : ℕ} → r ≡ restOf w → eqb r 0 ≡ isWord s kind n p
     unfolding isWord
-    word-rest d r f = rw (h, ← e, ← a, eq-eqb k kind b, ← c, eq-eqb j 0 d, f)
+    word-rest d f = rw (h, ← e, ← a, eq-eqb k kind b, ← c, eq-eqb j 0 d, f)
 
 -- its field i
 pub i-is : (s : List ℕ) (p i : ℕ) {w : ℕ} → w ≡ wordAt s p → i ≡ iOf w → i ≡ iOf (wordAt s p)

@@ -41,33 +41,44 @@ pub read-cut : (s : List ℕ) (p : ℕ) → p < length s → length s < p + 4 �
 unfolding readAt
 read-cut s p h g = rw (lt-leb (length s) p h, lt-ltb (length s) (p + 4) g)
 
-module _ (s : List ℕ) (p w kind i j : ℕ) (k : Shape) (a : p < length s) (b : p + 4 ≤ length s) (e : w ≡ wordAt s p) (f : kind ≡ kindOf w) (g : i ≡ iOf w) (h : j ≡ jOf w) (l : k ≡ shapeOf kind i j) where
+-- the head word at p with its fields, and the shape of its kind
+pub record Headed (s : List ℕ) (p w kind i j : ℕ) (k : Shape) : Type 0 where
+  pub begun : p < length s
+  pub whole : p + 4 ≤ length s
+  pub word : w ≡ wordAt s p
+  pub kinds : kind ≡ kindOf w
+  pub firsts : i ≡ iOf w
+  pub seconds : j ≡ jOf w
+  pub shaped : k ≡ shapeOf kind i j
+
+module _ {s : List ℕ} {p w kind i j : ℕ} {k : Shape} (a : Headed s p w kind i j k) where
   at-word : readAt s p ≡ recordBy s p w k
   unfolding readAt
-  at-word = rw (lt-leb (length s) p a, le-ltb (length s) (p + 4) b, l, f, g, h, e)
+  at-word = rw (lt-leb (length s) p (a .begun), le-ltb (length s) (p + 4) (a .whole), a .shaped, a .kinds, a .firsts, a .seconds, a .word)
 
-  pub read-rest : (r : ℕ) → r ≡ restOf w → (r ≡ 0 → ⊥) → Broken ≡ readAt s p
-  unfolding recordBy
-  read-rest r c d = sym (at-word ∙ rw (← c, ne-eqb r 0 d))
-
-  module _ (r : ℕ) (c : r ≡ restOf w) (d : r ≡ 0) where
-    pub read-malformed : k .formed ≡ false → Broken ≡ readAt s p
+  module _ {r : ℕ} (c : r ≡ restOf w) where
+    pub read-rest : (r ≡ 0 → ⊥) → Broken ≡ readAt s p
     unfolding recordBy
-    read-malformed t = sym (at-word ∙ rw (← c, eq-eqb r 0 d, t))
+    read-rest d = sym (at-word ∙ rw (← c, ne-eqb r 0 d))
 
-    module _ (t : k .formed ≡ true) (n : ℕ) (q : n ≡ listsAt s (k .lists) (p + 4 + 8 * k .floats) .end) where
-      pub read-missing : n ≡ 0 → Broken ≡ readAt s p
+    module _ (d : r ≡ 0) where
+      pub read-malformed : k .formed ≡ false → Broken ≡ readAt s p
       unfolding recordBy
-      read-missing z = sym (at-word ∙ rw (← c, eq-eqb r 0 d, t, ← q, eq-eqb n 0 z))
+      read-malformed t = sym (at-word ∙ rw (← c, eq-eqb r 0 d, t))
 
-      pub read-long : (n ≡ 0 → ⊥) → length s < n → Broken ≡ readAt s p
-      unfolding recordBy
-      read-long z m = sym (at-word ∙ rw (← c, eq-eqb r 0 d, t, ← q, ne-eqb n 0 z, lt-ltb (length s) n m))
+      module _ (t : k .formed ≡ true) {n : ℕ} (q : n ≡ listsAt s (k .lists) (p + 4 + 8 * k .floats) .end) where
+        pub read-missing : n ≡ 0 → Broken ≡ readAt s p
+        unfolding recordBy
+        read-missing z = sym (at-word ∙ rw (← c, eq-eqb r 0 d, t, ← q, eq-eqb n 0 z))
 
-      pub read-record : (n ≡ 0 → ⊥) → n ≤ length s
-          → Record (record { kind = kind; i = i; j = j; floats = k .floats; lists = k .lists; body = p + 4; next = n }) ≡ readAt s p
-      unfolding recordBy
-      read-record z m = sym (at-word ∙ rw (← c, eq-eqb r 0 d, t, ← q, ne-eqb n 0 z, le-ltb (length s) n m, f, g, h))
+        pub read-long : (n ≡ 0 → ⊥) → length s < n → Broken ≡ readAt s p
+        unfolding recordBy
+        read-long z m = sym (at-word ∙ rw (← c, eq-eqb r 0 d, t, ← q, ne-eqb n 0 z, lt-ltb (length s) n m))
+
+        pub read-record : (n ≡ 0 → ⊥) → n ≤ length s
+            → Record (record { kind = kind; i = i; j = j; floats = k .floats; lists = k .lists; body = p + 4; next = n }) ≡ readAt s p
+        unfolding recordBy
+        read-record z m = sym (at-word ∙ rw (← c, eq-eqb r 0 d, t, ← q, ne-eqb n 0 z, le-ltb (length s) n m, a .kinds, a .firsts, a .seconds))
 
 -- ---- what a record that was read shows
 
@@ -127,11 +138,12 @@ later s p r e = let f = found s p r e in omega (arith, f .body, f .floats)
 
 -- ---- whether a record fits
 
-pub fits-by : (s : List ℕ) (r : Rec) (b : Bool) (k : Shape) → length s ≤ mostBytes → k ≡ shapeOf (r .kind) (r .i) (r .j) → b ≡ fitsBy s r k → b ≡ fits s r
+pub fits-by : (s : List ℕ) (r : Rec) {b : Bool} {k : Shape} → length s ≤ mostBytes → k ≡ shapeOf (r .kind) (r .i) (r .j) → b ≡ fitsBy s r k → b ≡ fits s r
 unfolding fits
-fits-by s r b k h e f = rw (le-leb (length s) mostBytes h, ← e) f
+fits-by s r h e f = rw (le-leb (length s) mostBytes h, ← e) f
 
 pub record Fitting (s : List ℕ) (r : Rec) : Type 0 where
+  pub passes : fits s r ≡ true
   pub short : length s ≤ mostBytes
   pub shaped : shapeOf (r .kind) (r .i) (r .j) ≡ shape true (r .floats) (r .lists)
   pub floats : r .body + 8 * r .floats ≤ length s
@@ -146,6 +158,7 @@ fitting s r e =
     let d = both _ _ (c .1) in
     let f = eqb-true (k .floats) (r .floats) (c .0) in
     record {
+      passes = e;
       short = leb-true (length s) mostBytes (a .0);
       shaped = shape-of k (b .0) ∙ rw (f, eqb-true (k .lists) (r .lists) (d .0));
       floats = omega (arith, leb-true (r .body + 8 * k .floats) (length s) (d .1), f);
