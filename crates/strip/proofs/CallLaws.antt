@@ -34,70 +34,9 @@ use Rattle.strip.specs.Inner.{Stored, fits, settingBy, made}
 use Rattle.arithmetic.proofs.ByteLaws.{floats-at}
 use Rattle.strip.proofs.TextLaws.{sets-whole, put-whole}
 use Rattle.strip.proofs.ListLaws.{lists-few}
-use Rattle.strip.proofs.RecordLaws.{floats-is, found-fits, Fitting}
+use Rattle.strip.proofs.RecordLaws.{found-fits, Fitting}
 
--- ---- floats and lists
-
--- a choice of two
-each : (P : Shape → Type 0) (t : Bool) (a b : Shape) → P a → P b → P (cond t a b)
-each P true a b x y = x
-each P false a b x y = y
-
-lists-is : (a b : Shape) → a ≡ b → a .lists ≡ b .lists
-lists-is a b e = cc
-
-formed-is : (a b : Shape) → a ≡ b → a .formed ≡ b .formed
-formed-is a b e = cc
-
--- no kind has more lists than i
-few-lists : (kind i j : ℕ) → shapeOf kind i j .lists ≤ i
-unfolding shapeOf
-few-lists kind i j =
-    let P : Shape → Type 0 = λ k. k .lists ≤ i in
-    each P (eqb kind 1) _ _ (omega arith)
-    (each P (eqb kind 2) _ _ (omega arith)
-    (each P (eqb kind 3) _ _ (omega arith)
-    (each P (eqb kind 4) _ _ (omega arith)
-    (each P (eqb kind 5) _ _ (omega arith)
-    (each P (eqb kind 6) _ _ (omega arith)
-    (each P (eqb kind 7) _ _ (omega arith)
-    (each P (eqb kind 8) _ _ (omega arith)
-    (each P (eqb kind 9) _ _ (omega arith)
-    (each P (eqb kind 10) _ _ (omega arith)
-    (each P (eqb kind 11) _ _ (omega arith) (omega arith)))))))))))
-
--- a setting has a float
-some : (kind i j f l : ℕ) → 5 ≤ kind → (kind ≡ 6 → ⊥) → (kind ≡ 11 → ⊥) → shapeOf kind i j ≡ shape true f l → 1 ≤ f
-unfolding shapeOf
-some kind i j f l a b c =
-    let P : Shape → Type 0 = λ k. k ≡ shape true f l → 1 ≤ f in
-    rw (ne-eqb kind 1 (λ (e : kind ≡ 1). omega arith), ne-eqb kind 2 (λ (e : kind ≡ 2). omega arith), ne-eqb kind 3 (λ (e : kind ≡ 3). omega arith), ne-eqb kind 4 (λ (e : kind ≡ 4). omega arith), ne-eqb kind 6 b, ne-eqb kind 11 c)
-    (each P (eqb kind 5) _ _ (λ e. omega (arith, floats-is _ _ e))
-    (each P (eqb kind 7) _ _ (λ e. omega (arith, floats-is _ _ e))
-    (each P (eqb kind 8) _ _ (λ e. omega (arith, floats-is _ _ e))
-    (each P (eqb kind 9) _ _ (λ e. omega (arith, floats-is _ _ e))
-    (each P (eqb kind 10) _ _ (λ e. omega (arith, floats-is _ _ e)) (λ e. never (formed-is _ _ e)))))))
-  where
-    never : false ≡ true → 1 ≤ f
-    never e = let z : _≡_ {A = ℕ} 0 1 = cc in absurd (omega arith)
-
--- a kind above 4 has few floats
-few-floats : (kind i j : ℕ) → 5 ≤ kind → i < 256 → shapeOf kind i j .floats ≤ 255
-unfolding shapeOf
-few-floats kind i j h g =
-    let P : Shape → Type 0 = λ k. k .floats ≤ 255 in
-    rw (ne-eqb kind 1 (λ (e : kind ≡ 1). omega arith), ne-eqb kind 2 (λ (e : kind ≡ 2). omega arith), ne-eqb kind 3 (λ (e : kind ≡ 3). omega arith), ne-eqb kind 4 (λ (e : kind ≡ 4). omega arith))
-    (each P (eqb kind 5) _ _ (omega arith)
-    (each P (eqb kind 6) _ _ (omega arith)
-    (each P (eqb kind 7) _ _ (omega arith)
-    (each P (eqb kind 8) _ _ (omega arith)
-    (each P (eqb kind 9) _ _ (omega arith)
-    (each P (eqb kind 10) _ _ (omega arith)
-    (each P (eqb kind 11) _ _ (omega arith) (omega arith))))))))
-
-eight : (kind i j f l : ℕ) → kind ≡ 8 → shapeOf kind i j ≡ shape true f l → _≡_ {A = ℕ} 5 f
-unfolding shapeOf
-eight kind i j f l e h = floats-is (shapeOf 8 i j) (shape true f l) (rw e at h)
+-- ---- lists
 
 -- a load's buffers have room for its lists and groups, and for their counts after its floats
 pub record Room (r : Rec) (met : Met) (ls gs : List ℕ) (a : List Float) : Type 0 where
@@ -105,27 +44,17 @@ pub record Room (r : Rec) (met : Met) (ls gs : List ℕ) (a : List Float) : Type
   pub groups : met .groups ≤ length gs
   pub floats : r .floats + met .groups ≤ length a
 
-module _ {s : List ℕ} {r : Rec} (w : Fitting s r) where
-  pub fit-255 : r .i < 256 → 5 ≤ r .kind → r .floats ≤ 255
-  fit-255 i h = omega (arith, floats-is _ _ (w .shaped), few-floats (r .kind) (r .i) (r .j) h i)
-
-  fit-one : 5 ≤ r .kind → (r .kind ≡ 6 → ⊥) → (r .kind ≡ 11 → ⊥) → 1 ≤ r .floats
-  fit-one a b c = some (r .kind) (r .i) (r .j) (r .floats) (r .lists) a b c (w .shaped)
-
-  fit-td : r .kind ≡ 8 → _≡_ {A = ℕ} 5 (r .floats)
-  fit-td e = eight (r .kind) (r .i) (r .j) (r .floats) (r .lists) e (w .shaped)
-
-  pub has-room : r .i < 256 → {ls gs ls′ gs′ : List ℕ} {a a′ : List Float} {met : Met} → Stored (listsOf s r) (r .floats) met ls gs a ls′ gs′ a′
-      → length ls′ ≡ 256 → length gs′ ≡ 5461 → length a′ ≡ 8192 → Room r met ls′ gs′ a′
-  has-room i l u v y =
-      let f = lists-few s (r .lists) in
-      let n = f .lens (r .body + 8 * r .floats) in
-      let m = f .groups (r .body + 8 * r .floats) (w .floats) in
-      record {
-        lists = omega (arith, l .lists, n, few-lists (r .kind) (r .i) (r .j), lists-is _ _ (w .shaped), i, u);
-        groups = omega (arith, l .groups, m, w .short, v);
-        floats = omega (arith, l .groups, m, w .short, y);
-      }
+pub has-room : {s : List ℕ} {r : Rec} → Fitting s r → r .i < 256 → {ls gs ls′ gs′ : List ℕ} {a a′ : List Float} {met : Met} → Stored (listsOf s r) (r .floats) met ls gs a ls′ gs′ a′
+    → length ls′ ≡ 256 → length gs′ ≡ 5461 → length a′ ≡ 8192 → Room r met ls′ gs′ a′
+has-room {s} {r} w i l u v y =
+    let f = lists-few s (r .lists) in
+    let n = f .lens (r .body + 8 * r .floats) in
+    let m = f .groups (r .body + 8 * r .floats) (w .floats) in
+    record {
+      lists = omega (arith, l .lists, n, w .sized .lists, i, u);
+      groups = omega (arith, l .groups, m, w .short, v);
+      floats = omega (arith, l .groups, m, w .short, y);
+    }
 
 -- ---- a record's call, where it fits or not
 
@@ -173,9 +102,9 @@ five-first : (l : List Float) → fiveAt l 0 .a ≡ at l 0
 unfolding fiveAt
 five-first l = refl
 
-five-is : (n : ℕ) (l : List Float) → n ≡ 5 → fiveAt l 0 ≡ fiveAt (take n l) 0
+five-is : (n : ℕ) (l : List Float) → 5 ≤ n → fiveAt l 0 ≡ fiveAt (take n l) 0
 unfolding fiveAt
-five-is n l e = rw (e, getD-take 5 l 0 nan (omega arith), getD-take 5 l 1 nan (omega arith), getD-take 5 l 2 nan (omega arith), getD-take 5 l 3 nan (omega arith), getD-take 5 l 4 nan (omega arith))
+five-is n l h = rw (getD-take n l 0 nan (omega arith), getD-take n l 1 nan (omega arith), getD-take n l 2 nan (omega arith), getD-take n l 3 nan (omega arith), getD-take n l 4 nan (omega arith))
 
 arm : (t : Bool) (a b c : Setting) → (t ≡ true → a ≡ b) → cond t a c ≡ cond t b c
 arm true a b c e = e refl
@@ -191,8 +120,8 @@ by-floats s r f x y =
 setting-is : {s : List ℕ} {r : Rec} (l : List Float) → Fitting s r → 5 ≤ r .kind → (r .kind ≡ 6 → ⊥) → (r .kind ≡ 11 → ⊥) → take (r .floats) l ≡ floatsOf s r
     → settingBy (r .kind) (r .i) (r .j) (fiveAt l 0) ≡ settingOf s r
 setting-is {s} {r} l w a b c e =
-    by-floats s r (fiveAt l 0) (five-first l ∙ first-is s (r .body) (r .floats) l e (fit-one w a b c))
-    (λ k. five-is (r .floats) l (sym (fit-td w k)) ∙ ap (λ (z : List Float). fiveAt z 0) e)
+    by-floats s r (fiveAt l 0) (five-first l ∙ first-is s (r .body) (r .floats) l e (w .sized .some a b c refl))
+    (λ k. five-is (r .floats) l (w .sized .five k refl) ∙ ap (λ (z : List Float). fiveAt z 0) e)
 
 -- ---- the call, by its kind
 

@@ -10,7 +10,9 @@ use lib.Dec.{leb, ltb, eqb}
 use lib.ListN.{length}
 use borrow.Author.Tests.{lt-ltb, le-ltb, ltb-false, lt-leb, le-leb, leb-true, eq-eqb, ne-eqb, eqb-true, eqb-false}
 use Rattle.arithmetic.specs.Bytes.{wordAt}
-use Rattle.arithmetic.proofs.Differences.{le-or}
+use borrow.Author.Needs.{needs}
+use Rattle.models.specs.Values.{wilsonSize, uniquacSize, nrtlSize, countsAt}
+use Rattle.arithmetic.proofs.Differences.{either, le-or}
 use Rattle.mixture.proofs.PlaceLaws.{both}
 use Rattle.strip.specs.declared.records.Shape.{Shape}
 use Rattle.strip.specs.declared.records.Rec.{Rec}
@@ -25,11 +27,40 @@ use Rattle.strip.proofs.ListLaws.{lists-after}
 pub square : (i : ℕ) → i < 256 → i * i ≤ 65025
 square i h = mul-le-mul {n₁ = i} {m₁ = i} {n₂ = 255} {m₂ = 255} (omega arith) (omega arith)
 
-pub shape-by : (k : Shape) {a b : Shape} → k ≡ a → b ≡ a → k ≡ b
-shape-by k e f = e ∙ sym f
-
 pub floats-is : (a b : Shape) → a ≡ b → a .floats ≡ b .floats
 floats-is a b e = cc
+
+-- what a kind's shape shows, where i and j are bytes
+pub record Sized (i kind : ℕ) (k : Shape) : Type 0 where
+  pub lists : k .lists ≤ i
+  pub floats : k .floats ≤ 400000
+  pub few : 5 ≤ kind → k .floats ≤ 255
+  pub some : 5 ≤ kind → (kind ≡ 6 → ⊥) → (kind ≡ 11 → ⊥) → k .formed ≡ true → 1 ≤ k .floats
+  pub five : kind ≡ 8 → k .formed ≡ true → 5 ≤ k .floats
+
+kind-case : (i kind k : ℕ) (a b : Shape) → Sized i k a → Sized i kind b → Sized i kind (cond (eqb kind k) a b)
+kind-case i kind k a b x y =
+    elim (either (eqb kind k)) [
+      | inl e ↦ rw (e, eqb-true kind k e) x
+      | inr e ↦ rw e y
+    ]
+
+pub sized : (kind i j : ℕ) → i < 256 → j < 256 → Sized i kind (shapeOf kind i j)
+unfolding shapeOf wilsonSize uniquacSize nrtlSize countsAt
+sized kind i j h g =
+    let a = square i h in
+    let b = square j g in
+    kind-case i kind 1 _ _ (search needs)
+    (kind-case i kind 2 _ _ (search needs)
+    (kind-case i kind 3 _ _ (search needs)
+    (kind-case i kind 4 _ _ (search needs)
+    (kind-case i kind 5 _ _ (search needs)
+    (kind-case i kind 6 _ _ (search needs)
+    (kind-case i kind 7 _ _ (search needs)
+    (kind-case i kind 8 _ _ (search needs)
+    (kind-case i kind 9 _ _ (search needs)
+    (kind-case i kind 10 _ _ (search needs)
+    (kind-case i kind 11 _ _ (search needs) (search needs)))))))))))
 
 -- ---- what `read_at` answers
 
@@ -145,12 +176,12 @@ fits-by s r h e f = rw (le-leb (length s) mostBytes h, ← e) f
 pub record Fitting (s : List ℕ) (r : Rec) : Type 0 where
   pub passes : fits s r ≡ true
   pub short : length s ≤ mostBytes
-  pub shaped : shapeOf (r .kind) (r .i) (r .j) ≡ shape true (r .floats) (r .lists)
+  pub sized : Sized (r .i) (r .kind) (shape true (r .floats) (r .lists))
   pub floats : r .body + 8 * r .floats ≤ length s
 
-pub fitting : (s : List ℕ) (r : Rec) → fits s r ≡ true → Fitting s r
+pub fitting : (s : List ℕ) (r : Rec) → r .i < 256 → r .j < 256 → fits s r ≡ true → Fitting s r
 unfolding fits
-fitting s r e =
+fitting s r i j e =
     let k = shapeOf (r .kind) (r .i) (r .j) in
     let a = both _ _ e in
     let b = both _ _ (a .1) in
@@ -160,7 +191,7 @@ fitting s r e =
     record {
       passes = e;
       short = leb-true (length s) mostBytes (a .0);
-      shaped = shape-of k (b .0) ∙ rw (f, eqb-true (k .lists) (r .lists) (d .0));
+      sized = subst (Sized (r .i) (r .kind)) (shape-of k (b .0) ∙ rw (f, eqb-true (k .lists) (r .lists) (d .0))) (sized (r .kind) (r .i) (r .j) i j);
       floats = omega (arith, leb-true (r .body + 8 * k .floats) (length s) (d .1), f);
     }
 

@@ -26,7 +26,7 @@ stored c = c .before .before .before .before .before .before .before .before
 -- ---- what the test and the lists showed
 
 fit : (c : tie.Else1) → Fitting (start c .args .s .now) (start c .args .r)
-fit c = fitting _ _ (sym (c .before .does-fit .ensures) ∙ not-false _ (c .if1 .left))
+fit c = fitting _ _ (omega arith) (omega arith) (sym (c .before .does-fit .ensures) ∙ not-false _ (c .if1 .left))
 
 room : (c : tie.After-fill-lists) → Room (start (passed (filled c)) .args .r) (c .fill-lists .result) (c .fill-lists .last .0) (c .fill-lists .last .1 .0) (c .fill-lists .last .1 .1 .0)
 room c =

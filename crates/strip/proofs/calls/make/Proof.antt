@@ -5,7 +5,7 @@ use mathlib.Core.Path.{sym, _∙_}
 use borrow.Author.Tests.{not-true, not-false}
 use borrow.Author.Needs.{needs}
 use Rattle.strip.proofs.RecordLaws.{Fitting, fitting}
-use Rattle.strip.proofs.CallLaws.{fit-255, made-none, by-load, by-fractions, by-query, by-setting}
+use Rattle.strip.proofs.CallLaws.{made-none, by-load, by-fractions, by-query, by-setting}
 use Rattle.strip.proofs.calls.make.Statement.{statement}
 use Rattle.strip.proofs.calls.make.Tie as tie
 
@@ -26,13 +26,13 @@ other c = c .before .before
 -- ---- what the tests showed
 
 fit : (c : tie.Else2) → Fitting (start c .args .s .now) (start c .args .r)
-fit c = fitting _ _ (sym (c .before .does-fit .ensures) ∙ not-false _ (c .if2 .left))
+fit c = fitting _ _ (omega arith) (omega arith) (sym (c .before .does-fit .ensures) ∙ not-false _ (c .if2 .left))
 
 above : (c : tie.Else2) → 5 ≤ start c .args .r .kind
 above c = c .before .before .if1 .left
 
 few : (c : tie.Else2) → start c .args .r .floats ≤ 255
-few c = fit-255 (fit c) (omega arith) (above c)
+few c = fit c .sized .few (above c)
 
 returns : tie.Need-returns
 returns c = by-load (c .before .before .before .before .before .before .before .before .before .before .before .before .before .args .s .now) (c .before .before .before .before .before .before .before .before .before .before .before .before .before .args .r) _ _ (c .before .before .before .before .before .before .before .before .if1 .taken) (c .before .before .before .before .load .ensures)
