@@ -59,10 +59,10 @@ has-room {s} {r} w i l u v y =
 -- ---- a record's call, where it fits or not
 
 -- a run meets records that fit
-pub found-call : (s : List ℕ) (p : ℕ) (r : Rec) (m : Memory) (h : Head) {x : After} (c : Call) → length s ≤ mostBytes → readAt s p ≡ Record r
+pub found-call : (s : List ℕ) (p : ℕ) {r : Rec} (m : Memory) (h : Head) {x : After} (c : Call) → length s ≤ mostBytes → readAt s p ≡ Record r
     → x ≡ made s r m h c → x ≡ afterCall m h c
 unfolding made
-found-call s p r m h c l e q = q ∙ rw (found-fits s p r l e)
+found-call s p {r} m h c l e q = q ∙ rw (found-fits s p r l e)
 
 pub made-none : (s : List ℕ) (r : Rec) (m : Memory) (h : Head) (c : Call) → fits s r ≡ false → after m h (Refused 2) ≡ made s r m h c
 unfolding made

@@ -94,10 +94,10 @@ pub record Walked (s : List ℕ) (out₀ : List ℕ) (text : List ℕ) (at : ℕ
 pub walk-starts : (s out₀ : List ℕ) (m : Memory) (h : Head) → Walked s out₀ (rest s 0 m h) 0 m h 0 out₀
 walk-starts s out₀ m h = record { same = refl; long = zero-add _ }
 
-module _ (s out₀ text : List ℕ) (at : ℕ) (m : Memory) (h : Head) (pos : ℕ) (out : List ℕ) (w : Walked s out₀ text at m h pos out) where
-  pub walk-turn : (r : Rec) → readAt s at ≡ Record r → (a : After) → a ≡ afterCall m h (callOf s r)
-      → (k : ℕ) (out′ : List ℕ) → Put out pos (line (a .reply .answer)) k out′ → Walked s out₀ text (r .next) (a .memory) (a .reply .head) (pos + k) out′
-  walk-turn r e a q k out′ p =
+module _ {s out₀ text : List ℕ} {at : ℕ} {m : Memory} {h : Head} {pos : ℕ} {out : List ℕ} (w : Walked s out₀ text at m h pos out) where
+  pub walk-turn : {r : Rec} → readAt s at ≡ Record r → {a : After} → a ≡ afterCall m h (callOf s r)
+      → {k : ℕ} {out′ : List ℕ} → Put out pos (line (a .reply .answer)) k out′ → Walked s out₀ text (r .next) (a .memory) (a .reply .head) (pos + k) out′
+  walk-turn {r} e {a} q p =
       let t : rest s at m h ≡ told s (r .next) a = rest-record s at m h r e ∙ ap (told s (r .next)) (sym q) in
       record {
         same = rw (p .text, p .long) (sym (sets-append out pos (line (a .reply .answer)) _) ∙ (ap (λ (z : List ℕ). sets out pos z) (sym t) ∙ w .same));
@@ -111,8 +111,8 @@ module _ (s out₀ text : List ℕ) (at : ℕ) (m : Memory) (h : Head) (pos : �
         text = (rw (rest-end s at m h l) at (w .same));
       }
 
-  pub walk-breaks : readAt s at ≡ Broken → (k : ℕ) (out′ : List ℕ) → Put out pos broken k out′ → Put out₀ 0 text (pos + k) out′
-  walk-breaks e k out′ p =
+  pub walk-breaks : readAt s at ≡ Broken → {k : ℕ} {out′ : List ℕ} → Put out pos broken k out′ → Put out₀ 0 text (pos + k) out′
+  walk-breaks e p =
       record {
         long = omega (arith, p .long, w .long, ap length (rest-broken s at m h e));
         text = p .text ∙ (rw (rest-broken s at m h e) at (w .same));
