@@ -195,26 +195,26 @@ fitting s r i j e =
       floats = omega (arith, leb-true (r .body + 8 * k .floats) (length s) (d .1), f);
     }
 
--- ---- what no record shows
+-- ---- what is answered within the strip and past it
 
-broken-not-end : (t : Bool) (b : Read) → (b ≡ End → ⊥) → cond t Broken b ≡ End → ⊥
-broken-not-end true b n e = let z : _≡_ {A = ℕ} 0 1 = cc in omega arith
-broken-not-end false b n e = n e
+neither : (t : Bool) (a b : Read) → (a ≡ End → ⊥) → (b ≡ End → ⊥) → cond t a b ≡ End → ⊥
+neither true a b n m e = n e
+neither false a b n m e = m e
 
-read-not-end : (t : Bool) (b : Read) → (b ≡ End → ⊥) → cond t b Broken ≡ End → ⊥
-read-not-end true b n e = n e
-read-not-end false b n e = let z : _≡_ {A = ℕ} 0 1 = cc in omega arith
+broken-within : Broken ≡ End → ⊥
+broken-within e = let z : _≡_ {A = ℕ} 0 1 = cc in omega arith
 
-record-not-end : (r : Rec) → Record r ≡ End → ⊥
-record-not-end r e = let z : _≡_ {A = ℕ} 0 1 = cc in omega arith
+record-within : (r : Rec) → Record r ≡ End → ⊥
+record-within r e = let z : _≡_ {A = ℕ} 0 1 = cc in omega arith
 
 not-end : (s : List ℕ) (p : ℕ) (k : Shape) → cond (ltb (length s) (p + 4)) Broken (recordBy s p (wordAt s p) k) ≡ End → ⊥
 unfolding recordBy
-not-end s p k e =
-    broken-not-end (ltb (length s) (p + 4)) _
-    (read-not-end (eqb (restOf (wordAt s p)) 0 && k .formed) _
-    (broken-not-end (eqb (listsAt s (k .lists) (p + 4 + 8 * k .floats) .end) 0) _
-    (broken-not-end (ltb (length s) (listsAt s (k .lists) (p + 4 + 8 * k .floats) .end)) _ (record-not-end _)))) e
+not-end s p k =
+    neither (ltb (length s) (p + 4)) _ _ broken-within
+    (neither (eqb (restOf (wordAt s p)) 0 && k .formed) _ _
+    (neither (eqb (listsAt s (k .lists) (p + 4 + 8 * k .floats) .end) 0) _ _ broken-within
+    (neither (ltb (length s) (listsAt s (k .lists) (p + 4 + 8 * k .floats) .end)) _ _ broken-within (record-within _)))
+    broken-within)
 
 pub read-done : (s : List ℕ) (p : ℕ) → readAt s p ≡ End → length s ≤ p
 unfolding readAt
