@@ -1,4 +1,4 @@
--- What a record shows of its floats and lists, and the call that it makes.
+-- The call that a record makes.
 use Prim.Native.Nat.{ℕ, _+_, _*_, _<_, _≤_}
 use native.Mathlib.Omega.{arith}
 use mathlib.Core.Path.{_≡_, refl, sym, ap, _∙_}
@@ -24,37 +24,16 @@ use Rattle.mixture.specs.Book.{Call, Load}
 use Rattle.mixture.specs.Calls.{afterLoad, afterSetting, afterFractions, afterQuery}
 use Rattle.mixture.specs.History.{afterCall}
 use Rattle.strip.specs.declared.lists.Met.{Met}
-use Rattle.strip.specs.declared.records.Shape.{Shape}
 use Rattle.strip.specs.declared.records.Rec.{Rec}
 use Rattle.strip.specs.declared.records.Read.the-variants.{Record}
 use Rattle.strip.specs.Words.{mostBytes}
-use Rattle.strip.specs.Records.{shape, shapeOf, readAt}
+use Rattle.strip.specs.Records.{readAt}
 use Rattle.strip.specs.Calls.{floatsOf, listsOf, modelOf, dataOf, settingOf, quantityOf, callOf}
 use Rattle.strip.specs.Inner.{Stored, fits, settingBy, made}
 use Rattle.arithmetic.proofs.ByteLaws.{floats-at}
 use Rattle.strip.proofs.TextLaws.{sets-whole, put-whole}
 use Rattle.strip.proofs.ListLaws.{lists-few}
 use Rattle.strip.proofs.RecordLaws.{found-fits, Fitting}
-
--- ---- lists
-
--- a load's buffers have room for its lists and groups, and for their counts after its floats
-pub record Room (r : Rec) (met : Met) (ls gs : List ℕ) (a : List Float) : Type 0 where
-  pub lists : met .lists ≤ length ls
-  pub groups : met .groups ≤ length gs
-  pub floats : r .floats + met .groups ≤ length a
-
-pub has-room : {s : List ℕ} {r : Rec} → Fitting s r → r .i < 256 → {ls gs ls′ gs′ : List ℕ} {a a′ : List Float} {met : Met} → Stored (listsOf s r) (r .floats) met ls gs a ls′ gs′ a′
-    → length ls′ ≡ 256 → length gs′ ≡ 5461 → length a′ ≡ 8192 → Room r met ls′ gs′ a′
-has-room {s} {r} w i l u v y =
-    let f = lists-few s (r .lists) in
-    let n = f .lens (r .body + 8 * r .floats) in
-    let m = f .groups (r .body + 8 * r .floats) (w .floats) in
-    record {
-      lists = omega (arith, l .lists, n, w .sized .lists, i, u);
-      groups = omega (arith, l .groups, m, w .short, v);
-      floats = omega (arith, l .groups, m, w .short, y);
-    }
 
 -- ---- a record's call, where it fits or not
 
@@ -73,6 +52,24 @@ unfolding made
 made-call w m h c e = rw (w .passes) e
 
 -- ---- a load
+
+-- its buffers have room for its lists and groups, and for their counts after its floats
+pub record Room (r : Rec) (met : Met) (ls gs : List ℕ) (a : List Float) : Type 0 where
+  pub lists : met .lists ≤ length ls
+  pub groups : met .groups ≤ length gs
+  pub floats : r .floats + met .groups ≤ length a
+
+pub has-room : {s : List ℕ} {r : Rec} → Fitting s r → r .i < 256 → {ls gs ls′ gs′ : List ℕ} {a a′ : List Float} {met : Met} → Stored (listsOf s r) (r .floats) met ls gs a ls′ gs′ a′
+    → length ls′ ≡ 256 → length gs′ ≡ 5461 → length a′ ≡ 8192 → Room r met ls′ gs′ a′
+has-room {s} {r} w i l u v y =
+    let f = lists-few s (r .lists) in
+    let n = f .lens (r .body + 8 * r .floats) in
+    let m = f .groups (r .body + 8 * r .floats) (w .floats) in
+    record {
+      lists = omega (arith, l .lists, n, w .sized .lists, i, u);
+      groups = omega (arith, l .groups, m, w .short, v);
+      floats = omega (arith, l .groups, m, w .short, y);
+    }
 
 stored-whole : {n : ℕ} (t l l′ : List ℕ) → n ≡ length t → l′ ≡ sets l 0 t → n ≤ length l′ → take n l′ ≡ t
 stored-whole t l l′ e f h = put-whole (record { long = e; text = f }) (omega (arith, h, ap length f, length-sets l 0 t))

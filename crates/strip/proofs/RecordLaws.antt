@@ -9,8 +9,8 @@ use mathlib.Core.Logic.{inl, inr}
 use lib.Dec.{leb, ltb, eqb}
 use lib.ListN.{length}
 use borrow.Author.Tests.{lt-ltb, le-ltb, ltb-false, lt-leb, le-leb, leb-true, eq-eqb, ne-eqb, eqb-true, eqb-false}
-use Rattle.arithmetic.specs.Bytes.{wordAt}
 use borrow.Author.Needs.{needs}
+use Rattle.arithmetic.specs.Bytes.{wordAt}
 use Rattle.models.specs.Values.{wilsonSize, uniquacSize, nrtlSize, countsAt}
 use Rattle.arithmetic.proofs.Differences.{either, le-or}
 use Rattle.mixture.proofs.PlaceLaws.{both}
@@ -24,13 +24,12 @@ use Rattle.strip.specs.Records.{shape, shapeOf, recordBy, readAt}
 use Rattle.strip.specs.Inner.{fitsBy, fits}
 use Rattle.strip.proofs.ListLaws.{lists-after}
 
+-- ---- the shape of each kind
+
 pub square : (i : ℕ) → i < 256 → i * i ≤ 65025
 square i h = mul-le-mul {n₁ = i} {m₁ = i} {n₂ = 255} {m₂ = 255} (omega arith) (omega arith)
 
-pub floats-is : (a b : Shape) → a ≡ b → a .floats ≡ b .floats
-floats-is a b e = cc
-
--- what a kind's shape shows, where i and j are bytes
+-- what it shows where i and j are bytes
 pub record Sized (i kind : ℕ) (k : Shape) : Type 0 where
   pub lists : k .lists ≤ i
   pub floats : k .floats ≤ 400000

@@ -36,15 +36,6 @@ room c =
 returns : tie.Need-returns
 returns c = made-none _ (c .before .before .before .before .before .before .args .r) _ _ _ (sym (c .before .does-fit .ensures) ∙ not-true _ (c .if1 .taken))
 
-fill-floats-requires : tie.Need-fill-floats-requires
-fill-floats-requires c κs = let w = fit (c .before) in (omega (arith, w .floats, w .short), w .floats)
-
-mul-at : tie.Need-mul-at
-mul-at c = let w = fit (passed (c .before)) in omega (arith, w .floats, w .short)
-
-add-at : tie.Need-add-at
-add-at c = let w = fit (passed (c .before)) in omega (arith, w .floats, w .short)
-
 returns-2 : tie.Need-returns-2
 returns-2 c =
     let l = stored (c .before .before .before .before .before .before .before .before) in
@@ -58,9 +49,9 @@ load-spec =
     (λ c κs. tt)
     returns
     (λ c. search needs)
-    fill-floats-requires
-    mul-at
-    add-at
+    (λ c κs. let w = fit (c .before) in (omega (arith, w .floats, w .short), w .floats))
+    (λ c. let w = fit (passed (c .before)) in omega (arith, w .floats, w .short))
+    (λ c. let w = fit (passed (c .before)) in omega (arith, w .floats, w .short))
     (λ c. search needs)
     (λ c. search needs)
     (λ c. search needs)

@@ -1,13 +1,13 @@
 -- The shape of each kind in turn is the definition's; i and j are bytes, so that no product wraps.
 use Prim.Native.Nat.{_*_, _≤_}
 use native.Mathlib.Omega.{arith}
-use mathlib.Core.Path.{_≡_, sym, _∙_}
+use mathlib.Core.Path.{_≡_, sym, ap, _∙_}
 use borrow.Author.Tests.{ne-eqb}
 use borrow.Author.Needs.{needs}
 use Rattle.models.specs.Values.{wilsonSize, uniquacSize, nrtlSize, countsAt}
 use Rattle.strip.specs.declared.records.Shape.{Shape}
 use Rattle.strip.specs.Records.{shapeOf}
-use Rattle.strip.proofs.RecordLaws.{square, floats-is, sized}
+use Rattle.strip.proofs.RecordLaws.{square, sized}
 use Rattle.strip.proofs.records.shape_of.Statement.{statement}
 use Rattle.strip.proofs.records.shape_of.Tie as tie
 
@@ -18,7 +18,7 @@ j-square : (c : tie.Start) → c .args .j * c .args .j ≤ 65025
 j-square c = square (c .args .j) (omega arith)
 
 shaped : (c : tie.Start) {k : Shape} → k ≡ shapeOf (c .args .kind) (c .args .i) (c .args .j) → (k ≡ shapeOf (c .args .kind) (c .args .i) (c .args .j)) × (k .floats ≤ 400000)
-shaped c e = (e, omega (arith, floats-is _ _ e, sized (c .args .kind) (c .args .i) (c .args .j) (omega arith) (omega arith) .floats))
+shaped c e = (e, omega (arith, ap (λ (k : Shape). k .floats) e, sized (c .args .kind) (c .args .i) (c .args .j) (omega arith) (omega arith) .floats))
 
 pub shape-of-spec : {M : Type 1} → statement M
 unfolding shapeOf wilsonSize uniquacSize nrtlSize countsAt
