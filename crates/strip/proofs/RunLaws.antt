@@ -137,17 +137,11 @@ rest-opened s m h a e g =
 
 pub walked-long : (s : List ℕ) (m : Memory) (h : Head) {l l′ : List ℕ} {r : ℕ} → mostBytes < length s → Put l 0 broken r l′ → Put l 0 (walked s m h) r l′
 unfolding walked
-walked-long s m h n p = put-same p (long s m h n)
-  where
-    long : (s : List ℕ) (m : Memory) (h : Head) → mostBytes < length s → broken ≡ walked s m h
-    long s m h n = rw (lt-ltb mostBytes (length s) n)
+walked-long s m h n p = rw (lt-ltb mostBytes (length s) n) p
 
 pub walked-short : (s : List ℕ) (m : Memory) (h : Head) {l l′ : List ℕ} {r : ℕ} → length s ≤ mostBytes → Put l 0 (rest s 0 m h) r l′ → Put l 0 (walked s m h) r l′
 unfolding walked
-walked-short s m h n p = put-same p (short s m h n)
-  where
-    short : (s : List ℕ) (m : Memory) (h : Head) → length s ≤ mostBytes → rest s 0 m h ≡ walked s m h
-    short s m h n = rw (le-ltb mostBytes (length s) n)
+walked-short s m h n p = rw (le-ltb mostBytes (length s) n) p
 
 pub run-opened : (s : List ℕ) (m : Memory) (h : Head) (a : After) {l l′ : List ℕ} {r : ℕ} → a ≡ afterOpen m h → isShort m ≡ false
     → Put l 0 (walked s (a .memory) (a .reply .head)) r l′ → Put l 0 (transcript s) r l′

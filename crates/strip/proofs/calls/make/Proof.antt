@@ -35,7 +35,7 @@ few : (c : tie.Else2) → start c .args .r .floats ≤ 255
 few c = fit c .sized .few (above c)
 
 returns : tie.Need-returns
-returns c = by-load (c .before .before .before .before .before .before .before .before .before .before .before .before .before .args .s .now) (c .before .before .before .before .before .before .before .before .before .before .before .before .before .args .r) _ _ (c .before .before .before .before .before .before .before .before .if1 .taken) (c .before .before .before .before .load .ensures)
+returns c = by-load _ (c .before .before .before .before .before .before .before .before .before .before .before .before .before .args .r) _ _ (c .before .before .before .before .before .before .before .before .if1 .taken) (c .before .before .before .before .load .ensures)
 
 returns-2 : tie.Need-returns-2
 returns-2 c = made-none _ (c .before .before .before .before .before .before .before .args .r) _ _ _ (sym (c .before .does-fit .ensures) ∙ not-true _ (c .if2 .taken))

@@ -13,6 +13,7 @@ use Rattle.strip.proofs.RunLaws.{Walked, walk-starts, walk-turn, walk-e
 use Rattle.strip.proofs.run.walk.Statement.{statement}
 use Rattle.strip.proofs.run.walk.Tie as tie
 
+-- t14 holds the literal that a broken record is told with
 abbrev Inv-loop : tie.InvT-loop
 Inv-loop s values₀ cells₀ marks₀ out₀ h₀ at₀ pos₀ t14 values cells marks out h at pos =
     (at ≤ length s) × (pos ≤ 10 * at) × (length values ≡ length values₀) × (length cells ≡ length cells₀) × (length marks ≡ length marks₀) × (length out ≡ length out₀)
