@@ -1,13 +1,21 @@
-// The module in a Rattle program: lent memory, a head, and the calls in turn. It writes ln γ of acetone in methanol by
-// Wilson, as bits, with the number of cells worked, and then the number of a refusal.
+// The module in a Rattle program: lent memory, a head, and the calls in turn. It writes the load's answer, ln γ of acetone in
+// methanol by Wilson, as bits, with the number of cells worked, and then the number of a refusal.
 use arithmetic::bytes::bits_of;
 use libc::STDOUT_FILENO;
 use mixture::Answer;
 use mixture::Model;
+use mixture::Reply;
 use mixture::Setting;
+use mixture::fractions::fractions;
+use mixture::head::bare_head;
+use mixture::load::load;
+use mixture::open::open;
+use mixture::query::query;
+use mixture::set::set;
 use models::Quantity;
 
-fn show(answer: Answer) {
+fn show(reply: Reply) {
+    let answer = reply.answer;
     match answer {
         Answer::Done => {
             io::write_all(STDOUT_FILENO, b"done\n");
@@ -26,16 +34,26 @@ fn show(answer: Answer) {
     }
 }
 
+// Shows a reply only where the call was refused. Such a call leaves memory and head as they were.
+fn check(reply: Reply) {
+    let answer = reply.answer;
+    match answer {
+        Answer::Refused(_) => show(reply),
+        Answer::Done => {}
+        Answer::Value(_, _) => {}
+    }
+}
+
 fn main() {
     // the memory that is lent to every call, and a head, which every call takes and gives back
     let mut values = [0.0; 5328];
     let mut cells = [0.0; 1024];
     let mut marks = [0u8; 1024];
-    let start = mixture::head::bare_head(0, 0);
-    let opened = mixture::open::open(&values, &cells, &marks, start);
-    // energies by rows in kelvin, then the molar volumes
+    let opened = open(&values, &cells, &marks, bare_head(0, 0));
+    check(opened);
+    // two components, no groups and no lists; energies by rows in kelvin, then the molar volumes
     let given = [0.0, -81.46, 293.43, 0.0, 74.05, 40.73];
-    let loaded = mixture::load::load(
+    let loaded = load(
         &mut values,
         &cells,
         &mut marks,
@@ -47,19 +65,17 @@ fn main() {
         b"",
         &given,
     );
-    let loaded_answer = loaded.answer;
-    show(loaded_answer);
+    show(loaded);
     let warm = Setting::Temperature(328.7);
-    let heated = mixture::set::set(&mut values, &cells, &mut marks, loaded.head, warm);
-    let x = [0.78, 0.22];
-    let mixed = mixture::fractions::fractions(&values, &cells, &marks, heated.head, &x);
-    let asked = Quantity::LnGamma(0);
-    let first = mixture::query::query(&values, &mut cells, &mut marks, mixed.head, asked);
-    let first_answer = first.answer;
-    show(first_answer);
+    let heated = set(&mut values, &cells, &mut marks, loaded.head, warm);
+    check(heated);
+    let mixed = fractions(&values, &cells, &marks, heated.head, &[0.78, 0.22]);
+    check(mixed);
+    let acetone = Quantity::LnGamma(0);
+    let asked = query(&values, &mut cells, &mut marks, mixed.head, acetone);
+    show(asked);
     // a third component isn't there
-    let beyond = Quantity::LnGamma(2);
-    let second = mixture::query::query(&values, &mut cells, &mut marks, first.head, beyond);
-    let second_answer = second.answer;
-    show(second_answer);
+    let third = Quantity::LnGamma(2);
+    let beyond = query(&values, &mut cells, &mut marks, asked.head, third);
+    show(beyond);
 }

@@ -104,21 +104,6 @@ fn head_of(r: Record, first: &[u8], second: &[u8], floats: &[f64]) -> Head {
     }
 }
 
-// The head before any record.
-pub fn no_head() -> Head {
-    Head {
-        model: 0,
-        n: 0,
-        ng: 0,
-        lens: [0u8; 12],
-        groups: [0u8; 144],
-        t: 0.0,
-        x: [0.0; 12],
-        has_t: false,
-        has_x: false,
-    }
-}
-
 // The call on what is lent.
 fn on_lent(
     r: Record,

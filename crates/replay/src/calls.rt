@@ -67,32 +67,6 @@ fn held(fd: i32, a: Answer) -> Line {
     }
 }
 
-// From the fractions on.
-fn with_values(
-    fd: i32,
-    model: Model,
-    n: usize,
-    ng: usize,
-    lens: &[u8],
-    groups: &[u8],
-    values: &[f64],
-    t: f64,
-    q: Quantity,
-) -> Line {
-    let count = words::count(fd);
-    if 16 < count {
-        return Line::Broken;
-    }
-    let mut x = [0.0; 16];
-    if !words::fill_floats(fd, &mut x[..], count) {
-        return Line::Broken;
-    }
-    held(
-        fd,
-        answer(model, n, ng, lens, groups, values, t, &x[..count], q),
-    )
-}
-
 // From the values on.
 fn with_lists(
     fd: i32,
@@ -114,30 +88,28 @@ fn with_lists(
     let Word::Bits(t) = words::next(fd, b' ') else {
         return Line::Broken;
     };
-    with_values(
+    let parts = words::count(fd);
+    if 16 < parts {
+        return Line::Broken;
+    }
+    let mut x = [0.0; 16];
+    if !words::fill_floats(fd, &mut x[..], parts) {
+        return Line::Broken;
+    }
+    held(
         fd,
-        model,
-        n,
-        ng,
-        lens,
-        groups,
-        &values[..count],
-        float_of(t),
-        q,
+        answer(
+            model,
+            n,
+            ng,
+            lens,
+            groups,
+            &values[..count],
+            float_of(t),
+            &x[..parts],
+            q,
+        ),
     )
-}
-
-// From the groups on.
-fn with_lens(fd: i32, model: Model, n: usize, ng: usize, lens: &[u8], q: Quantity) -> Line {
-    let count = words::count(fd);
-    if 160 < count {
-        return Line::Broken;
-    }
-    let mut groups = [0u8; 160];
-    if !words::fill_bytes(fd, &mut groups[..], count) {
-        return Line::Broken;
-    }
-    with_lists(fd, model, n, ng, lens, &groups[..count], q)
 }
 
 // From the lengths of the lists on.
@@ -150,7 +122,15 @@ fn with_quantity(fd: i32, model: Model, n: usize, ng: usize, q: Quantity) -> Lin
     if !words::fill_bytes(fd, &mut lens[..], count) {
         return Line::Broken;
     }
-    with_lens(fd, model, n, ng, &lens[..count], q)
+    let pairs = words::count(fd);
+    if 160 < pairs {
+        return Line::Broken;
+    }
+    let mut groups = [0u8; 160];
+    if !words::fill_bytes(fd, &mut groups[..], pairs) {
+        return Line::Broken;
+    }
+    with_lists(fd, model, n, ng, &lens[..count], &groups[..pairs], q)
 }
 
 // A line whose first word has been read.

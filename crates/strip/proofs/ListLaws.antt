@@ -47,30 +47,30 @@ pub word-pair : (s : List ℕ) (kind p : ℕ) → leb (p + 12) (length s) ≡ tr
 unfolding isWord
 word-pair s kind p h = rw (h, le-leb (p + 4) (length s) (omega (arith, leb-true (p + 12) (length s) h)))
 
-module _ (s : List ℕ) (kind n p w : ℕ) (h : leb (p + n) (length s) ≡ true) (e : w ≡ wordAt s p) where
-  pub word-kind : (k : ℕ) → k ≡ kindOf w → (k ≡ kind → ⊥) → false ≡ isWord s kind n p
+module _ (s : List ℕ) (kind n p : ℕ) (h : leb (p + n) (length s) ≡ true) {w k : ℕ} (e : w ≡ wordAt s p) (a : k ≡ kindOf w) where
+  pub word-kind : (k ≡ kind → ⊥) → false ≡ isWord s kind n p
   unfolding isWord
-  word-kind k a b = rw (h, ← e, ← a, ne-eqb k kind b)
+  word-kind b = rw (h, ← e, ← a, ne-eqb k kind b)
 
-  module _ (k : ℕ) (a : k ≡ kindOf w) (b : k ≡ kind) (j : ℕ) (c : j ≡ jOf w) where
+  module _ (b : k ≡ kind) {j : ℕ} (c : j ≡ jOf w) where
     pub word-field : (j ≡ 0 → ⊥) → false ≡ isWord s kind n p
     unfolding isWord
     word-field d = rw (h, ← e, ← a, eq-eqb k kind b, ← c, ne-eqb j 0 d)
 
-    pub word-rest : j ≡ 0 → (r : ℕ) → r ≡ restOf w → eqb r 0 ≡ isWord s kind n p
+    pub word-rest : j ≡ 0 → {r : ℕ} → r ≡ restOf w → eqb r 0 ≡ isWord s kind n p
     unfolding isWord
-    word-rest d r f = rw (h, ← e, ← a, eq-eqb k kind b, ← c, eq-eqb j 0 d, f)
+    word-rest d f = rw (h, ← e, ← a, eq-eqb k kind b, ← c, eq-eqb j 0 d, f)
 
 -- its field i
-pub i-is : (s : List ℕ) (p i : ℕ) {w : ℕ} → w ≡ wordAt s p → i ≡ iOf w → i ≡ iOf (wordAt s p)
-i-is s p i e f = f ∙ ap iOf e
+pub i-is : (s : List ℕ) (p : ℕ) {i w : ℕ} → w ≡ wordAt s p → i ≡ iOf w → i ≡ iOf (wordAt s p)
+i-is s p e f = f ∙ ap iOf e
 
 -- ---- what is left to read, of a list that was begun and of those after it: its next word
 
 abbrev pub ahead : List ℕ → ℕ → ℕ → ℕ → Lists
 ahead s left pairs p = pairsAt s pairs (listsAt s left) p
 
-module _ (s : List ℕ) (left pairs p : ℕ) where
+module _ (s : List ℕ) (left p : ℕ) {pairs : ℕ} where
   pub no-more : pairs ≡ 0 → left ≡ 0 → ahead s left pairs p ≡ noLists p
   unfolding pairsAt listsAt
   no-more a b = rw (a, b)
@@ -80,9 +80,9 @@ module _ (s : List ℕ) (left pairs p : ℕ) where
     unfolding pairsAt listsAt
     no-12 t = rw (a, e, t)
 
-    pub one-12 : isWord s 12 4 p ≡ true → (v : ℕ) → v ≡ iOf (wordAt s p) → ahead s left pairs p ≡ withList v (ahead s n v (p + 4))
+    pub one-12 : isWord s 12 4 p ≡ true → {v : ℕ} → v ≡ iOf (wordAt s p) → ahead s left pairs p ≡ withList v (ahead s n v (p + 4))
     unfolding pairsAt listsAt
-    one-12 t v q = rw (a, e, t, ← q)
+    one-12 t q = rw (a, e, t, ← q)
 
   module _ (a : pairs ≡ 0 → ⊥) where
     more-pairs : pairs ≡ suc (pairs - 1)
@@ -92,10 +92,10 @@ module _ (s : List ℕ) (left pairs p : ℕ) where
     unfolding pairsAt
     no-13 t = rw (more-pairs, t)
 
-    pub one-13 : isWord s 13 12 p ≡ true → (g : ℕ) → g ≡ iOf (wordAt s p) → (v : Float) → v ≡ floatAt s (p + 4)
+    pub one-13 : isWord s 13 12 p ≡ true → {g : ℕ} → g ≡ iOf (wordAt s p) → {v : Float} → v ≡ floatAt s (p + 4)
         → ahead s left pairs p ≡ withPair g v (ahead s left (pairs - 1) (p + 12))
     unfolding pairsAt
-    one-13 t g q v f = subst (λ (k : ℕ). pairsAt s k (listsAt s left) p ≡ withPair g v (ahead s left (pairs - 1) (p + 12))) (sym more-pairs) (rw (t, q, f))
+    one-13 t {g} q {v} f = subst (λ (k : ℕ). pairsAt s k (listsAt s left) p ≡ withPair g v (ahead s left (pairs - 1) (p + 12))) (sym more-pairs) (rw (t, q, f))
 
 -- where they end
 pub ends : {a b : Lists} {e : ℕ} → a ≡ b → a .end ≡ e → b .end ≡ e
@@ -179,14 +179,14 @@ module _ {all : Lists} {k : ℕ} {ls₀ gs₀ : List ℕ} {a₀ : List Float} {l
       let g = named e in
       record { lists = sym (add-zero n) ∙ g .lists; groups = sym (add-zero m) ∙ g .groups; lengths = g .lengths; members = g .members; numbers = g .numbers }
 
-  pub store-12 : (v : ℕ) (more : Lists) → left ≡ withList v more → (ls′ : List ℕ) → ls′ ≡ set ls n v → Storing all k ls₀ gs₀ a₀ more (n + 1) m ls′ gs a
-  store-12 v more e ls′ q =
+  pub store-12 : (v : ℕ) (more : Lists) → left ≡ withList v more → {ls′ : List ℕ} → ls′ ≡ set ls n v → Storing all k ls₀ gs₀ a₀ more (n + 1) m ls′ gs a
+  store-12 v more e q =
       let g = named e in
       record { lists = omega (arith, g .lists); groups = g .groups; lengths = rw (q, add-one n) (g .lengths); members = g .members; numbers = g .numbers }
 
-  pub store-13 : (v : ℕ) (x : Float) (more : Lists) → left ≡ withPair v x more → (gs′ : List ℕ) → gs′ ≡ set gs m v → (a′ : List Float) → a′ ≡ set a (k + m) x
+  pub store-13 : (v : ℕ) (x : Float) (more : Lists) → left ≡ withPair v x more → {gs′ : List ℕ} → gs′ ≡ set gs m v → {a′ : List Float} → a′ ≡ set a (k + m) x
       → Storing all k ls₀ gs₀ a₀ more n (m + 1) ls gs′ a′
-  store-13 v x more e gs′ q a′ r =
+  store-13 v x more e q r =
       let g = named e in
       let z : k + (m + 1) ≡ suc (k + m) = omega arith in
       record { lists = g .lists; groups = omega (arith, g .groups); lengths = g .lengths; members = rw (q, add-one m) (g .members); numbers = rw (r, z) (g .numbers) }

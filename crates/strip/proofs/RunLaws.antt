@@ -94,10 +94,10 @@ pub record Walked (s : List ℕ) (out₀ : List ℕ) (text : List ℕ) (at : ℕ
 pub walk-starts : (s out₀ : List ℕ) (m : Memory) (h : Head) → Walked s out₀ (rest s 0 m h) 0 m h 0 out₀
 walk-starts s out₀ m h = record { same = refl; long = zero-add _ }
 
-module _ (s out₀ text : List ℕ) (at : ℕ) (m : Memory) (h : Head) (pos : ℕ) (out : List ℕ) (w : Walked s out₀ text at m h pos out) where
-  pub walk-turn : (r : Rec) → readAt s at ≡ Record r → (a : After) → a ≡ afterCall m h (callOf s r)
-      → (k : ℕ) (out′ : List ℕ) → Put out pos (line (a .reply .answer)) k out′ → Walked s out₀ text (r .next) (a .memory) (a .reply .head) (pos + k) out′
-  walk-turn r e a q k out′ p =
+module _ {s out₀ text : List ℕ} {at : ℕ} {m : Memory} {h : Head} {pos : ℕ} {out : List ℕ} (w : Walked s out₀ text at m h pos out) where
+  pub walk-turn : {r : Rec} → readAt s at ≡ Record r → {a : After} → a ≡ afterCall m h (callOf s r)
+      → {k : ℕ} {out′ : List ℕ} → Put out pos (line (a .reply .answer)) k out′ → Walked s out₀ text (r .next) (a .memory) (a .reply .head) (pos + k) out′
+  walk-turn {r} e {a} q p =
       let t : rest s at m h ≡ told s (r .next) a = rest-record s at m h r e ∙ ap (told s (r .next)) (sym q) in
       record {
         same = rw (p .text, p .long) (sym (sets-append out pos (line (a .reply .answer)) _) ∙ (ap (λ (z : List ℕ). sets out pos z) (sym t) ∙ w .same));
@@ -111,8 +111,8 @@ module _ (s out₀ text : List ℕ) (at : ℕ) (m : Memory) (h : Head) (pos : �
         text = (rw (rest-end s at m h l) at (w .same));
       }
 
-  pub walk-breaks : readAt s at ≡ Broken → (k : ℕ) (out′ : List ℕ) → Put out pos broken k out′ → Put out₀ 0 text (pos + k) out′
-  walk-breaks e k out′ p =
+  pub walk-breaks : readAt s at ≡ Broken → {k : ℕ} {out′ : List ℕ} → Put out pos broken k out′ → Put out₀ 0 text (pos + k) out′
+  walk-breaks e p =
       record {
         long = omega (arith, p .long, w .long, ap length (rest-broken s at m h e));
         text = p .text ∙ (rw (rest-broken s at m h e) at (w .same));
@@ -137,17 +137,11 @@ rest-opened s m h a e g =
 
 pub walked-long : (s : List ℕ) (m : Memory) (h : Head) {l l′ : List ℕ} {r : ℕ} → mostBytes < length s → Put l 0 broken r l′ → Put l 0 (walked s m h) r l′
 unfolding walked
-walked-long s m h n p = put-same p (long s m h n)
-  where
-    long : (s : List ℕ) (m : Memory) (h : Head) → mostBytes < length s → broken ≡ walked s m h
-    long s m h n = rw (lt-ltb mostBytes (length s) n)
+walked-long s m h n p = rw (lt-ltb mostBytes (length s) n) p
 
 pub walked-short : (s : List ℕ) (m : Memory) (h : Head) {l l′ : List ℕ} {r : ℕ} → length s ≤ mostBytes → Put l 0 (rest s 0 m h) r l′ → Put l 0 (walked s m h) r l′
 unfolding walked
-walked-short s m h n p = put-same p (short s m h n)
-  where
-    short : (s : List ℕ) (m : Memory) (h : Head) → length s ≤ mostBytes → rest s 0 m h ≡ walked s m h
-    short s m h n = rw (le-ltb mostBytes (length s) n)
+walked-short s m h n p = rw (le-ltb mostBytes (length s) n) p
 
 pub run-opened : (s : List ℕ) (m : Memory) (h : Head) (a : After) {l l′ : List ℕ} {r : ℕ} → a ≡ afterOpen m h → isShort m ≡ false
     → Put l 0 (walked s (a .memory) (a .reply .head)) r l′ → Put l 0 (transcript s) r l′

@@ -42,6 +42,7 @@ fn setting_of(kind: usize, i: usize, j: usize, five: TdParam) -> Setting
     }
 }
 
+// What a query asks for, by its j.
 fn quantity_of(i: usize, j: usize) -> Quantity
     ensures { λ q. ⌜ q ≡ quantityOf i j ⌝ }
 {

@@ -22,6 +22,7 @@ pub struct Shape {
     pub lists: usize,
 }
 
+// A record that was read: its head word's fields, and its shape.
 pub struct Rec {
     pub kind: usize,
     pub i: u8,
@@ -33,6 +34,7 @@ pub struct Rec {
     pub next: usize,
 }
 
+// What stands at a place of the strip.
 pub enum Read {
     Record(Rec),
     // malformed or cut
@@ -96,7 +98,7 @@ fn shape_of(kind: usize, i: u8, j: u8) -> Shape
     }
 }
 
-// What stands at a place.
+// Reads what stands at a place.
 pub fn read_at(s: &[u8], at: usize) -> Read
     ensures { λ r. ⌜ r ≡ readAt (now (s .entry)) at ⌝ }
 {

@@ -1,4 +1,4 @@
--- `histories::calls::put_bytes` is safe and ends: the slice keeps its length, and the measure is what is left of it.
+-- The bytes of a row, and 0 past its end: the slice keeps its length, and fewer of its places are left at each turn.
 use mathlib.Core.Path.{_≡_, refl}
 use Prim.Native.Nat.{_≤_, _-_}
 use native.Mathlib.Omega.{arith}
@@ -13,23 +13,17 @@ Inv-loop a₀ s k₀ k-end a k = (k ≤ k-end) × (k-end ≡ length a) × (lengt
 abbrev μ-loop : tie.MeasureT-loop
 μ-loop a₀ s k₀ k-end a k = k-end - k
 
-loop-holds : tie.Need-loop-holds Inv-loop μ-loop
-loop-holds c = (omega arith, refl, refl)
-
-returns : tie.Need-returns Inv-loop μ-loop
-returns c = tt
-
 pub put-bytes-spec : {M : Type 1} → statement M
 put-bytes-spec =
     tie.close
     (tie.spec
     Inv-loop
     μ-loop
-    loop-holds
+    (λ c. (omega arith, refl, refl))
     (λ c κs. search needs)
     (λ c. omega arith)
     (λ c. omega arith)
     (λ c. omega arith)
     (λ c. search needs)
     (λ c. search needs)
-    returns)
+    (λ c. tt))

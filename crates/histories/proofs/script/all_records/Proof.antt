@@ -1,5 +1,4 @@
--- `histories::script::all_records` is safe and ends: the memory keeps its lengths, and the measure is the number of turns
--- that are left.
+-- Runs the records one after another: the memory keeps its lengths, and fewer turns are left after each.
 use mathlib.Core.Path.{_≡_, refl}
 use Prim.Native.Nat.{_-_, _≤_}
 use native.Mathlib.Omega.{arith}
@@ -14,15 +13,6 @@ Inv-loop fd values₀ cells₀ marks₀ head₀ counter₀ values cells marks he
 abbrev μ-loop : tie.MeasureT-loop
 μ-loop fd values₀ cells₀ marks₀ head₀ counter₀ values cells marks head counter = 1000000 - counter
 
-loop-holds : tie.Need-loop-holds Inv-loop μ-loop
-loop-holds c = (omega arith, refl, refl, refl)
-
-returns : tie.Need-returns Inv-loop μ-loop
-returns c = tt
-
-returns-2 : tie.Need-returns-2 Inv-loop μ-loop
-returns-2 c = tt
-
 pub all-records-spec : {M : Type 1} → statement M
 all-records-spec =
     tie.close
@@ -30,16 +20,16 @@ all-records-spec =
     Inv-loop
     μ-loop
     (λ c κs. tt)
-    loop-holds
+    (λ c. (omega arith, refl, refl, refl))
     (λ c κs. search needs)
     (λ c. search needs)
     (λ c. search needs)
     (λ c. search needs)
-    returns
+    (λ c. tt)
     (λ c. omega arith)
     (λ c. omega arith)
     (λ c. search needs)
     (λ c. search needs)
     (λ c. search needs)
     (λ c. search needs)
-    returns-2)
+    (λ c. tt))

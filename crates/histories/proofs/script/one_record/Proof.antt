@@ -1,10 +1,7 @@
--- `histories::script::one_record` is safe: the rows are read only where there is room for them.
+-- Reads and runs a record: its rows are read only where there is room for them.
 use borrow.Author.Needs.{needs}
 use Rattle.histories.proofs.script.one_record.Statement.{statement}
 use Rattle.histories.proofs.script.one_record.Tie as tie
-
-with-rows-requires : tie.Need-with-rows-requires
-with-rows-requires c κs = (c .before .before .before .before .has-room .ensures (c .before .before .before .if3 .taken), search needs)
 
 pub one-record-spec : {M : Type 1} → statement M
 one-record-spec =
@@ -17,7 +14,7 @@ one-record-spec =
     (λ c. search needs)
     (λ c κs. tt)
     (λ c κs. search needs)
-    with-rows-requires
+    (λ c κs. (c .before .before .before .before .has-room .ensures (c .before .before .before .if3 .taken), search needs))
     (λ c. search needs)
     (λ c. search needs)
     (λ c. search needs)

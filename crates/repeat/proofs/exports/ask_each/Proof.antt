@@ -1,4 +1,4 @@
--- After k queries memory and last reply are those of the definition; at the end these are all.
+-- Queries one after another: after k of them memory and last reply are the definition's; at the end these are all.
 use mathlib.Core.Path.{_≡_, refl, _∙_}
 use Prim.Native.Nat.{_-_, _≤_}
 use native.Mathlib.Omega.{arith}

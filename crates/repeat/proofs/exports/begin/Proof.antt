@@ -1,4 +1,4 @@
--- An opening, a load and the fractions, by the calls' own definitions.
+-- An opening, a load and the fractions: each call's contract is the definition's step.
 use borrow.Author.Needs.{needs}
 use Rattle.repeat.proofs.ExportLaws.{begun-is}
 use Rattle.repeat.proofs.exports.begin.Statement.{statement}

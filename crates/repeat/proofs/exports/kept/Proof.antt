@@ -1,4 +1,4 @@
--- The calls one after another are the definition's.
+-- A mixture on zeros, from its opening to its last turn: each call's contract is the definition's step.
 use Prim.Native.Nat.{_*_}
 use borrow.Author.Needs.{needs}
 use denote.Ref.{now}

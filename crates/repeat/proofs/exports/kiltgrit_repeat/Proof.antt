@@ -1,4 +1,4 @@
--- The three cases that give 0, and else the decoded values.
+-- Decodes values and fractions and repeats over them: the three tests that give 0 are the definition's, and so are the decoded rows.
 use borrow.Author.Needs.{needs}
 use lib.Ieee.{ofBits}
 use borrow.Author.Tests.{lt-ltb, le-ltb}
@@ -7,28 +7,17 @@ use Rattle.repeat.proofs.ExportLaws.{bytes-are}
 use Rattle.repeat.proofs.exports.kiltgrit_repeat.Statement.{statement}
 use Rattle.repeat.proofs.exports.kiltgrit_repeat.Tie as tie
 
-returns : tie.Need-returns
-unfolding repeatedBytes ofBits
-returns c = rw (lt-ltb _ _ (c .if1 .taken))
-
-returns-2 : tie.Need-returns-2
-unfolding repeatedBytes ofBits
-returns-2 c = rw (le-ltb _ _ (c .before .if1 .left), lt-ltb _ _ (c .if2 .taken))
-
-returns-3 : tie.Need-returns-3
-unfolding repeatedBytes ofBits
-returns-3 c = rw (le-ltb _ _ (c .before .before .if1 .left), le-ltb _ _ (c .before .if2 .left), lt-ltb _ _ (c .if3 .taken))
-
 returns-4 : tie.Need-returns-4
 returns-4 c = bytes-are _ _ _ _ _ _ _ _ _ _ _ _ (c .before .before .before .before .before .before .before .before .before .before .before .before .before .if1 .left) (c .before .before .before .before .before .before .before .before .before .before .before .before .if2 .left) (c .before .before .before .before .before .before .before .before .before .before .before .if3 .left) (c .before .before .before .before .model-of .ensures) (c .before .before .before .before .before .before .before .before .before .fill-floats .ensures .1) (c .before .before .before .before .before .before .fill-floats2 .ensures .1) (c .before .quantity-of .ensures) (c .repeat .ensures)
 
 pub kiltgrit-repeat-spec : {M : Type 1} → statement M
+unfolding repeatedBytes ofBits
 kiltgrit-repeat-spec =
     tie.close
     (tie.spec
-    returns
-    returns-2
-    returns-3
+    (λ c. rw (lt-ltb _ _ (c .if1 .taken)))
+    (λ c. rw (le-ltb _ _ (c .before .if1 .left), lt-ltb _ _ (c .if2 .taken)))
+    (λ c. rw (le-ltb _ _ (c .before .before .if1 .left), le-ltb _ _ (c .before .if2 .left), lt-ltb _ _ (c .if3 .taken)))
     (λ c. search needs)
     (λ c κs. search needs)
     (λ c. search needs)

@@ -1,10 +1,9 @@
--- After k turns the last value is that of turn k - 1.
+-- The plain call at each temperature: after k turns the last value is that of turn k - 1.
 use mathlib.Core.Path.{_≡_, ap, _∙_}
-use Prim.Native.Nat.{_*_, _-_, _≤_}
+use Prim.Native.Nat.{_-_, _*_, _/_, _≤_}
 use native.Mathlib.Omega.{arith}
 use borrow.Author.Needs.{needs}
 use lib.ListN.{length}
-use Prim.Native.Nat.{_/_}
 use lib.Ieee.{Float}
 use denote.Ref.{now}
 use Rattle.mixture.specs.Names.{ModelData}

@@ -1,4 +1,4 @@
--- Before turn k memory, head and answer are those after the definition's k - from turns; at the end these are all.
+-- A setting and a query in each turn: before turn k memory, head and answer are those after the definition's k - from turns; at the end these are all.
 use mathlib.Core.Path.{_≡_, refl, _∙_}
 use Prim.Native.Nat.{ℕ, _+_, _-_, _*_, _≤_}
 use native.Mathlib.Omega.{arith}

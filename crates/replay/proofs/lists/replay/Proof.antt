@@ -1,5 +1,4 @@
--- `replay::lists::replay` is safe and ends. The measure is the number of turns that are left, and there are at most as many
--- answers as turns.
+-- Replays a list line by line: fewer turns are left after each, and there are at most as many answers as turns.
 use Prim.Native.Nat.{_≤_, _-_}
 use native.Mathlib.Omega.{arith}
 use mathlib.Core.Logic.{⊎-elim}
@@ -12,18 +11,6 @@ Inv-loop fd list answers₀ differ₀ counter₀ answers differ counter = (count
 
 abbrev μ-loop : tie.MeasureT-loop
 μ-loop fd list answers₀ differ₀ counter₀ answers differ counter = 1000000 - counter
-
-returns : tie.Need-returns Inv-loop μ-loop
-returns c = tt
-
-returns-2 : tie.Need-returns-2 Inv-loop μ-loop
-returns-2 c = tt
-
-loop-again : tie.Need-loop-again Inv-loop μ-loop
-loop-again c = ⊎-elim (λ w. omega arith) (λ w. omega arith) (c .match .came)
-
-returns-3 : tie.Need-returns-3 Inv-loop μ-loop
-returns-3 c = tt
 
 pub replay-spec : {M : Type 1} → statement M
 replay-spec =
@@ -39,10 +26,10 @@ replay-spec =
     (λ c. omega arith)
     (λ c. omega arith)
     (λ c. search needs)
-    returns
+    (λ c. tt)
     (λ c. search needs)
-    returns-2
+    (λ c. tt)
     (λ c. omega arith)
     (λ c. omega arith)
-    loop-again
-    returns-3)
+    (λ c. ⊎-elim (λ w. omega arith) (λ w. omega arith) (c .match .came))
+    (λ c. tt))

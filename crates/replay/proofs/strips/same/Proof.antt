@@ -1,4 +1,4 @@
--- Reads within both slices, and fewer places are left at each turn.
+-- Whether the first n bytes are the same: it reads within both slices, and fewer places are left at each turn.
 use Prim.Native.Nat.{_-_, _≤_}
 use native.Mathlib.Omega.{arith}
 use borrow.Author.Needs.{needs}

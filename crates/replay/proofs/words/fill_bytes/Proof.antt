@@ -1,4 +1,4 @@
--- `replay::words::fill_bytes` is safe and ends: the slice keeps its length, and the measure is what is left of it.
+-- Fills n places with bytes: the slice keeps its length, and fewer places are left at each turn.
 use mathlib.Core.Path.{_≡_, refl, sym}
 use Prim.Native.Nat.{_≤_, _-_}
 use native.Mathlib.Omega.{arith}
@@ -14,29 +14,20 @@ Inv-loop fd a₀ n k₀ a k = (k ≤ n) × (length a ≡ length a₀)
 abbrev μ-loop : tie.MeasureT-loop
 μ-loop fd a₀ n k₀ a k = n - k
 
-loop-holds : tie.Need-loop-holds Inv-loop μ-loop
-loop-holds c = (omega arith, refl)
-
-returns : tie.Need-returns Inv-loop μ-loop
-returns c = sym (length-take-le _ _ (omega arith))
-
-returns-2 : tie.Need-returns-2 Inv-loop μ-loop
-returns-2 c = sym (length-take-le _ _ (omega arith))
-
 pub fill-bytes-spec : {M : Type 1} → statement M
 fill-bytes-spec =
     tie.close
     (tie.spec
     Inv-loop
     μ-loop
-    loop-holds
+    (λ c. (omega arith, refl))
     (λ c κs. search needs)
     (λ c. search needs)
-    returns
+    (λ c. sym (length-take-le _ _ (omega arith)))
     (λ c. omega arith)
     (λ c. omega arith)
     (λ c. omega arith)
     (λ c. omega arith)
     (λ c. search needs)
     (λ c. search needs)
-    returns-2)
+    (λ c. sym (length-take-le _ _ (omega arith))))

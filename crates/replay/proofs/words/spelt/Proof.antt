@@ -1,4 +1,4 @@
--- `replay::words::spelt` is safe and ends. The measure is the number of digits that are left.
+-- The word that 16 digits spell: fewer digits are left at each turn.
 use Prim.Native.Nat.{_≤_, _-_}
 use native.Mathlib.Omega.{arith}
 use borrow.Author.Needs.{needs}
@@ -11,12 +11,6 @@ Inv-loop text bits₀ k₀ bits k = k ≤ 16
 abbrev μ-loop : tie.MeasureT-loop
 μ-loop text bits₀ k₀ bits k = 16 - k
 
-returns : tie.Need-returns Inv-loop μ-loop
-returns c = tt
-
-returns-2 : tie.Need-returns-2 Inv-loop μ-loop
-returns-2 c = tt
-
 pub spelt-spec : {M : Type 1} → statement M
 spelt-spec =
     tie.close
@@ -26,10 +20,10 @@ spelt-spec =
     (λ c. omega arith)
     (λ c. omega arith)
     (λ c κs. search needs)
-    returns
+    (λ c. tt)
     (λ c. omega arith)
     (λ c. omega arith)
     (λ c. omega arith)
     (λ c. omega arith)
     (λ c. omega arith)
-    returns-2)
+    (λ c. tt))

@@ -1,64 +1,46 @@
 -- Fills three buffers with a load's lists and floats and makes the call: what the buffers hold is the definition's load.
---
-use Prim.Native.Nat.{_+_}
 use native.Mathlib.Omega.{arith}
-use mathlib.Core.Path.{_≡_, sym, _∙_}
-use mathlib.Core.Bool.{true}
+use mathlib.Core.Path.{sym, _∙_}
 use lib.Seq.{length-take-le}
 use borrow.Author.Tests.{not-true, not-false}
 use borrow.Author.Needs.{needs}
-use Rattle.strip.specs.Inner.{fits}
 use Rattle.strip.proofs.RecordLaws.{Fitting, fitting}
-use Rattle.strip.proofs.CallLaws.{fit-lists, load-is, made-call, made-none}
+use Rattle.strip.proofs.CallLaws.{Room, has-room, load-is, made-none}
 use Rattle.strip.proofs.calls.load.Statement.{statement}
 use Rattle.strip.proofs.calls.load.Tie as tie
 
-it-fits : (c : tie.Else1) → fits (c .before .before .before .before .before .before .args .s .now) (c .before .before .before .before .before .before .args .r) ≡ true
-it-fits c = sym (c .before .does-fit .ensures) ∙ not-false _ (c .if1 .left)
+-- ---- places: the start, the test passed, the floats filled in, the lists stored
 
-fit : (c : tie.Else1) → Fitting (c .before .before .before .before .before .before .args .s .now) (c .before .before .before .before .before .before .args .r)
-fit c = fitting _ _ (it-fits c)
+abbrev start : tie.Else1 → tie.Start
+start c = c .before .before .before .before .before .before
+
+abbrev passed : tie.After-fill-floats → tie.Else1
+passed c = c .before .before
+
+abbrev filled : tie.After-fill-lists → tie.After-fill-floats
+filled c = c .before .before .before .before .before
+
+abbrev stored : tie.After-struct-known2 → tie.After-fill-lists
+stored c = c .before .before .before .before .before .before .before .before
+
+-- ---- what the test and the lists showed
+
+fit : (c : tie.Else1) → Fitting (start c .args .s .now) (start c .args .r)
+fit c = fitting _ _ (omega arith) (omega arith) (sym (c .before .does-fit .ensures) ∙ not-false _ (c .if1 .left))
+
+room : (c : tie.After-fill-lists) → Room (start (passed (filled c)) .args .r) (c .fill-lists .result) (c .fill-lists .last .0) (c .fill-lists .last .1 .0) (c .fill-lists .last .1 .1 .0)
+room c =
+    let k = c .fill-lists .kept in
+    has-room (fit (passed (filled c))) (omega arith) (c .fill-lists .ensures) (k .0) (k .1 .0) (k .1 .1 .0 ∙ filled c .fill-floats .kept .0)
 
 returns : tie.Need-returns
 returns c = made-none _ (c .before .before .before .before .before .before .args .r) _ _ _ (sym (c .before .does-fit .ensures) ∙ not-true _ (c .if1 .taken))
 
-fill-floats-requires : tie.Need-fill-floats-requires
-fill-floats-requires c κs = let w = fit (c .before) in (omega (arith, w .floats, w .short), w .floats)
-
-mul-at : tie.Need-mul-at
-mul-at c = let w = fit (c .before .before .before) in omega (arith, w .floats, w .short)
-
-add-at : tie.Need-add-at
-add-at c = let w = fit (c .before .before .before) in omega (arith, w .floats, w .short)
-
-add-e : tie.Need-add-e
-add-e c = omega (arith, fit-lists _ _ (fit (c .before .before .before .before .before .before .before .before .before .before)) (omega arith) (c .before .before .before .fill-lists .ensures) .2)
-
-array-share-prefix-lens : tie.Need-array-share-prefix-lens
-array-share-prefix-lens c = omega (arith, fit-lists _ _ (fit (c .before .before .before .before .before .before .before .before .before .before .before .before .before .before .before)) (omega arith) (c .before .before .before .before .before .before .before .before .fill-lists .ensures) .0)
-
-slice-aggregate-load : tie.Need-slice-aggregate-load
-slice-aggregate-load c = let f = c .before .before .before .before .before .before .before .before .before .fill-lists in sym (length-take-le (f .result .lists) _ (omega (arith, fit-lists _ _ (fit (c .before .before .before .before .before .before .before .before .before .before .before .before .before .before .before .before)) (omega arith) (f .ensures) .0, f .kept .0)))
-
-array-share-prefix-groups : tie.Need-array-share-prefix-groups
-array-share-prefix-groups c = omega (arith, fit-lists _ _ (fit (c .before .before .before .before .before .before .before .before .before .before .before .before .before .before .before .before)) (omega arith) (c .before .before .before .before .before .before .before .before .before .fill-lists .ensures) .1)
-
-slice-aggregate-load-2 : tie.Need-slice-aggregate-load-2
-slice-aggregate-load-2 c = let f = c .before .before .before .before .before .before .before .before .before .before .fill-lists in sym (length-take-le (f .result .groups) _ (omega (arith, fit-lists _ _ (fit (c .before .before .before .before .before .before .before .before .before .before .before .before .before .before .before .before .before)) (omega arith) (f .ensures) .1, f .kept .1 .0)))
-
-array-share-prefix-given : tie.Need-array-share-prefix-given
-array-share-prefix-given c = omega (arith, fit-lists _ _ (fit (c .before .before .before .before .before .before .before .before .before .before .before .before .before .before .before .before .before)) (omega arith) (c .before .before .before .before .before .before .before .before .before .before .fill-lists .ensures) .2)
-
-slice-aggregate-load-3 : tie.Need-slice-aggregate-load-3
-slice-aggregate-load-3 c = let f = c .before .before .before .before .before .before .before .before .before .before .before .fill-lists in sym (length-take-le (c .before .before .before .before .before .before .before .before .before .before .before .before .before .before .before .before .before .before .before .before .before .before .before .before .args .r .floats + f .result .groups) _ (omega (arith, fit-lists _ _ (fit (c .before .before .before .before .before .before .before .before .before .before .before .before .before .before .before .before .before .before)) (omega arith) (f .ensures) .2, f .kept .1 .1 .0, c .before .before .before .before .before .before .before .before .before .before .before .before .before .before .before .before .fill-floats .kept .0)))
-
 returns-2 : tie.Need-returns-2
 returns-2 c =
-    let a = c .before .before .before .before .before .before .before .before .before .before .before .before .before .before .before .before .before .before .before .before .before .before .before .before .before .before .before .before .before .args in
-    let f = c .before .before .before .before .before .before .before .before .before .before .before .before .before .before .before .before .fill-lists in
-    let room = fit-lists _ _ (fit (c .before .before .before .before .before .before .before .before .before .before .before .before .before .before .before .before .before .before .before .before .before .before .before)) (omega arith) (f .ensures) in
-    made-call (a .s .now) (a .r) _ _ _ (it-fits (c .before .before .before .before .before .before .before .before .before .before .before .before .before .before .before .before .before .before .before .before .before .before .before))
-    (load-is (a .s .now) (a .r) _ (f .result) _ _ _ _ _ _ (c .before .before .before .before .load .ensures) (c .before .before .before .before .before .before .before .before .before .before .model-of .ensures) (c .before .before .before .before .before .before .before .before .before .before .before .before .before .before .before .before .before .before .before .before .before .fill-floats .ensures .1) (f .ensures) (omega (arith, room .0)) (omega (arith, room .1)) (omega (arith, room .2, c .before .before .before .before .before .before .before .before .before .before .before .before .before .before .before .before .before .before .before .before .before .fill-floats .kept .0)))
+    let l = stored (c .before .before .before .before .before .before .before .before) in
+    let f = filled l in
+    load-is (fit (passed f)) _ _ (c .before .before .before .before .load .ensures) (c .before .before .before .before .before .before .before .before .before .before .model-of .ensures) (f .fill-floats .ensures .1) (l .fill-lists .ensures) (room l)
 
 pub load-spec : {M : Type 1} → statement M
 load-spec =
@@ -67,23 +49,23 @@ load-spec =
     (λ c κs. tt)
     returns
     (λ c. search needs)
-    fill-floats-requires
-    mul-at
-    add-at
+    (λ c κs. let w = fit (c .before) in (omega (arith, w .floats, w .short), w .floats))
+    (λ c. let w = fit (passed (c .before)) in omega (arith, w .floats, w .short))
+    (λ c. let w = fit (passed (c .before)) in omega (arith, w .floats, w .short))
     (λ c. search needs)
     (λ c. search needs)
     (λ c. search needs)
     (λ c κs. tt)
-    add-e
+    (λ c. omega (arith, room (c .before .before .before) .floats))
     (λ c κs. tt)
     (λ c. search needs)
     (λ c. search needs)
-    array-share-prefix-lens
-    slice-aggregate-load
-    array-share-prefix-groups
-    slice-aggregate-load-2
-    array-share-prefix-given
-    slice-aggregate-load-3
+    (λ c. room (stored c) .lists)
+    (λ c. sym (length-take-le _ _ (room (stored (c .before)) .lists)))
+    (λ c. room (stored (c .before)) .groups)
+    (λ c. sym (length-take-le _ _ (room (stored (c .before .before)) .groups)))
+    (λ c. room (stored (c .before .before)) .floats)
+    (λ c. sym (length-take-le _ _ (room (stored (c .before .before .before)) .floats)))
     (λ c κs. tt)
     (λ c. search needs)
     (λ c. search needs)

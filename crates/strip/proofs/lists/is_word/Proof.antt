@@ -16,17 +16,14 @@ inside c = sym (c .before .has .ensures) ∙ not-false _ (c .if1 .left)
 returns : tie.Need-returns
 returns c = word-cut _ (c .before .before .before .args .kind) _ _ (sym (c .before .has .ensures) ∙ not-true _ (c .if1 .taken))
 
-word-at-requires : tie.Need-word-at-requires
-word-at-requires c κs = leb-true _ _ (inside c)
-
 returns-2 : tie.Need-returns-2
-returns-2 c = word-kind _ (c .before .before .before .before .before .before .args .kind) _ _ (c .before .before .word-at .result) (inside (c .before .before .before)) (c .before .before .word-at .ensures .0) (c .before .kind-of .result) (c .before .kind-of .ensures) (c .if2 .taken)
+returns-2 c = word-kind _ (c .before .before .before .before .before .before .args .kind) _ _ (inside (c .before .before .before)) (c .before .before .word-at .ensures .0) (c .before .kind-of .ensures) (c .if2 .taken)
 
 returns-3 : tie.Need-returns-3
-returns-3 c = word-field _ (c .before .before .before .before .before .before .before .before .args .kind) _ _ (c .before .before .before .before .word-at .result) (inside (c .before .before .before .before .before)) (c .before .before .before .before .word-at .ensures .0) (c .before .before .before .kind-of .result) (c .before .before .before .kind-of .ensures) (c .before .before .if2 .left) (c .before .j-of .result) (c .before .j-of .ensures) (c .if3 .taken)
+returns-3 c = word-field _ (c .before .before .before .before .before .before .before .before .args .kind) _ _ (inside (c .before .before .before .before .before)) (c .before .before .before .before .word-at .ensures .0) (c .before .before .before .kind-of .ensures) (c .before .before .if2 .left) (c .before .j-of .ensures) (c .if3 .taken)
 
 returns-4 : tie.Need-returns-4
-returns-4 c = word-rest _ (c .before .before .before .before .before .before .before .before .before .args .kind) _ _ (c .before .before .before .before .before .word-at .result) (inside (c .before .before .before .before .before .before)) (c .before .before .before .before .before .word-at .ensures .0) (c .before .before .before .before .kind-of .result) (c .before .before .before .before .kind-of .ensures) (c .before .before .before .if2 .left) (c .before .before .j-of .result) (c .before .before .j-of .ensures) (c .before .if3 .left) (c .rest-of .result) (c .rest-of .ensures)
+returns-4 c = word-rest _ (c .before .before .before .before .before .before .before .before .before .args .kind) _ _ (inside (c .before .before .before .before .before .before)) (c .before .before .before .before .before .word-at .ensures .0) (c .before .before .before .before .kind-of .ensures) (c .before .before .before .if2 .left) (c .before .before .j-of .ensures) (c .before .if3 .left) (c .rest-of .ensures)
 
 pub is-word-spec : {M : Type 1} → statement M
 is-word-spec =
@@ -34,7 +31,7 @@ is-word-spec =
     (tie.spec
     (λ c κs. tt)
     returns
-    word-at-requires
+    (λ c κs. leb-true _ _ (inside c))
     (λ c κs. tt)
     returns-2
     (λ c κs. tt)

@@ -6,11 +6,15 @@ use borrow.Author.Needs.{needs}
 use Rattle.strip.proofs.lists.store_float.Statement.{statement}
 use Rattle.strip.proofs.lists.store_float.Tie as tie
 
-returns-2 : tie.Need-returns-2
-returns-2 c = sym (set-out _ _ _ (omega arith))
-
-returns-3 : tie.Need-returns-3
-returns-3 c = sym (set-out _ _ _ (omega arith))
-
 pub store-float-spec : {M : Type 1} → statement M
-store-float-spec = tie.close (tie.spec (λ c. search needs) (λ c. search needs) (λ c. search needs) (λ c. search needs) (λ c. search needs) (λ c. search needs) returns-2 returns-3)
+store-float-spec =
+    tie.close
+    (tie.spec
+    (λ c. search needs)
+    (λ c. search needs)
+    (λ c. search needs)
+    (λ c. search needs)
+    (λ c. search needs)
+    (λ c. search needs)
+    (λ c. sym (set-out _ _ _ (omega arith)))
+    (λ c. sym (set-out _ _ _ (omega arith))))

@@ -13,6 +13,7 @@ use Rattle.strip.proofs.RunLaws.{Walked, walk-starts, walk-turn, walk-e
 use Rattle.strip.proofs.run.walk.Statement.{statement}
 use Rattle.strip.proofs.run.walk.Tie as tie
 
+-- t14 holds the literal that a broken record is told with
 abbrev Inv-loop : tie.InvT-loop
 Inv-loop s values₀ cells₀ marks₀ out₀ h₀ at₀ pos₀ t14 values cells marks out h at pos =
     (at ≤ length s) × (pos ≤ 10 * at) × (length values ≡ length values₀) × (length cells ≡ length cells₀) × (length marks ≡ length marks₀) × (length out ≡ length out₀)
@@ -21,49 +22,55 @@ Inv-loop s values₀ cells₀ marks₀ out₀ h₀ at₀ pos₀ t14 values cells
 abbrev μ-loop : tie.MeasureT-loop
 μ-loop s values₀ cells₀ marks₀ out₀ h₀ at₀ pos₀ t14 values cells marks out h at pos = length s - at
 
+-- ---- places: the start of the turn, and the test of the strip's length
+
+abbrev turn : tie.After-read-at Inv-loop μ-loop → tie.At-loop Inv-loop μ-loop
+turn c = c .before
+
+abbrev short : tie.After-read-at Inv-loop μ-loop → tie.Else1 Inv-loop μ-loop
+short c = c .before .before
+
 returns : tie.Need-returns Inv-loop μ-loop
-returns c = (walked-long _ _ _ (c .before .before .before .before .before .if1 .taken) (c .before .before .put .ensures), omega (arith, c .before .before .put .ensures .long))
-
-loop-holds : tie.Need-loop-holds Inv-loop μ-loop
-loop-holds c = (omega arith, omega arith, refl, refl, refl, refl, refl, walk-starts _ _ _ _)
-
-same-length-2 : tie.Need-same-length-2 Inv-loop μ-loop
-same-length-2 c = c .before .before .before .loop .inv .2
-
-same-length-3 : tie.Need-same-length-3 Inv-loop μ-loop
-same-length-3 c = c .before .before .before .loop .inv .3
-
-same-length-4 : tie.Need-same-length-4 Inv-loop μ-loop
-same-length-4 c = c .before .before .before .loop .inv .4
-
-same-length-5 : tie.Need-same-length-5 Inv-loop μ-loop
-same-length-5 c = c .before .before .before .loop .inv .5
+returns c = let p = c .before .before .put .ensures in (walked-long _ _ _ (c .before .before .before .before .before .if1 .taken) p, omega (arith, p .long))
 
 returns-2 : tie.Need-returns-2 Inv-loop μ-loop
 returns-2 c =
-    let l = c .before .before .before .loop in
-    (walked-short _ _ _ (c .before .before .before .before .if1 .left) (walk-ends _ _ _ (l .at) _ _ _ _ (l .inv .7) (read-done _ _ (sym (c .before .before .read-at .ensures) ∙ c .enum-told .given .1))), omega (arith, l .inv .0, l .inv .1, c .before .before .before .before .if1 .left))
+    let r = c .before .before in
+    let l = turn r .loop in
+    let n = short r .if1 .left in
+    (walked-short _ _ _ n (walk-ends (l .inv .7) (read-done _ _ (sym (r .read-at .ensures) ∙ c .enum-told .given .1))), omega (arith, l .inv .0, l .inv .1, n))
 
 add-result : tie.Need-add-result Inv-loop μ-loop
-add-result c = omega (arith, c .before .before .before .before .before .before .before .before .loop .inv .0, c .before .before .before .before .before .before .before .before .loop .inv .1, c .before .before .before .before .before .before .before .before .before .if1 .left, c .before .before .put2 .ensures .long)
+add-result c =
+    let r = c .before .before .before .before .before .before .before in
+    let l = turn r .loop in
+    omega (arith, l .inv .0, l .inv .1, short r .if1 .left, c .before .before .put2 .ensures .long)
 
 returns-3 : tie.Need-returns-3 Inv-loop μ-loop
 returns-3 c =
-    let l = c .before .before .before .before .before .before .before .before .loop in
-    (walked-short _ _ _ (c .before .before .before .before .before .before .before .before .before .if1 .left) (walk-breaks _ _ _ (l .at) _ _ _ _ (l .inv .7) (sym (c .before .before .before .before .before .before .before .read-at .ensures) ∙ c .before .before .before .before .before .enum-told2 .given .1) _ _ (c .before .before .put2 .ensures)), omega (arith, l .inv .0, l .inv .1, c .before .before .before .before .before .before .before .before .before .if1 .left, c .before .before .put2 .ensures .long))
+    let r = c .before .before .before .before .before .before .before in
+    let l = turn r .loop in
+    let n = short r .if1 .left in
+    let p = c .before .before .put2 .ensures in
+    (walked-short _ _ _ n (walk-breaks (l .inv .7) (sym (r .read-at .ensures) ∙ c .before .before .before .before .before .enum-told2 .given .1) p), omega (arith, l .inv .0, l .inv .1, n, p .long))
 
 add-pos : tie.Need-add-pos Inv-loop μ-loop
-add-pos c = omega (arith, c .before .before .before .before .before .before .before .before .before .before .before .before .before .before .before .before .before .before .loop .inv .0, c .before .before .before .before .before .before .before .before .before .before .before .before .before .before .before .before .before .before .loop .inv .1, c .before .before .before .before .before .before .before .before .before .before .before .before .before .before .before .before .before .before .before .if1 .left, c .before .before .put-answer .ensures .1)
+add-pos c =
+    let r = c .before .before .before .before .before .before .before .before .before .before .before .before .before .before .before .before .before in
+    let l = turn r .loop in
+    omega (arith, l .inv .0, l .inv .1, short r .if1 .left, c .before .before .put-answer .ensures .1)
 
 loop-less : tie.Need-loop-less Inv-loop μ-loop
 loop-less c =
-    let f = found _ (c .before .before .before .before .before .before .before .before .before .before .before .before .before .before .before .before .before .before .before .loop .at) _ (sym (c .before .before .before .before .before .before .before .before .before .before .before .before .before .before .before .before .before .before .read-at .ensures) ∙ c .before .before .before .before .before .before .before .before .before .before .before .before .before .before .before .before .r .given .1) in
+    let r = c .before .before .before .before .before .before .before .before .before .before .before .before .before .before .before .before .before .before in
+    let f = found _ (turn r .loop .at) _ (sym (r .read-at .ensures) ∙ c .before .before .before .before .before .before .before .before .before .before .before .before .before .before .before .before .r .given .1) in
     omega (arith, f .body, f .floats, f .next)
 
 loop-again : tie.Need-loop-again Inv-loop μ-loop
 loop-again c =
-    let l = c .before .before .before .before .before .before .before .before .before .before .before .before .before .before .before .before .before .before .before .loop in
-    let e = sym (c .before .before .before .before .before .before .before .before .before .before .before .before .before .before .before .before .before .before .read-at .ensures) ∙ c .before .before .before .before .before .before .before .before .before .before .before .before .before .before .before .before .r .given .1 in
+    let r = c .before .before .before .before .before .before .before .before .before .before .before .before .before .before .before .before .before .before in
+    let l = turn r .loop in
+    let e = sym (r .read-at .ensures) ∙ c .before .before .before .before .before .before .before .before .before .before .before .before .before .before .before .before .r .given .1 in
     let f = found _ (l .at) _ e in
     let m = c .before .before .before .before .before .before .before .before .before .before .before .make in
     let p = c .before .before .before .put-answer in (
@@ -74,7 +81,7 @@ loop-again c =
       m .kept .1 .1 .1 .1 .0 ∙ l .inv .4,
       p .kept .0 ∙ l .inv .5,
       refl,
-      walk-turn _ _ _ (l .at) _ _ _ _ (l .inv .7) _ e _ (found-call _ (l .at) _ _ _ _ (c .before .before .before .before .before .before .before .before .before .before .before .before .before .before .before .before .before .before .before .before .if1 .left) e (m .ensures)) _ _ (p .ensures .0),
+      walk-turn (l .inv .7) e (found-call _ (l .at) _ _ _ (short r .if1 .left) e (m .ensures)) (p .ensures .0),
     )
 
 pub walk-spec : {M : Type 1} → statement M
@@ -87,13 +94,13 @@ walk-spec =
     (λ c κs. tt)
     (λ c. search needs)
     returns
-    loop-holds
+    (λ c. (omega arith, omega arith, refl, refl, refl, refl, refl, walk-starts _ _ _ _))
     (λ c κs. tt)
     (λ c. search needs)
-    same-length-2
-    same-length-3
-    same-length-4
-    same-length-5
+    (λ c. turn (c .before .before) .loop .inv .2)
+    (λ c. turn (c .before .before) .loop .inv .3)
+    (λ c. turn (c .before .before) .loop .inv .4)
+    (λ c. turn (c .before .before) .loop .inv .5)
     returns-2
     (λ c. search needs)
     (λ c. search needs)

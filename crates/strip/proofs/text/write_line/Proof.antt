@@ -5,29 +5,62 @@ use Rattle.strip.proofs.TextLaws.{line-done, line-refused, line-value}
 use Rattle.strip.proofs.text.write_line.Statement.{statement}
 use Rattle.strip.proofs.text.write_line.Tie as tie
 
+-- ---- places: what stands before a part of the line
+
+abbrev word : tie.After-put-number → tie.After-put2
+word c = c .before .before .before .before
+
+abbrev number : tie.After-put3 → tie.After-put-number
+number c = c .before .before .before .before .before
+
+abbrev value : tie.After-put4 → tie.After-put-value
+value c = c .before .before .before .before .before
+
+abbrev blank : tie.After-put-number2 → tie.After-put4
+blank c = c .before .before .before .before
+
+abbrev count : tie.After-put5 → tie.After-put-number2
+count c = c .before .before .before .before .before
+
 add-q : tie.Need-add-q
-add-q c = omega (arith, c .before .before .before .before .before .before .put2 .ensures .long, c .before .before .put-number .ensures .1)
+add-q c = let n = c .before .before in omega (arith, word n .put2 .ensures .long, n .put-number .ensures .1)
 
 add-result : tie.Need-add-result
-add-result c = omega (arith, c .before .before .before .before .before .before .before .before .before .before .before .put2 .ensures .long, c .before .before .before .before .before .before .before .put-number .ensures .1, c .before .before .put3 .ensures .long)
+add-result c =
+    let e = c .before .before in
+    let n = number e in
+    omega (arith, word n .put2 .ensures .long, n .put-number .ensures .1, e .put3 .ensures .long)
 
 add-q-2 : tie.Need-add-q-2
-add-q-2 c = omega (arith, c .before .before .before .before .before .before .before .put-value .ensures .1, c .before .before .put4 .ensures .long)
+add-q-2 c = let b = c .before .before in omega (arith, value b .put-value .ensures .1, b .put4 .ensures .long)
 
 add-e : tie.Need-add-e
-add-e c = omega (arith, c .before .before .before .before .before .before .before .before .before .before .before .put-value .ensures .1, c .before .before .before .before .before .before .put4 .ensures .long, c .before .before .put-number2 .ensures .1)
+add-e c =
+    let n = c .before .before in
+    let b = blank n in
+    omega (arith, value b .put-value .ensures .1, b .put4 .ensures .long, n .put-number2 .ensures .1)
 
 add-result-2 : tie.Need-add-result-2
-add-result-2 c = omega (arith, c .before .before .before .before .before .before .before .before .before .before .before .before .before .before .before .before .put-value .ensures .1, c .before .before .before .before .before .before .before .before .before .before .before .put4 .ensures .long, c .before .before .before .before .before .before .before .put-number2 .ensures .1, c .before .before .put5 .ensures .long)
-
-returns : tie.Need-returns
-returns c = line-done (c .before .before .before .before .before .enum-told .given .1) (c .before .before .put .ensures)
+add-result-2 c =
+    let e = c .before .before in
+    let n = count e in
+    let b = blank n in
+    omega (arith, value b .put-value .ensures .1, b .put4 .ensures .long, n .put-number2 .ensures .1, e .put5 .ensures .long)
 
 returns-2 : tie.Need-returns-2
-returns-2 c = line-refused _ (c .before .before .before .before .before .before .before .before .before .before .before .before .before .before .before .a .given .1) (c .before .before .before .before .before .before .before .before .before .before .before .put2 .ensures) (c .before .before .before .before .before .before .before .put-number .ensures) (c .before .before .put3 .ensures)
+returns-2 c =
+    let e = c .before .before in
+    let n = number e in
+    let w = word n in
+    line-refused _ (w .before .before .before .before .a .given .1) (w .put2 .ensures) (n .put-number .ensures) (e .put3 .ensures)
 
 returns-3 : tie.Need-returns-3
-returns-3 c = line-value _ _ (c .before .before .before .before .before .before .before .before .before .before .before .before .before .before .before .before .before .before .before .a2 .given .1) (c .before .before .before .before .before .before .before .before .before .before .before .before .before .before .before .before .put-value .ensures) (c .before .before .before .before .before .before .before .before .before .before .before .put4 .ensures) (c .before .before .before .before .before .before .before .put-number2 .ensures) (c .before .before .put5 .ensures)
+returns-3 c =
+    let e = c .before .before in
+    let n = count e in
+    let b = blank n in
+    let v = value b in
+    line-value _ _ (v .before .before .before .a2 .given .1) (v .put-value .ensures) (b .put4 .ensures) (n .put-number2 .ensures) (e .put5 .ensures)
 
 pub write-line-spec : {M : Type 1} → statement M
 write-line-spec =
@@ -56,7 +89,7 @@ write-line-spec =
     (λ c κs. tt)
     add-result-2
     (λ c. search needs)
-    returns
+    (λ c. line-done (c .before .before .before .before .before .enum-told .given .1) (c .before .before .put .ensures))
     (λ c. search needs)
     returns-2
     (λ c. search needs)
