@@ -17,9 +17,10 @@ use Rattle.models.specs.declared.answers.Quantity.{Quantity}
 use Rattle.mixture.specs.declared.head.Head.{Head}
 use Rattle.mixture.specs.declared.head.Model.{Model}
 use Rattle.mixture.specs.declared.setting.Setting.{Setting}
-use Rattle.mixture.specs.declared.setting.Setting.the-variants.{Temperature, Entry, TdEntry}
+use Rattle.mixture.specs.declared.setting.Setting.the-variants.{Temperature, Entry, TdEntry, Size, Count}
 use Rattle.mixture.specs.declared.answers.Answer.the-variants.{Refused}
 use Rattle.mixture.specs.Memory.{Memory, After, after}
+use Rattle.mixture.specs.Layout.{modelOf}
 use Rattle.mixture.specs.Book.{Call, Load}
 use Rattle.mixture.specs.Calls.{afterLoad, afterSetting, afterFractions, afterQuery}
 use Rattle.mixture.specs.History.{afterCall}
@@ -28,8 +29,8 @@ use Rattle.strip.specs.declared.records.Rec.{Rec}
 use Rattle.strip.specs.declared.records.Read.the-variants.{Record}
 use Rattle.strip.specs.Words.{mostBytes}
 use Rattle.strip.specs.Records.{readAt}
-use Rattle.strip.specs.Calls.{floatsOf, listsOf, modelOf, dataOf, settingOf, quantityOf, callOf}
-use Rattle.strip.specs.Inner.{Stored, fits, settingBy, made}
+use Rattle.strip.specs.Calls.{floatsOf, listsOf, dataOf, settingOf, quantityOf, callOf}
+use Rattle.strip.specs.Inner.{Stored, fits, made}
 use Rattle.arithmetic.proofs.ByteLaws.{floats-at}
 use Rattle.strip.proofs.TextLaws.{sets-whole, put-whole}
 use Rattle.strip.proofs.ListLaws.{lists-few}
@@ -90,14 +91,9 @@ load-is {s} {r} w m h {met = met} {ls} {gs} {ls′} {gs′} {a} e q t l g =
 -- ---- a setting
 
 -- the first float, and a td entry's five
-first-is : (s : List ℕ) (p n : ℕ) (l : List Float) → take n l ≡ floatsAt s p n → 1 ≤ n → at l 0 ≡ floatAt s p
-first-is s p n l e h =
-    let z : p + 8 * 0 ≡ p = omega arith in
-    sym (getD-take n l 0 nan h) ∙ ap (λ (z : List Float). at z 0) e ∙ floats-at s p n 0 h ∙ ap (floatAt s) z
-
-five-first : (l : List Float) → fiveAt l 0 .a ≡ at l 0
+first-is : (n : ℕ) (l : List Float) → 0 < n → fiveAt l 0 .a ≡ fiveAt (take n l) 0 .a
 unfolding fiveAt
-five-first l = refl
+first-is n l h = rw (getD-take n l 0 nan h)
 
 five-is : (n : ℕ) (l : List Float) → 5 ≤ n → fiveAt l 0 ≡ fiveAt (take n l) 0
 unfolding fiveAt
@@ -107,17 +103,17 @@ arm : (t : Bool) (a b c : Setting) → (t ≡ true → a ≡ b) → cond t a c �
 arm true a b c e = e refl
 arm false a b c e = refl
 
-by-floats : (s : List ℕ) (r : Rec) (f : TdParam) → f .a ≡ floatAt s (r .body) → (r .kind ≡ 8 → f ≡ fiveAt (floatsOf s r) 0) → settingBy (r .kind) (r .i) (r .j) f ≡ settingOf s r
-unfolding settingBy settingOf
-by-floats s r f x y =
-    rw (← x)
-    (ap (λ (z : Setting). cond (eqb (r .kind) 5) (Temperature (f .a)) (cond (eqb (r .kind) 7) (Entry (r .i) (r .j) (f .a)) z))
-    (arm (eqb (r .kind) 8) _ _ _ (λ t. ap (TdEntry (r .i) (r .j)) (y (eqb-true (r .kind) 8 t)))))
+-- a setting looks at its first float, a td entry at all five
+same-setting : (kind i j : ℕ) {f g : TdParam} → f .a ≡ g .a → (kind ≡ 8 → f ≡ g) → settingOf kind i j f ≡ settingOf kind i j g
+unfolding settingOf
+same-setting kind i j {f} {g} first five =
+    ap (λ (a : Float). cond (eqb kind 5) (Temperature a) (cond (eqb kind 7) (Entry i j a) (cond (eqb kind 8) (TdEntry i j f) (cond (eqb kind 9) (Size i j a) (Count i j a))))) first
+    ∙ ap (λ (z : Setting). cond (eqb kind 5) (Temperature (g .a)) (cond (eqb kind 7) (Entry i j (g .a)) z)) (arm (eqb kind 8) _ _ _ (λ t. ap (TdEntry i j) (five (eqb-true kind 8 t))))
 
 setting-is : {s : List ℕ} {r : Rec} (l : List Float) → Fitting s r → 5 ≤ r .kind → (r .kind ≡ 6 → ⊥) → (r .kind ≡ 11 → ⊥) → take (r .floats) l ≡ floatsOf s r
-    → settingBy (r .kind) (r .i) (r .j) (fiveAt l 0) ≡ settingOf s r
+    → settingOf (r .kind) (r .i) (r .j) (fiveAt l 0) ≡ settingOf (r .kind) (r .i) (r .j) (fiveAt (floatsOf s r) 0)
 setting-is {s} {r} l w a b c e =
-    by-floats s r (fiveAt l 0) (five-first l ∙ first-is s (r .body) (r .floats) l e (w .sized .some a b c refl))
+    same-setting (r .kind) (r .i) (r .j) (first-is (r .floats) l (w .sized .some a b c refl) ∙ ap (λ (z : List Float). fiveAt z 0 .a) e)
     (λ k. five-is (r .floats) l (w .sized .five k refl) ∙ ap (λ (z : List Float). fiveAt z 0) e)
 
 -- ---- the call, by its kind
@@ -136,6 +132,6 @@ module _ {s : List ℕ} {r : Rec} (w : Fitting s r) (m : Memory) (h : Head) {x :
   by-query a b e f = made-call w m h (callOf s r) (rw (le-ltb (r .kind) 5 l, ne-eqb (r .kind) 6 a, eq-eqb (r .kind) 11 b, ← f) e)
 
   pub by-setting : (g : List Float) {q : Setting} {p : TdParam} → (r .kind ≡ 6 → ⊥) → (r .kind ≡ 11 → ⊥) → x ≡ afterSetting m h q
-      → q ≡ settingBy (r .kind) (r .i) (r .j) p → p ≡ fiveAt g 0 → take (r .floats) g ≡ floatsOf s r → x ≡ made s r m h (callOf s r)
+      → q ≡ settingOf (r .kind) (r .i) (r .j) p → p ≡ fiveAt g 0 → take (r .floats) g ≡ floatsOf s r → x ≡ made s r m h (callOf s r)
   unfolding callOf afterCall
   by-setting g a b e f t k = made-call w m h (callOf s r) (rw (le-ltb (r .kind) 5 l, ne-eqb (r .kind) 6 a, ne-eqb (r .kind) 11 b, ← setting-is g w l a b k, ← t, ← f) e)

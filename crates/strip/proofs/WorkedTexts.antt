@@ -9,7 +9,8 @@ use Rattle.mixture.specs.Faults.{dataFault}
 use Rattle.mixture.specs.Book.{empty, having, bookAnswer, bookAnswers}
 use Rattle.strip.specs.Lists.{isWord, pairsAt, listsAt}
 use Rattle.strip.specs.Records.{shapeOf, recordBy, readAt}
-use Rattle.strip.specs.Calls.{modelOf, quantityOf, callOf}
+use Rattle.mixture.specs.Layout.{modelOf}
+use Rattle.strip.specs.Calls.{quantityOf, callOf}
 use Rattle.strip.specs.Text.{ascii, placesTo, decimal, line}
 use Rattle.strip.specs.Run.{scriptFrom, scriptOf, lines, transcript}
 

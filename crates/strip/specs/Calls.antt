@@ -4,15 +4,15 @@ use mathlib.Core.Bool.{cond}
 use mathlib.Core.List.{List, _++_}
 use lib.Dec.{ltb, eqb}
 use lib.Ieee.{Float}
-use Rattle.arithmetic.specs.Bytes.{floatAt, floatsAt}
+use Rattle.arithmetic.specs.Bytes.{floatsAt}
+use Rattle.arithmetic.specs.declared.parameters.TdParam.{TdParam}
 use Rattle.models.specs.Values.{fiveAt}
 use Rattle.models.specs.declared.answers.Quantity.{Quantity}
 use Rattle.models.specs.declared.answers.Quantity.the-variants.{LnGamma, Gamma, ExcessGibbs}
-use Rattle.mixture.specs.declared.head.Model.{Model}
-use Rattle.mixture.specs.declared.head.Model.the-variants.{Wilson, Uniquac, Nrtl, Unifac}
 use Rattle.mixture.specs.declared.setting.Setting.{Setting}
 use Rattle.mixture.specs.declared.setting.Setting.the-variants.{Temperature, Entry, TdEntry, Size, Count}
 use Rattle.mixture.specs.Names.{ModelData}
+use Rattle.mixture.specs.Layout.{modelOf}
 use Rattle.mixture.specs.Book.{Call, Load, Set, Fractions, Query}
 use Rattle.strip.specs.declared.records.Rec.{Rec}
 use Rattle.strip.specs.Lists.{Lists, listsAt}
@@ -23,11 +23,7 @@ floatsOf s r = floatsAt s (r .body) (r .floats)
 abbrev pub listsOf : List ℕ → Rec → Lists
 listsOf s r = listsAt s (r .lists) (r .body + 8 * r .floats)
 
--- kinds 1 to 4
-unfoldable pub modelOf : ℕ → Model
-modelOf kind = cond (eqb kind 1) Wilson (cond (eqb kind 2) Uniquac (cond (eqb kind 3) Nrtl Unifac))
-
--- the tables, and then the counts
+-- kinds 1 to 4: the tables, and then the counts
 abbrev pub dataOf : List ℕ → Rec → ModelData
 dataOf s r =
     record {
@@ -39,14 +35,14 @@ dataOf s r =
       values = floatsOf s r ++ listsOf s r .counts;
     }
 
--- kinds 5 and 7 to 10
-unfoldable pub settingOf : List ℕ → Rec → Setting
-settingOf s r =
-    cond (eqb (r .kind) 5) (Temperature (floatAt s (r .body)))
-    (cond (eqb (r .kind) 7) (Entry (r .i) (r .j) (floatAt s (r .body)))
-    (cond (eqb (r .kind) 8) (TdEntry (r .i) (r .j) (fiveAt (floatsOf s r) 0))
-    (cond (eqb (r .kind) 9) (Size (r .i) (r .j) (floatAt s (r .body)))
-    (Count (r .i) (r .j) (floatAt s (r .body))))))
+-- kinds 5 and 7 to 10, by the record's first floats: a td entry takes five, another setting one
+unfoldable pub settingOf : ℕ → ℕ → ℕ → TdParam → Setting
+settingOf kind i j five =
+    cond (eqb kind 5) (Temperature (five .a))
+    (cond (eqb kind 7) (Entry i j (five .a))
+    (cond (eqb kind 8) (TdEntry i j five)
+    (cond (eqb kind 9) (Size i j (five .a))
+    (Count i j (five .a)))))
 
 -- j = 0 ln γ of i, 1 γ of i, 2 the excess energy
 unfoldable pub quantityOf : ℕ → ℕ → Quantity
@@ -57,4 +53,4 @@ callOf s r =
     cond (ltb (r .kind) 5) (Load (dataOf s r))
     (cond (eqb (r .kind) 6) (Fractions (floatsOf s r))
     (cond (eqb (r .kind) 11) (Query (quantityOf (r .i) (r .j)))
-    (Set (settingOf s r))))
+    (Set (settingOf (r .kind) (r .i) (r .j) (fiveAt (floatsOf s r) 0)))))

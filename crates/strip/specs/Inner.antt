@@ -7,11 +7,8 @@ use lib.Dec.{leb, ltb, eqb}
 use lib.ListN.{length}
 use lib.Seq.{sets}
 use lib.Ieee.{Float}
-use Rattle.arithmetic.specs.declared.parameters.TdParam.{TdParam}
 use Rattle.mixture.specs.declared.answers.Answer.the-variants.{Refused}
 use Rattle.mixture.specs.declared.head.Head.{Head}
-use Rattle.mixture.specs.declared.setting.Setting.{Setting}
-use Rattle.mixture.specs.declared.setting.Setting.the-variants.{Temperature, Entry, TdEntry, Size, Count}
 use Rattle.mixture.specs.Memory.{Memory, After, after}
 use Rattle.mixture.specs.Book.{Call}
 use Rattle.mixture.specs.History.{afterCall, answers}
@@ -32,15 +29,6 @@ pub record Stored (l : Lists) (k : ℕ) (met : Met) (ls gs : List ℕ) (a : List
   pub lengths : ls′ ≡ sets ls 0 (l .lens)
   pub members : gs′ ≡ sets gs 0 (l .groups)
   pub numbers : a′ ≡ sets a k (l .counts)
-
--- the setting of a kind, by its first floats
-unfoldable pub settingBy : ℕ → ℕ → ℕ → TdParam → Setting
-settingBy kind i j five =
-    cond (eqb kind 5) (Temperature (five .a))
-    (cond (eqb kind 7) (Entry i j (five .a))
-    (cond (eqb kind 8) (TdEntry i j five)
-    (cond (eqb kind 9) (Size i j (five .a))
-    (Count i j (five .a)))))
 
 -- the record has the floats and lists of shape k, and its floats lie within the strip
 abbrev pub fitsBy : List ℕ → Rec → Shape → Bool

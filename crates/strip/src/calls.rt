@@ -2,8 +2,9 @@
 ghost use mathlib.Core.Path.{_≡_};
 ghost use Rattle.mixture.specs.Memory.{memory, after};
 ghost use Rattle.mixture.specs.Book.{Load};
-ghost use Rattle.strip.specs.Calls.{modelOf, dataOf, quantityOf, callOf};
-ghost use Rattle.strip.specs.Inner.{settingBy, made};
+ghost use Rattle.mixture.specs.Layout.{modelOf};
+ghost use Rattle.strip.specs.Calls.{dataOf, settingOf, quantityOf, callOf};
+ghost use Rattle.strip.specs.Inner.{made};
 use crate::lists::fill_lists;
 use crate::records::Rec;
 use crate::records::does_fit;
@@ -31,7 +32,7 @@ fn model_of(kind: usize) -> Model
 
 // The setting of a kind, by its first floats: a td entry takes five, another setting one.
 fn setting_of(kind: usize, i: usize, j: usize, five: TdParam) -> Setting
-    ensures { λ q. ⌜ q ≡ settingBy kind i j five ⌝ }
+    ensures { λ q. ⌜ q ≡ settingOf kind i j five ⌝ }
 {
     match kind {
         5 => Setting::Temperature(five.a),

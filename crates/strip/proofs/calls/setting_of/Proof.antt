@@ -1,11 +1,11 @@
 -- The setting of a kind, by its first floats: each kind in turn is the definition's.
 use borrow.Author.Tests.{ne-eqb}
-use Rattle.strip.specs.Inner.{settingBy}
+use Rattle.strip.specs.Calls.{settingOf}
 use Rattle.strip.proofs.calls.setting_of.Statement.{statement}
 use Rattle.strip.proofs.calls.setting_of.Tie as tie
 
 pub setting-of-spec : {M : Type 1} → statement M
-unfolding settingBy
+unfolding settingOf
 setting-of-spec =
     tie.close
     (tie.spec
