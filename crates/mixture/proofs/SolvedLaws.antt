@@ -3,7 +3,7 @@ use mathlib.Core.Path.{_≡_, refl, sym, ap, _∙_}
 use mathlib.Core.Bool.{Bool}
 use mathlib.Core.List.{List}
 use Prim.Native.Nat.{ℕ, zero, suc, _+_, _*_, _-_, _/_, _%_, _<_, _≤_}
-use native.Mathlib.Nat.{mod-lt, div-lt-iff-lt-mul, mul-assoc, mul-le-mul, mul-le-mul-right}
+use native.Mathlib.Nat.{mod-lt, div-lt-iff-lt-mul, mul-assoc, mul-le-mul}
 use native.Mathlib.Omega.{arith}
 use borrow.Author.Tests.{ltb-true}
 use lib.Dec.{ltb}
@@ -31,16 +31,26 @@ use Rattle.mixture.specs.declared.head.Model.the-variants.{Wilson, Uniqu
 use Rattle.mixture.specs.Memory.{leastValues, leastCells, leastMarks}
 use Rattle.mixture.specs.Refills.{rowCell, staleCell, Refilled, Solved}
 use Rattle.mixture.proofs.PlaceLaws.{both}
-use Rattle.mixture.proofs.RefillLaws.{among, written-same}
+use Rattle.mixture.proofs.RefillLaws.{among, written-same, last-row}
 
--- a table of n·n energies, n few, is within memory of the least lengths, and so are its cells and marks
-pub energies-within : (n lv lc lm : ℕ) → n ≤ 12 → leastValues ≤ lv → leastCells ≤ lc → leastMarks ≤ lm
-    → (n ≤ 32) × ((n - 1) * n + n * 5 ≤ lv) × ((n - 1) * n + n ≤ lv) × (n * n ≤ lc) × (n * n ≤ lm)
+-- ---- room
+
+-- what n components, at most 12, need of memory of the least lengths: a table of n·n, whose last row ends within it
+pub record Room (n lv lc lm : ℕ) : Type 0 where
+  pub few : n ≤ 12
+  pub square : n * n ≤ 144
+  pub last : (n - 1) * n + n ≤ n * n
+  pub values : 5328 ≤ lv
+  pub cells : 1024 ≤ lc
+  pub marks : 1024 ≤ lm
+
+pub few-room : {n lv lc lm : ℕ} → n ≤ 12 → leastValues ≤ lv → leastCells ≤ lc → leastMarks ≤ lm → Room n lv lc lm
 unfolding leastValues leastCells leastMarks
-energies-within n lv lc lm few v c m =
-    let s : n * n ≤ 144 = mul-le-mul few few in
-    let r : (n - 1) * n ≤ n * n = mul-le-mul-right n (omega arith) in
-    (omega arith, omega arith, omega arith, omega arith, omega arith)
+few-room {n} few v c m = record { few = few; square = mul-le-mul few few; last = last-row n; values = v; cells = c; marks = m }
+
+-- the table of energies as a refill asks for it, with its cells and marks
+pub energies-lent : {n lv lc lm : ℕ} → Room n lv lc lm → (n ≤ 32) × ((n - 1) * n + n * 5 ≤ lv) × ((n - 1) * n + n ≤ lv) × (n * n ≤ lc) × (n * n ≤ lm)
+energies-lent r = (omega arith, omega arith, omega arith, omega arith, omega arith)
 
 -- ---- equal entries
 
