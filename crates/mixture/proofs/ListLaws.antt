@@ -2,7 +2,7 @@
 use mathlib.Core.Path.{_≡_, refl, ap}
 use mathlib.Core.Bool.{Bool, true, false, _||_, cond}
 use mathlib.Core.List.{List, [], _∷_, _++_}
-use Prim.Native.Nat.{ℕ, zero, suc, _+_, _*_, _<_}
+use Prim.Native.Nat.{ℕ, zero, suc, _+_, _*_, _<_, _≤_}
 use native.Mathlib.Nat.{add-zero, add-suc, suc-mul, zero-mul, add-assoc}
 use native.Mathlib.Omega.{arith}
 use lib.ListN.{length, getD, replicate}
@@ -52,6 +52,15 @@ getD-past m z (a ∷ l) zero = refl
 getD-past m z (a ∷ l) (suc c) = getD-past m z l c
 
 -- ---- counts
+
+pub howMany-le : (n : ℕ) (p : ℕ → Bool) → howMany n p ≤ n
+unfolding howMany
+howMany-le zero p = omega arith
+howMany-le (suc n) p = omega (arith, howMany-le n p, one-le (p n))
+  where
+    one-le : (t : Bool) → cond t 1 0 ≤ 1
+    one-le true = omega arith
+    one-le false = omega arith
 
 pub howMany-same : (n : ℕ) (p q : ℕ → Bool) → ((k : ℕ) → k < n → p k ≡ q k) → howMany n p ≡ howMany n q
 unfolding howMany

@@ -21,7 +21,7 @@ use Rattle.mixture.specs.declared.head.Model.the-variants.{Wilson, Uniqu
 use Rattle.mixture.specs.Names.{byModel}
 use Rattle.mixture.specs.Lists.{written, howMany}
 use Rattle.mixture.specs.Refills.{rowCell, staleCell, Refilled}
-use Rattle.mixture.proofs.ListLaws.{never, length-written, getD-written, getD-kept, howMany-add, howMany-same}
+use Rattle.mixture.proofs.ListLaws.{never, length-written, getD-written, getD-kept, howMany-le, howMany-add, howMany-same}
 
 -- ---- a writable part, back
 
@@ -84,15 +84,6 @@ module _ {A : Type 0} (p : ℕ → Bool) (f : ℕ → A) (l : List A) (j : ℕ) 
           getD-set-other (written (among j p) f l) j c v z ne
           ∙ (getD-written (among j p) f l c z k ∙ (ap (λ (t : Bool). cond t (f c) (getD l c z)) (among-other j p c en) ∙ sym (getD-written (among (j + 1) p) f l c z k)))
 
-one-le : (t : Bool) → cond t 1 0 ≤ 1
-one-le true = omega arith
-one-le false = omega arith
-
-howMany-le : (n : ℕ) (p : ℕ → Bool) → howMany n p ≤ n
-unfolding howMany
-howMany-le zero p = omega arith
-howMany-le (suc n) p = omega (arith, howMany-le n p, one-le (p n))
-
 -- ---- a stale cell
 
 module _ (mark i j : ℕ) where
@@ -136,10 +127,10 @@ module _ (p : ℕ → Bool) (f : ℕ → Float) (cells : List Float) (marks : Li
 
   module _ (j : ℕ) {cells′ : List Float} {marks′ : List ℕ} {r : ℕ} (now : Refilled j p f cells marks cells′ marks′ r) where
     -- the mark that the loop reads next is still the old one
-    pub refilled-mark : getD marks′ j 0 ≡ getD marks j 0
+    refilled-mark : getD marks′ j 0 ≡ getD marks j 0
     refilled-mark = rw (now .marked) (getD-kept (among j p) (λ c. 1) marks j 0 (among-past j p j (omega arith)))
 
-    pub refilled-skip : p j ≡ false → Refilled (j + 1) p f cells marks cells′ marks′ r
+    refilled-skip : p j ≡ false → Refilled (j + 1) p f cells marks cells′ marks′ r
     unfolding howMany
     refilled-skip t =
         record {
@@ -148,7 +139,7 @@ module _ (p : ℕ → Bool) (f : ℕ → Float) (cells : List Float) (marks : Li
           counted = now .counted ∙ rw (add-one j, t, add-zero);
         }
 
-    pub refilled-more : {v : Float} → p j ≡ true → j < length cells → j < length marks → v ≡ f j → Refilled (j + 1) p f cells marks (set cells′ j v) (set marks′ j 1) (r + 1)
+    refilled-more : {v : Float} → p j ≡ true → j < length cells → j < length marks → v ≡ f j → Refilled (j + 1) p f cells marks (set cells′ j v) (set marks′ j 1) (r + 1)
     unfolding howMany
     refilled-more {v} t h k e =
         record {
@@ -157,11 +148,20 @@ module _ (p : ℕ → Bool) (f : ℕ → Float) (cells : List Float) (marks : Li
           counted = rw (add-one j, t, now .counted);
         }
 
-    pub refilled-length : (length cells′ ≡ length cells) × (length marks′ ≡ length marks)
-    refilled-length = (ap length (now .worked) ∙ length-written (among j p) f cells, ap length (now .marked) ∙ length-written (among j p) (λ c. 1) marks)
+-- what a loop over places keeps: those passed are refilled, no slice is longer or shorter, and the count is within the places
+pub record Refilling (j : ℕ) (p : ℕ → Bool) (f : ℕ → Float) (cells : List Float) (marks : List ℕ) (cells′ : List Float) (marks′ : List ℕ) (r : ℕ) : Type 0 where
+  pub all : Refilled j p f cells marks cells′ marks′ r
+  pub long : (length cells′ ≡ length cells) × (length marks′ ≡ length marks)
+  pub few : r ≤ j
 
-    pub refilled-count : r ≤ j
-    refilled-count = rw (now .counted) (howMany-le j p)
+pub refilling : {j : ℕ} {p : ℕ → Bool} {f : ℕ → Float} {cells : List Float} {marks : List ℕ} {cells′ : List Float} {marks′ : List ℕ} {r : ℕ}
+    → Refilled j p f cells marks cells′ marks′ r → Refilling j p f cells marks cells′ marks′ r
+refilling {j} {p} {f} {cells} {marks} now =
+    record {
+      all = now;
+      long = (ap length (now .worked) ∙ length-written (among j p) f cells, ap length (now .marked) ∙ length-written (among j p) (λ c. 1) marks);
+      few = rw (now .counted) (howMany-le j p);
+    }
 
 -- ---- a turn of the loop over a row, which goes by what the mark says
 
@@ -240,7 +240,7 @@ module _ {A : Type 0} (s w : ℕ) (p q : ℕ → Bool) (f g : ℕ → A) (old : 
 
 module _ (k : Model) (w i : ℕ) (f : ℕ → Float) (cells : List Float) (marks : List ℕ) (hc : i * w + w ≤ length cells) (hm : i * w + w ≤ length marks) where
   -- the rows above i, and row i
-  pub refilled-row : {c ys : List Float} {l zs : List ℕ} {r s : ℕ} (g : ℕ → Float)
+  refilled-row : {c ys : List Float} {l zs : List ℕ} {r s : ℕ} (g : ℕ → Float)
       → Refilled (i * w) (λ c. staleCell k (getD marks c 0) (c / w) (c % w)) f cells marks c l r
       → Refilled w (λ j. staleCell k (getD (from (i * w) l) j 0) i j) g (from (i * w) c) (from (i * w) l) ys zs s
       → ((j : ℕ) → j < w → g j ≡ f (i * w + j))
@@ -263,7 +263,7 @@ module _ (k : Model) (w i : ℕ) (f : ℕ → Float) (cells : List Float) (marks
       ps j b = rw (cell-row w i j b, cell-column w i j b) (ap (λ (mark : ℕ). staleCell k mark i j) (lent (i * w) p (λ c. 1) marks 0 (above .marked) j (omega arith)))
 
 -- entry j of row i, by its place
-pub row-cells : (k : Model) (w stride : ℕ) (table tau : List Float) (T L : Float) (i j : ℕ) → j < w → rowCell k (from (i * stride) table) (from (i * stride) tau) T L i j
+row-cells : (k : Model) (w stride : ℕ) (table tau : List Float) (T L : Float) (i j : ℕ) → j < w → rowCell k (from (i * stride) table) (from (i * stride) tau) T L i j
     ≡ rowCell k (from ((i * w + j) / w * stride) table) (from ((i * w + j) / w * stride) tau) T L ((i * w + j) / w) ((i * w + j) % w)
 row-cells k w stride table tau T L i j b = rw (cell-row w i j b, cell-column w i j b)
 
@@ -275,18 +275,18 @@ module _ (k : Model) (w stride i : ℕ) (table tau : List Float) (T L : Float) (
   pub turn-lent : (w - 1) * stride + w * 5 ≤ length table → (w - 1) * stride + w ≤ length tau
       → (i < w) × (w * 5 ≤ length (from (i * stride) table)) × (w ≤ length (from (i * stride) tau)) × (w ≤ length (from (i * w) c)) × (w ≤ length (from (i * w) l))
   turn-lent ht hu =
-      let kept = refilled-length _ _ cells marks (i * w) above in
+      let kept = refilling above .long in
       let e : i * stride ≤ (w - 1) * stride = mul-le-mul-right stride (omega arith) in
       let d = row-end w w i b in
       (b, omega (arith, from-length (i * stride) table), omega (arith, from-length (i * stride) tau), omega (arith, from-length (i * w) c), omega (arith, from-length (i * w) l))
 
   pub turn-more : {ys : List Float} {zs : List ℕ} {s : ℕ}
       → Refilled w (λ j. staleCell k (getD (from (i * w) l) j 0) i j) (rowCell k (from (i * stride) table) (from (i * stride) tau) T L i) (from (i * w) c) (from (i * w) l) ys zs s
-      → (i + 1 ≤ w) × Refilled ((i + 1) * w) (λ c. staleCell k (getD marks c 0) (c / w) (c % w))
+      → Refilled ((i + 1) * w) (λ c. staleCell k (getD marks c 0) (c / w) (c % w))
       (λ c. rowCell k (from (c / w * stride) table) (from (c / w * stride) tau) T L (c / w) (c % w)) cells marks
       (putMid (i * w) (length c - i * w) c ys) (putMid (i * w) (length l - i * w) l zs) (r + s)
   turn-more row =
-      let d = row-end w w i b in (omega arith, refilled-row k w i _ cells marks (omega arith) (omega arith) _ above row (λ j b. row-cells k w stride table tau T L i j b))
+      let d = row-end w w i b in refilled-row k w i _ cells marks (omega arith) (omega arith) _ above row (λ j b. row-cells k w stride table tau T L i j b)
 
 -- a loop that counts i to w has all of them at its end
 pub refilled-done : (i w : ℕ) {p : ℕ → Bool} {f : ℕ → Float} {cells : List Float} {marks : List ℕ} {c : List Float} {l : List ℕ} {r : ℕ}
