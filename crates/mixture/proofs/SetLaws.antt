@@ -4,6 +4,7 @@ use mathlib.Core.Bool.{Bool, true, false, _&&_, _||_, cond, or-false, or-true, a
 use mathlib.Core.List.{List, [], _∷_}
 use Prim.Native.Nat.{ℕ, suc, _+_, _*_, _/_, _%_, _<_, _≤_}
 use native.Mathlib.Nat.{zero-add, zero-mul}
+use native.Mathlib.Numerals.{add-one, add-two, add-three, add-four}
 use native.Mathlib.Omega.{arith}
 use lib.Dec.{ltb, eqb}
 use lib.Seq.{sets}
@@ -30,7 +31,7 @@ use Rattle.mixture.specs.Layout.{modelOf, dataIn, place, numbers, cellAt
 use Rattle.mixture.specs.Calls.{inRange, headWith, headFault, settingFault, stales, stalesAt, setMemory, setHead, afterSetting}
 use Rattle.mixture.specs.Blocks.{inBlock, block, blockOf, headOnly, Settable}
 use Rattle.mixture.proofs.ListLaws.{never}
-use Rattle.mixture.proofs.PlaceLaws.{below-is, passed, nought, store-in}
+use Rattle.mixture.proofs.PlaceLaws.{below-is, fives, passed, nought, store-in}
 use Rattle.mixture.proofs.RangeLaws.{first-is, Bounds, bounds}
 use Rattle.mixture.proofs.CallLaws.{refused, lists-in, in-range, head-passed}
 use Rattle.mixture.proofs.BlockLaws.{one-cell, one-row, no-cells, every-cell}
@@ -318,13 +319,8 @@ module _ (model : Model) (w i j : ℕ) where
 
 -- ---- numbers in turn
 
-pub put-five : (l : List Float) (p : ℕ) (a b c d e : Float) → set (set (set (set (set l p a) (p + 1) b) (p + 2) c) (p + 3) d) (p + 4) e ≡ sets l p (a ∷ b ∷ c ∷ d ∷ e ∷ [])
-put-five l p a b c d e =
-    let one : p + 1 ≡ suc p = omega arith in
-    let two : p + 2 ≡ suc (suc p) = omega arith in
-    let three : p + 3 ≡ suc (suc (suc p)) = omega arith in
-    let four : p + 4 ≡ suc (suc (suc (suc p))) = omega arith in
-    rw (one, two, three, four)
+pub put-five : (l : List Float) (at : ℕ) (p : TdParam) → set (set (set (set (set l at (p .a)) (at + 1) (p .b)) (at + 2) (p .c)) (at + 3) (p .d)) (at + 4) (p .e) ≡ sets l at (fives p)
+put-five l at p = rw (add-one at, add-two at, add-three at, add-four at)
 
 -- ---- a base by model
 
