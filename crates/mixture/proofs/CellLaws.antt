@@ -36,7 +36,7 @@ use Rattle.mixture.specs.Faults.{hasEntry, hasTdEntry, hasSize, hasCount
 use Rattle.mixture.specs.Calls.{exponential, valueBy, stales}
 use Rattle.mixture.specs.Book.{Call, Load, Set, Fractions, replaced, setIn, setT, gives, plain}
 use Rattle.mixture.proofs.ListLaws.{never, or-none}
-use Rattle.mixture.proofs.PlaceLaws.{passed, nought}
+use Rattle.mixture.proofs.PlaceLaws.{had}
 use Rattle.mixture.proofs.AgreeLaws.{Agrees}
 
 -- ---- names that are there
@@ -170,14 +170,14 @@ no-inputs Unifac i j c t e p = rw (t, p i j)
 pub stales-inputs : (d : Held) (s : Setting) (i j : ℕ) → caseFault d s ≡ 0 → stales d s i j ≡ anyOf (inputs (d .model) i j) (gives (Set s))
 unfolding stales anyOf inputs gives named caseFault hasEntry hasTdEntry
 stales-inputs d (Temperature T) i j f = refl
-stales-inputs d (Entry r s v) i j f = go (d .model) refl (passed (hasEntry d r s) 0 10 (nought 9) f .0)
+stales-inputs d (Entry r s v) i j f = go (d .model) refl (had (hasEntry d r s) 0 f)
   where
     go : (k : Model) → d .model ≡ k → hasEntry d r s ≡ true → stales d (Entry r s v) i j ≡ anyOf (inputs (d .model) i j) (gives (Set (Entry r s v)))
     go Wilson e h = rw e (energy-inputs i j r s)
     go Uniquac e h = rw e (energy-inputs i j r s)
     go Nrtl e h = rw e (sym (or-false (eqb i r && eqb j s)))
     go Unifac e h = never (sym (rw e at h))
-stales-inputs d (TdEntry r s p) i j f = go (d .model) refl (passed (hasTdEntry d r s) 0 10 (nought 9) f .0)
+stales-inputs d (TdEntry r s p) i j f = go (d .model) refl (had (hasTdEntry d r s) 0 f)
   where
     go : (k : Model) → d .model ≡ k → hasTdEntry d r s ≡ true → stales d (TdEntry r s p) i j ≡ anyOf (inputs (d .model) i j) (gives (Set (TdEntry r s p)))
     go Wilson e h = never (sym (rw e at h))

@@ -39,6 +39,22 @@ below-is i m j n h = let b = both (ltb i m) (ltb j n) h in (ltb-true i m (b .0),
 pub eq-cases : (a b : ℕ) → (a ≡ b) ⊎ (a ≡ b → ⊥)
 eq-cases a b = elim (either (eqb a b)) [ inl e ↦ inl (eqb-true a b e) | inr e ↦ inr (eqb-false a b e) ]
 
+-- what passing a test shows
+pub passed : (t : Bool) (x k : ℕ) → (k ≡ 0 → ⊥) → cond t x k ≡ 0 → (t ≡ true) × (x ≡ 0)
+passed true x k n h = (refl, h)
+passed false x k n h = absurd (n h)
+
+pub spared : (t : Bool) (x k : ℕ) → (k ≡ 0 → ⊥) → cond t k x ≡ 0 → (t ≡ false) × (x ≡ 0)
+spared true x k n h = absurd (n h)
+spared false x k n h = (refl, h)
+
+pub nought : (k : ℕ) → suc k ≡ 0 → ⊥
+nought k h = omega arith
+
+-- 10 is the number of a name that the model doesn't have
+pub had : (t : Bool) (x : ℕ) → cond t x 10 ≡ 0 → t ≡ true
+had t x h = passed t x 10 (nought 9) h .0
+
 -- two pairs are one where a number of theirs is, and it tells them apart
 eqb-pair : (i j k l p q : ℕ) → (p ≡ q → (i ≡ k) × (j ≡ l)) → ((i ≡ k) → (j ≡ l) → p ≡ q) → eqb p q ≡ (eqb i k && eqb j l)
 eqb-pair i j k l p q f g =
@@ -371,23 +387,11 @@ module _ (n ng : ℕ) (lens groups : List ℕ) (v : List Float) where
       → place (D k) (Count i j a) + 1 ≤ sizeOf (D k)
   count-in k i j a h = let b = count-bounds k i j a h in omega arith
 
--- what passing a test shows
-pub passed : (t : Bool) (x k : ℕ) → (k ≡ 0 → ⊥) → cond t x k ≡ 0 → (t ≡ true) × (x ≡ 0)
-passed true x k n h = (refl, h)
-passed false x k n h = absurd (n h)
-
-pub spared : (t : Bool) (x k : ℕ) → (k ≡ 0 → ⊥) → cond t k x ≡ 0 → (t ≡ false) × (x ≡ 0)
-spared true x k n h = absurd (n h)
-spared false x k n h = (refl, h)
-
-pub nought : (k : ℕ) → suc k ≡ 0 → ⊥
-nought k h = omega arith
-
 -- a setting's numbers stay within the model's values
 pub store-in : (d : ModelData) (s : Setting) → caseFault (held d) s ≡ 0 → place d s + length (numbers s) ≤ sizeOf d
 unfolding caseFault place
 store-in d (Temperature T) f = omega arith
-store-in d (Entry i j a) f = entry-in (d .n) (d .ng) (d .lens) (d .groups) (d .values) (d .model) i j a (passed (hasEntry (held d) i j) 0 10 (nought 9) f .0)
-store-in d (TdEntry i j p) f = td-in (d .n) (d .ng) (d .lens) (d .groups) (d .values) (d .model) i j p (passed (hasTdEntry (held d) i j) 0 10 (nought 9) f .0)
-store-in d (Size i w a) f = size-in (d .n) (d .ng) (d .lens) (d .groups) (d .values) (d .model) i w a (passed (hasSize (held d) i w) 0 10 (nought 9) f .0)
-store-in d (Count i j a) f = count-in (d .n) (d .ng) (d .lens) (d .groups) (d .values) (d .model) i j a (passed (hasCount (held d) i j) _ 10 (nought 9) f .0)
+store-in d (Entry i j a) f = entry-in (d .n) (d .ng) (d .lens) (d .groups) (d .values) (d .model) i j a (had (hasEntry (held d) i j) 0 f)
+store-in d (TdEntry i j p) f = td-in (d .n) (d .ng) (d .lens) (d .groups) (d .values) (d .model) i j p (had (hasTdEntry (held d) i j) 0 f)
+store-in d (Size i w a) f = size-in (d .n) (d .ng) (d .lens) (d .groups) (d .values) (d .model) i w a (had (hasSize (held d) i w) 0 f)
+store-in d (Count i j a) f = count-in (d .n) (d .ng) (d .lens) (d .groups) (d .values) (d .model) i j a (had (hasCount (held d) i j) _ f)

@@ -23,7 +23,7 @@ use Rattle.mixture.specs.Names.{ModelData, held, entries, tdEntries, siz
 use Rattle.mixture.specs.Faults.{hasEntry, hasTdEntry, hasSize, hasCount, caseFault}
 use Rattle.mixture.specs.Layout.{place, numbers}
 use Rattle.mixture.specs.Book.{replaced, setIn}
-use Rattle.mixture.proofs.PlaceLaws.{both, passed, nought, at-set, Away, at-away, fives, five-away, five-within, sizeOf, D, entry-reads, td-reads, size-reads, count-reads, entry-places, size-places, count-places, td-places, td-entry, entry-size, size-td, td-count, size-count, entry-count, entry-in, td-in, size-in, count-in}
+use Rattle.mixture.proofs.PlaceLaws.{both, had, at-set, Away, at-away, fives, five-away, five-within, sizeOf, D, entry-reads, td-reads, size-reads, count-reads, entry-places, size-places, count-places, td-places, td-entry, entry-size, size-td, td-count, size-count, entry-count, entry-in, td-in, size-in, count-in}
 
 abbrev pub stored : ModelData → Setting → ModelData
 stored d s = D (d .n) (d .ng) (d .lens) (d .groups) (sets (d .values) (place d s) (numbers s)) (d .model)
@@ -76,17 +76,17 @@ module _ (n ng : ℕ) (lens groups : List ℕ) (v : List Float) (k : Model) (roo
   unfolding caseFault hasEntry setIn replaced place
   entry-after (Temperature T) f i j h = refl
   entry-after (Entry r s a) f i j h =
-      let g = passed (hasEntry (held d) r s) 0 10 (nought 9) f .0 in
+      let g = had (hasEntry (held d) r s) 0 f in
       entry-reads n ng lens groups (set v (place d (Entry r s a)) a) k i j a h
       ∙ at-set v (place d (Entry r s a)) (place d (Entry i j a)) a (omega (arith, entry-in n ng lens groups v k r s a g))
       ∙ rw (entry-places n ng lens groups v k i j r s a a h g, entry-reads n ng lens groups v k i j a h)
   entry-after (TdEntry r s p) f i j h =
-      let g = passed (hasTdEntry (held d) r s) 0 10 (nought 9) f .0 in
+      let g = had (hasTdEntry (held d) r s) 0 f in
       entry-kept (TdEntry r s p) i j h (inr (td-entry n ng lens groups v k r s i j p nan g h))
   entry-after (Size r w a) f i j h =
-      let g = passed (hasSize (held d) r w) 0 10 (nought 9) f .0 in
+      let g = had (hasSize (held d) r w) 0 f in
       entry-kept (Size r w a) i j h (inl (entry-size n ng lens groups v k i j r w nan a h g))
-  entry-after (Count r s a) f i j h = entry-count n ng lens groups v k i j r s h (passed (hasCount (held d) r s) _ 10 (nought 9) f .0)
+  entry-after (Count r s a) f i j h = entry-count n ng lens groups v k i j r s h (had (hasCount (held d) r s) _ f)
 
   td-stored : (r s : ℕ) (p : TdParam) → hasTdEntry (held d) r s ≡ true → (i j : ℕ) → hasTdEntry (held d) i j ≡ true
       → (eqb i r ≡ true) × (eqb j s ≡ true) → tdEntries (stored d (TdEntry r s p)) i j ≡ p
@@ -101,19 +101,19 @@ module _ (n ng : ℕ) (lens groups : List ℕ) (v : List Float) (k : Model) (roo
   unfolding caseFault hasTdEntry setIn replaced
   td-after (Temperature T) f i j h = refl
   td-after (Entry r s a) f i j h =
-      let g = passed (hasEntry (held d) r s) 0 10 (nought 9) f .0 in
+      let g = had (hasEntry (held d) r s) 0 f in
       td-kept (Entry r s a) i j h (inl (td-entry n ng lens groups v k i j r s (fiveAt [] 0) a h g))
   td-after (TdEntry r s p) f i j h =
-      let g = passed (hasTdEntry (held d) r s) 0 10 (nought 9) f .0 in
+      let g = had (hasTdEntry (held d) r s) 0 f in
       elim (either (eqb i r && eqb j s)) [
         | inl e ↦ rw e (td-stored r s p g i j h (both (eqb i r) (eqb j s) e))
         | inr e ↦ rw e (td-kept (TdEntry r s p) i j h (td-places n ng lens groups v k i j r s (fiveAt [] 0) p h g e))
       ]
   td-after (Size r w a) f i j h =
-      let g = passed (hasSize (held d) r w) 0 10 (nought 9) f .0 in
+      let g = had (hasSize (held d) r w) 0 f in
       td-kept (Size r w a) i j h (inr (rw (add-one) (size-td n ng lens groups v k r w i j a (fiveAt [] 0) g h)))
   td-after (Count r s a) f i j h =
-      let g = passed (hasCount (held d) r s) _ 10 (nought 9) f .0 in
+      let g = had (hasCount (held d) r s) _ f in
       td-kept (Count r s a) i j h (inl (td-count n ng lens groups v k i j r s (fiveAt [] 0) a h g))
 
   pub size-after : (s : Setting) → caseFault (held d) s ≡ 0 → (i w : ℕ) → hasSize (held d) i w ≡ true
@@ -121,33 +121,33 @@ module _ (n ng : ℕ) (lens groups : List ℕ) (v : List Float) (k : Model) (roo
   unfolding caseFault hasSize setIn replaced place
   size-after (Temperature T) f i w h = refl
   size-after (Entry r s a) f i w h =
-      let g = passed (hasEntry (held d) r s) 0 10 (nought 9) f .0 in
+      let g = had (hasEntry (held d) r s) 0 f in
       size-kept (Entry r s a) i w h (inr (omega (arith, entry-size n ng lens groups v k r s i w a nan g h)))
   size-after (TdEntry r s p) f i w h =
-      let g = passed (hasTdEntry (held d) r s) 0 10 (nought 9) f .0 in
+      let g = had (hasTdEntry (held d) r s) 0 f in
       size-kept (TdEntry r s p) i w h (inl (size-td n ng lens groups v k i w r s nan p h g))
   size-after (Size r u a) f i w h =
-      let g = passed (hasSize (held d) r u) 0 10 (nought 9) f .0 in
+      let g = had (hasSize (held d) r u) 0 f in
       size-reads n ng lens groups (set v (place d (Size r u a)) a) k i w a h
       ∙ at-set v (place d (Size r u a)) (place d (Size i w a)) a (omega (arith, size-in n ng lens groups v k r u a g))
       ∙ rw (size-places n ng lens groups v k i w r u a a h g, size-reads n ng lens groups v k i w a h)
   size-after (Count r s a) f i w h =
-      let g = passed (hasCount (held d) r s) _ 10 (nought 9) f .0 in
+      let g = had (hasCount (held d) r s) _ f in
       size-kept (Count r s a) i w h (inl (size-count n ng lens groups v k i w r s nan a h g))
 
   pub count-after : (s : Setting) → caseFault (held d) s ≡ 0 → (i j : ℕ) → hasCount (held d) i j ≡ true
       → countIn (stored d s) i j ≡ setIn s (held d) .lists .count i j
   unfolding caseFault hasCount setIn replaced place lists
   count-after (Temperature T) f i j h = refl
-  count-after (Entry r s a) f i j h = entry-count n ng lens groups v k r s i j (passed (hasEntry (held d) r s) 0 10 (nought 9) f .0) h
+  count-after (Entry r s a) f i j h = entry-count n ng lens groups v k r s i j (had (hasEntry (held d) r s) 0 f) h
   count-after (TdEntry r s p) f i j h =
-      let g = passed (hasTdEntry (held d) r s) 0 10 (nought 9) f .0 in
+      let g = had (hasTdEntry (held d) r s) 0 f in
       count-kept (TdEntry r s p) i j h (inr (td-count n ng lens groups v k r s i j p nan g h))
   count-after (Size r w a) f i j h =
-      let g = passed (hasSize (held d) r w) 0 10 (nought 9) f .0 in
+      let g = had (hasSize (held d) r w) 0 f in
       count-kept (Size r w a) i j h (inr (omega (arith, size-count n ng lens groups v k r w i j a nan g h)))
   count-after (Count r s a) f i j h =
-      let g = passed (hasCount (held d) r s) _ 10 (nought 9) f .0 in
+      let g = had (hasCount (held d) r s) _ f in
       count-reads n ng lens groups (set v (place d (Count r s a)) a) k i j a h (roomy (Count r s a))
       ∙ at-set v (place d (Count r s a)) (place d (Count i j a)) a (omega (arith, count-in n ng lens groups v k r s a g))
       ∙ rw (count-places n ng lens groups v k i j r s a a h g, count-reads n ng lens groups v k i j a h room)
