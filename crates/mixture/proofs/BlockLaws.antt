@@ -16,7 +16,7 @@ use Rattle.mixture.specs.Lists.{written}
 use Rattle.mixture.specs.Names.{byModel, ModelData, Held, held, width, isCell}
 use Rattle.mixture.specs.Layout.{cellAt}
 use Rattle.mixture.specs.Blocks.{inBlock, block}
-use Rattle.mixture.proofs.StaleLaws.{written-same}
+use Rattle.mixture.proofs.ListLaws.{written-same}
 
 -- ---- places
 

@@ -17,7 +17,7 @@ use Rattle.mixture.specs.declared.setting.Setting.the-variants.{Temperat
 use Rattle.mixture.specs.Lists.{howMany, howManyPairs}
 use Rattle.mixture.specs.Names.{byModel, Held, width, isCell}
 use Rattle.mixture.specs.Calls.{stales}
-use Rattle.mixture.proofs.ListLaws.{never, howMany-same, howManyPairs-same}
+use Rattle.mixture.proofs.ListLaws.{never, howMany-none, howMany-same, howManyPairs-same}
 
 -- ---- numbers below n
 
@@ -25,11 +25,6 @@ howMany-all : (n : ℕ) → howMany n (λ j. true) ≡ n
 unfolding howMany
 howMany-all zero = refl
 howMany-all (suc n) = rw (howMany-all n) (omega arith)
-
-howMany-none : (n : ℕ) → howMany n (λ j. false) ≡ 0
-unfolding howMany
-howMany-none zero = refl
-howMany-none (suc n) = rw (howMany-none n)
 
 -- all but i
 howMany-but : (n i : ℕ) → i < n → howMany n (λ j. not (eqb i j)) ≡ n - 1
@@ -49,7 +44,7 @@ unfolding howMany
 howMany-one zero j p = omega arith
 howMany-one (suc n) j p =
     elim (either (eqb n j)) [
-      | inl e ↦ rw (e, howMany-same n (λ l. eqb l j && p l) (λ l. false) (λ l b. let q : n ≡ j = eqb-true n j e in rw (ne-eqb l j (λ r. omega arith))), howMany-none n)
+      | inl e ↦ rw (e, howMany-none n (λ l. eqb l j && p l) (λ l b. let q : n ≡ j = eqb-true n j e in rw (ne-eqb l j (λ r. omega arith))))
           (elim (either (p n)) [ inl t ↦ rw t (omega arith) | inr t ↦ rw t (omega arith) ])
       | inr e ↦ rw e (omega (arith, howMany-one n j p))
     ]
@@ -63,7 +58,7 @@ pairs-row (suc m) n i p =
     (elim (either (eqb m i)) [
       | inl e ↦ let q : m ≡ i = eqb-true m i e in rw (e, q, le-ltb i i (omega arith), lt-ltb i (suc i) (omega arith)) (omega arith)
       | inr e ↦
-          rw (e, howMany-none n)
+          rw (e, howMany-none n (λ l. false) (λ l b. refl))
           (elim (le-or m i) [
             | inl g ↦ let l : suc m ≤ i = lt-of m i g (eqb-false m i e) in rw (le-ltb i m g, le-ltb i (suc m) l)
             | inr g ↦ rw (lt-ltb i m g, lt-ltb i (suc m) (omega arith)) (omega arith)
@@ -176,7 +171,7 @@ none-stale d = howManyPairs-same (width d) (width d) _ (λ i j. false) (λ i j a
   where
     none : (m n : ℕ) → howManyPairs m n (λ i j. false) ≡ 0
     none zero n = refl
-    none (suc m) n = rw (none m n, howMany-none n)
+    none (suc m) n = rw (none m n, howMany-none n (λ j. false) (λ j b. refl))
 
 pub size-stales : (d : Held) (i which : ℕ) (v : Float) → staled d (Size i which v) ≡ 0
 unfolding stales

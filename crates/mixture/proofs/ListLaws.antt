@@ -38,6 +38,26 @@ getD-kept p f [] c d h = refl
 getD-kept p f (a ∷ l) zero d h = rw h
 getD-kept p f (a ∷ l) (suc c) d h = getD-kept (λ k. p (suc k)) (λ k. f (suc k)) l c d h
 
+pub written-same : {A : Type 0} (p q : ℕ → Bool) (f : ℕ → A) (l : List A) → ((c : ℕ) → p c ≡ q c) → written p f l ≡ written q f l
+unfolding written
+written-same p q f [] h = refl
+written-same p q f (a ∷ l) h = rw (h 0, written-same (λ k. p (suc k)) (λ k. q (suc k)) (λ k. f (suc k)) l (λ c. h (suc c)))
+
+-- other values where the test passes
+pub written-as : {A : Type 0} (p : ℕ → Bool) (f g : ℕ → A) (l : List A) → ((c : ℕ) → p c ≡ true → f c ≡ g c) → written p f l ≡ written p g l
+unfolding written
+written-as p f g [] h = refl
+written-as p f g (a ∷ l) h = rw (first (p 0) (h 0), written-as (λ k. p (suc k)) (λ k. f (suc k)) (λ k. g (suc k)) l (λ c. h (suc c)))
+  where
+    first : (t : Bool) → (t ≡ true → f 0 ≡ g 0) → cond t (f 0) a ≡ cond t (g 0) a
+    first true k = k refl
+    first false k = refl
+
+pub written-none : {A : Type 0} (p : ℕ → Bool) (f : ℕ → A) (l : List A) → ((c : ℕ) → p c ≡ false) → l ≡ written p f l
+unfolding written
+written-none p f [] h = refl
+written-none p f (a ∷ l) h = rw (h 0, ← written-none (λ k. p (suc k)) (λ k. f (suc k)) l (λ c. h (suc c)))
+
 -- ---- padded lists
 
 getD-zeros : {A : Type 0} (m : ℕ) (z : A) (c : ℕ) → getD (replicate m z) c z ≡ z
@@ -61,6 +81,11 @@ howMany-le (suc n) p = omega (arith, howMany-le n p, one-le (p n))
     one-le : (t : Bool) → cond t 1 0 ≤ 1
     one-le true = omega arith
     one-le false = omega arith
+
+pub howMany-none : (n : ℕ) (p : ℕ → Bool) → ((k : ℕ) → k < n → p k ≡ false) → howMany n p ≡ 0
+unfolding howMany
+howMany-none zero p h = refl
+howMany-none (suc n) p h = rw (howMany-none n p (λ k b. h k (omega arith)), h n (omega arith))
 
 pub howMany-same : (n : ℕ) (p q : ℕ → Bool) → ((k : ℕ) → k < n → p k ≡ q k) → howMany n p ≡ howMany n q
 unfolding howMany

@@ -26,10 +26,10 @@ use Rattle.mixture.specs.Memory.{Memory, memory, after}
 use Rattle.mixture.specs.Layout.{modelOf, dataIn, cellAt}
 use Rattle.mixture.specs.Calls.{headFault, queryFault, exponential, valueBy, staleAt, worked, answered, afterQuery}
 use Rattle.mixture.specs.Refills.{staleCell, Ranged, Solved, Answered}
-use Rattle.mixture.proofs.ListLaws.{howMany-same}
+use Rattle.mixture.proofs.ListLaws.{written-same, howMany-same}
 use Rattle.mixture.proofs.RangeLaws.{first-is}
 use Rattle.mixture.proofs.CallLaws.{refused, done, Passed, head-passed}
-use Rattle.mixture.proofs.RefillLaws.{among, among-in, written-same}
+use Rattle.mixture.proofs.RefillLaws.{among, among-in}
 
 -- ---- what a query declines
 
@@ -81,8 +81,8 @@ module _ (m : Memory) (h : Head) (q : Quantity) {c : List Float} {l : List ℕ} 
   unfolding worked
   answered-by s =
       record {
-        cells = s .refilled .worked ∙ written-same (among (w * w) p) (staleAt m d) f f (m .cells) (λ c b. stale-is c) (λ c b t. refl);
-        marks = s .refilled .marked ∙ written-same (among (w * w) p) (staleAt m d) (λ c. 1) (λ c. 1) (m .marks) (λ c b. stale-is c) (λ c b t. refl);
+        cells = s .refilled .worked ∙ written-same (among (w * w) p) (staleAt m d) f (m .cells) stale-is;
+        marks = s .refilled .marked ∙ written-same (among (w * w) p) (staleAt m d) (λ c. 1) (m .marks) stale-is;
         value = s .solved;
         count = s .refilled .counted ∙ howMany-same (w * w) p (staleAt m d) (λ c b. sym (among-in (w * w) p c b) ∙ stale-is c);
       }

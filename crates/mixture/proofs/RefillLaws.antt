@@ -21,13 +21,12 @@ use Rattle.mixture.specs.declared.head.Model.the-variants.{Wilson, Uniqu
 use Rattle.mixture.specs.Names.{byModel}
 use Rattle.mixture.specs.Lists.{written, howMany}
 use Rattle.mixture.specs.Refills.{rowCell, staleCell, Refilled}
-use Rattle.mixture.proofs.ListLaws.{never, length-written, getD-written, getD-kept, howMany-le, howMany-add, howMany-same}
+use Rattle.mixture.proofs.ListLaws.{never, length-written, getD-written, getD-kept, written-same, written-as, written-none, howMany-le, howMany-none, howMany-add, howMany-same}
 
 -- ---- a writable part, back
 
 -- what comes back of `&mut l[s..]` stands after the first s
 put-is : {A : Type 0} (l : List A) (s : ℕ) → s ≤ length l → (ys : List A) → putMid s (length l - s) l ys ≡ take s l ++ ys
-unfolding putMid
 put-is l s h ys = rw (drop-of-length-le (drop s l) {i = length l - s} (rw (length-drop s l) (omega arith)), append-nil)
 
 -- ---- the first n places
@@ -42,22 +41,6 @@ among-past n p c h = rw (le-ltb c n h)
 pub among-in : (n : ℕ) (p : ℕ → Bool) (c : ℕ) → c < n → among n p c ≡ p c
 among-in n p c h = rw (lt-ltb c n h)
 
-pub written-same : {A : Type 0} (p q : ℕ → Bool) (f g : ℕ → A) (l : List A) → ((c : ℕ) → c < length l → p c ≡ q c) → ((c : ℕ) → c < length l → q c ≡ true → f c ≡ g c)
-    → written p f l ≡ written q g l
-unfolding written
-written-same p q f g [] h e = refl
-written-same p q f g (a ∷ l) h e =
-    rw (h 0 (omega arith), head (q 0) (e 0 (omega arith)), written-same (λ c. p (suc c)) (λ c. q (suc c)) (λ c. f (suc c)) (λ c. g (suc c)) l (λ c b. h (suc c) (omega arith)) (λ c b. e (suc c) (omega arith)))
-  where
-    head : (t : Bool) → (t ≡ true → f 0 ≡ g 0) → cond t (f 0) a ≡ cond t (g 0) a
-    head true k = k refl
-    head false k = refl
-
-written-none : {A : Type 0} (p : ℕ → Bool) (f : ℕ → A) (l : List A) → ((c : ℕ) → p c ≡ false) → written p f l ≡ l
-unfolding written
-written-none p f [] h = refl
-written-none p f (a ∷ l) h = rw (h 0, written-none (λ c. p (suc c)) (λ c. f (suc c)) l (λ c. h (suc c)))
-
 -- a place that isn't j is among the first j where it is among the first j + 1
 among-other : (j : ℕ) (p : ℕ → Bool) (c : ℕ) → (j ≡ c → ⊥) → among j p c ≡ among (j + 1) p c
 among-other j p c ne =
@@ -65,7 +48,7 @@ among-other j p c ne =
 
 module _ {A : Type 0} (p : ℕ → Bool) (f : ℕ → A) (l : List A) (j : ℕ) where
   written-skip : p j ≡ false → written (among j p) f l ≡ written (among (j + 1) p) f l
-  written-skip t = written-same (among j p) (among (j + 1) p) f f l (λ c b. by-place c j (λ d. among-other j p c (λ q. omega arith)) (λ e. rw (← e, t, and-false, and-false)) (λ d. among-other j p c (λ q. omega arith))) (λ c b q. refl)
+  written-skip t = written-same (among j p) (among (j + 1) p) f l (λ c. by-place c j (λ d. among-other j p c (λ q. omega arith)) (λ e. rw (← e, t, and-false, and-false)) (λ d. among-other j p c (λ q. omega arith)))
 
   written-more : (z v : A) → p j ≡ true → j < length l → v ≡ f j → set (written (among j p) f l) j v ≡ written (among (j + 1) p) f l
   written-more z v t h e =
@@ -120,8 +103,8 @@ module _ (p : ℕ → Bool) (f : ℕ → Float) (cells : List Float) (marks : Li
   refilled-none n e =
       rw e
       record {
-        worked = sym (written-none (among 0 p) f cells (λ c. among-past 0 p c (omega arith)));
-        marked = sym (written-none (among 0 p) (λ c. 1) marks (λ c. among-past 0 p c (omega arith)));
+        worked = written-none (among 0 p) f cells (λ c. among-past 0 p c (omega arith));
+        marked = written-none (among 0 p) (λ c. 1) marks (λ c. among-past 0 p c (omega arith));
         counted = refl;
       }
 
@@ -300,14 +283,9 @@ last-row (suc n) = row-end (suc n) (suc n) (suc n - 1) (omega arith)
 
 -- ---- a row with nothing stale
 
-none-many : (n : ℕ) (p : ℕ → Bool) → ((c : ℕ) → c < n → p c ≡ false) → howMany n p ≡ 0
-unfolding howMany
-none-many zero p h = refl
-none-many (suc n) p h = rw (h n (omega arith), none-many n p (λ c b. h c (omega arith)))
-
 pub refilled-fresh : (n : ℕ) (p : ℕ → Bool) (f : ℕ → Float) (cells : List Float) (marks : List ℕ) → ((c : ℕ) → c < n → p c ≡ false) → Refilled n p f cells marks cells marks 0
 refilled-fresh n p f cells marks h =
-    record { worked = sym (written-none _ _ cells nowhere); marked = sym (written-none _ _ marks nowhere); counted = sym (none-many n p h) }
+    record { worked = written-none _ _ cells nowhere; marked = written-none _ _ marks nowhere; counted = sym (howMany-none n p h) }
   where
     nowhere : (c : ℕ) → among n p c ≡ false
     nowhere c = elim (le-or n c) [ inl b ↦ among-past n p c b | inr b ↦ among-in n p c b ∙ h c b ]
@@ -321,7 +299,7 @@ pub refilled-as : (n : ℕ) (p : ℕ → Bool) (f g : ℕ → Float) (cells : Li
     → Refilled n p f cells marks cells′ marks′ r → Refilled n p g cells marks cells′ marks′ r
 refilled-as n p f g cells marks e r =
     record {
-      worked = r .worked ∙ written-same (among n p) (among n p) f g cells (λ c b. refl) (λ c b t. e c (among-below n p c t));
+      worked = r .worked ∙ written-as (among n p) f g cells (λ c t. e c (among-below n p c t));
       marked = r .marked;
       counted = r .counted;
     }

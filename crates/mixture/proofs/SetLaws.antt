@@ -30,12 +30,11 @@ use Rattle.mixture.specs.Memory.{Memory, memory, leastValues, leastMarks
 use Rattle.mixture.specs.Layout.{modelOf, dataIn, place, numbers, cellAt}
 use Rattle.mixture.specs.Calls.{inRange, headWith, headFault, settingFault, stales, stalesAt, setMemory, setHead, afterSetting}
 use Rattle.mixture.specs.Blocks.{inBlock, block, blockOf, headOnly, Settable}
-use Rattle.mixture.proofs.ListLaws.{never}
+use Rattle.mixture.proofs.ListLaws.{never, written-same}
 use Rattle.mixture.proofs.PlaceLaws.{below-is, had, fives, store-in}
 use Rattle.mixture.proofs.RangeLaws.{first-is, Bounds, bounds}
 use Rattle.mixture.proofs.CallLaws.{refused, lists-in, in-range, head-passed}
 use Rattle.mixture.proofs.BlockLaws.{one-cell, one-row, no-cells, every-cell}
-use Rattle.mixture.proofs.StaleLaws.{written-same}
 
 -- how many rows and columns a model's tables have
 abbrev wide : ℕ → ℕ → Model → ℕ

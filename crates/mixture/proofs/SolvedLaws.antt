@@ -5,8 +5,6 @@ use mathlib.Core.List.{List}
 use Prim.Native.Nat.{ℕ, zero, suc, _+_, _*_, _-_, _/_, _%_, _<_, _≤_}
 use native.Mathlib.Nat.{mod-lt, div-lt-iff-lt-mul, mul-assoc, mul-le-mul}
 use native.Mathlib.Omega.{arith}
-use borrow.Author.Tests.{ltb-true}
-use lib.Dec.{ltb}
 use lib.ListN.{length, getD}
 use lib.Ieee.{Float}
 use Rattle.arithmetic.specs.Logarithm.{logOf}
@@ -30,8 +28,7 @@ use Rattle.models.proofs.UnifacLaws.{psi-same, psi-at}
 use Rattle.mixture.specs.declared.head.Model.the-variants.{Wilson, Uniquac, Nrtl, Unifac}
 use Rattle.mixture.specs.Memory.{leastValues, leastCells, leastMarks}
 use Rattle.mixture.specs.Refills.{rowCell, staleCell, Refilled, Solved}
-use Rattle.mixture.proofs.PlaceLaws.{both}
-use Rattle.mixture.proofs.RefillLaws.{among, written-same, last-row}
+use Rattle.mixture.proofs.RefillLaws.{last-row, refilled-as}
 
 -- ---- room
 
@@ -55,25 +52,16 @@ energies-lent r = (omega arith, omega arith, omega arith, omega arith, omega ari
 -- ---- equal entries
 
 -- the row and column of a place
-pub place-in : (w c : ℕ) → c < w * w → (c / w < w) × (c % w < w)
+place-in : (w c : ℕ) → c < w * w → (c / w < w) × (c % w < w)
 place-in w c h = by-width w h
   where
     by-width : (w : ℕ) → c < w * w → (c / w < w) × (c % w < w)
     by-width zero h = absurd (omega arith)
     by-width (suc w) h = (div-lt-iff-lt-mul {k = suc w} (omega arith) .1 h, mod-lt c (omega arith))
 
-module _ (w : ℕ) {p : ℕ → Bool} (F E : ℕ → ℕ → Float) {cells c : List Float} {marks m : List ℕ} {r : ℕ}
-    (same : (i j : ℕ) → i < w → j < w → F i j ≡ E i j) where
-  refilled-by : Refilled (w * w) p (λ c. F (c / w) (c % w)) cells marks c m r → Refilled (w * w) p (λ c. E (c / w) (c % w)) cells marks c m r
-  refilled-by all =
-      record {
-        worked =
-            all .worked
-            ∙ written-same (among (w * w) p) (among (w * w) p) (λ c. F (c / w) (c % w)) (λ c. E (c / w) (c % w)) cells (λ c b. refl)
-            (λ c b t. let i = place-in w c (ltb-true c (w * w) (both (ltb c (w * w)) (p c) t .0)) in same (c / w) (c % w) (i .0) (i .1));
-        marked = all .marked;
-        counted = all .counted;
-      }
+refilled-by : (w : ℕ) {p : ℕ → Bool} (F E : ℕ → ℕ → Float) {cells c : List Float} {marks m : List ℕ} {r : ℕ} → ((i j : ℕ) → i < w → j < w → F i j ≡ E i j)
+    → Refilled (w * w) p (λ c. F (c / w) (c % w)) cells marks c m r → Refilled (w * w) p (λ c. E (c / w) (c % w)) cells marks c m r
+refilled-by w F E same all = refilled-as (w * w) _ _ _ _ _ (λ c b. let i = place-in w c b in same (c / w) (c % w) (i .0) (i .1)) all
 
 -- ---- Wilson and UNIQUAC
 

@@ -3,7 +3,8 @@ use mathlib.Core.List.{List}
 use mathlib.Core.Logic.{⊎-elim}
 use lib.ListN.{set, length-set}
 use Rattle.mixture.specs.Lists.{written}
-use Rattle.mixture.proofs.StaleLaws.{inRow, written-same, written-none, written-set, row-more, row-skips, row-none}
+use Rattle.mixture.proofs.ListLaws.{written-same, written-none}
+use Rattle.mixture.proofs.StaleLaws.{inRow, written-set, row-more, row-skips, row-none}
 use mathlib.Core.Path.{_≡_, refl, ap, _∙_}
 use Prim.Native.Nat.{ℕ, _+_, _-_, _≤_}
 use native.Mathlib.Omega.{arith}
