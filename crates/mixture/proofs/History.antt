@@ -152,10 +152,10 @@ load-kept : (m : Memory) (d : ModelData) (since : List Call) → Long m → Soun
 unfolding touched anyOf loadedMemory
 load-kept m d since l s =
     let k = d .model in
-    let range : inRange (dataIn (loadedMemory m d) (loadedHead d)) ≡ true = left-inRange m (d .n) (d .ng) (d .lens) (d .groups) (d .values) k s in
-    let agrees = left-agrees m (d .n) (d .ng) (d .lens) (d .groups) (d .values) k s in
-    let number = left-number m (d .n) (d .ng) (d .lens) (d .groups) (d .values) k in
-    let unset = left-unset m (d .n) (d .ng) (d .lens) (d .groups) (d .values) k in
+    let range : inRange (dataIn (loadedMemory m d) (loadedHead d)) ≡ true = left-inRange m d k s in
+    let agrees = left-agrees m d k s in
+    let number = left-number m d k in
+    let unset = left-unset m d k in
     record {
       number = number .0;
       range = rw (number .1) range;

@@ -70,7 +70,7 @@ eqb-pair i j k l p q f g =
 -- ---- rows
 
 -- a place of rows of n is another's only where row and column are
-pub place-is : (n i j k l : ℕ) → j < n → l < n → i * n + j ≡ k * n + l → (i ≡ k) × (j ≡ l)
+place-is : (n i j k l : ℕ) → j < n → l < n → i * n + j ≡ k * n + l → (i ≡ k) × (j ≡ l)
 place-is n i j k l b c e = (
   sym (cell-row n i j b) ∙ (ap (λ (p : ℕ). p / n) e ∙ cell-row n k l c),
   sym (cell-column n i j b) ∙ (ap (λ (p : ℕ). p % n) e ∙ cell-column n k l c),
@@ -105,7 +105,7 @@ at-away l p (a ∷ vs) q h =
     at-away (set l p a) (suc p) vs q (⊎-elim (λ (g : q < p). inl (omega arith)) (λ (g : p + suc (length vs) ≤ q). inr (omega arith)) h)
     ∙ getD-set-other l p q a nan (λ e. ⊎-elim (λ (g : q < p). omega arith) (λ (g : p + suc (length vs) ≤ q). omega arith) h)
 
-pub at-within : (vs l : List Float) (p k : ℕ) → k < length vs → p + length vs ≤ length l → at (sets l p vs) (p + k) ≡ at vs k
+at-within : (vs l : List Float) (p k : ℕ) → k < length vs → p + length vs ≤ length l → at (sets l p vs) (p + k) ≡ at vs k
 at-within [] l p k h g = absurd (omega arith)
 at-within (a ∷ vs) l p zero h g =
     rw (add-zero p) (at-away (set l p a) (suc p) vs p (inl (omega arith)) ∙ getD-set-same l p a nan (omega arith))
@@ -159,10 +159,22 @@ list-once lens i j r s h g e =
 
 -- ---- the bounds of each case's places
 
-module _ (n ng : ℕ) (lens groups : List ℕ) (v : List Float) where
-  -- the same sizes and values for a model k
+module _ (d : ModelData) where
+  abbrev n : ℕ
+  n = d .n
+
+  abbrev ng : ℕ
+  ng = d .ng
+
+  abbrev lens : List ℕ
+  lens = d .lens
+
+  abbrev v : List Float
+  v = d .values
+
+  -- the same sizes and values for a model k; D (d .model) is d
   abbrev pub D : Model → ModelData
-  D k = record { model = k; n = n; ng = ng; lens = lens; groups = groups; values = v }
+  D k = record { model = k; n = n; ng = ng; lens = lens; groups = d .groups; values = v }
 
   entry-bounds : (k : Model) (i j : ℕ) (a : Float) → hasEntry (held (D k)) i j ≡ true
       → (byModel k 0 0 (n * n * 5) 0 ≤ place (D k) (Entry i j a))
@@ -391,7 +403,7 @@ module _ (n ng : ℕ) (lens groups : List ℕ) (v : List Float) where
 pub store-in : (d : ModelData) (s : Setting) → caseFault (held d) s ≡ 0 → place d s + length (numbers s) ≤ sizeOf d
 unfolding caseFault place
 store-in d (Temperature T) f = omega arith
-store-in d (Entry i j a) f = entry-in (d .n) (d .ng) (d .lens) (d .groups) (d .values) (d .model) i j a (had (hasEntry (held d) i j) 0 f)
-store-in d (TdEntry i j p) f = td-in (d .n) (d .ng) (d .lens) (d .groups) (d .values) (d .model) i j p (had (hasTdEntry (held d) i j) 0 f)
-store-in d (Size i w a) f = size-in (d .n) (d .ng) (d .lens) (d .groups) (d .values) (d .model) i w a (had (hasSize (held d) i w) 0 f)
-store-in d (Count i j a) f = count-in (d .n) (d .ng) (d .lens) (d .groups) (d .values) (d .model) i j a (had (hasCount (held d) i j) _ f)
+store-in d (Entry i j a) f = entry-in d (d .model) i j a (had (hasEntry (held d) i j) 0 f)
+store-in d (TdEntry i j p) f = td-in d (d .model) i j p (had (hasTdEntry (held d) i j) 0 f)
+store-in d (Size i w a) f = size-in d (d .model) i w a (had (hasSize (held d) i w) 0 f)
+store-in d (Count i j a) f = count-in d (d .model) i j a (had (hasCount (held d) i j) _ f)

@@ -53,7 +53,7 @@ first-is k m h =
       | inr e ↦ let z : k ≡ 0 = rw e at h in (z, never (sym (eq-eqb k 0 z) ∙ e))
     ]
 
-pub firstTo-is : (n : ℕ) (f : ℕ → ℕ) → firstTo n f ≡ 0 → (i : ℕ) → i < n → f i ≡ 0
+firstTo-is : (n : ℕ) (f : ℕ → ℕ) → firstTo n f ≡ 0 → (i : ℕ) → i < n → f i ≡ 0
 unfolding firstTo
 firstTo-is zero f h i b = absurd (omega arith)
 firstTo-is (suc n) f h i b =
@@ -62,6 +62,11 @@ firstTo-is (suc n) f h i b =
       | inl c ↦ let e : i ≡ n = omega arith in rw e (g .1)
       | inr c ↦ firstTo-is n f (g .0) i c
     ]
+
+pub firstTo-none : (n : ℕ) (f : ℕ → ℕ) → ((i : ℕ) → i < n → f i ≡ 0) → firstTo n f ≡ 0
+unfolding firstTo
+firstTo-none zero f h = refl
+firstTo-none (suc n) f h = rw (firstTo-none n f (λ i b. h i (omega arith)), h n (omega arith))
 
 -- ---- a load's data that pass
 

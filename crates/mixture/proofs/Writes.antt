@@ -18,18 +18,18 @@ use Rattle.mixture.specs.declared.head.Model.{Model}
 use Rattle.mixture.specs.declared.head.Model.the-variants.{Wilson, Uniquac, Nrtl, Unifac}
 use Rattle.mixture.specs.declared.answers.Answer.the-variants.{Done}
 use Rattle.mixture.specs.Answers.{numberOf}
-use Rattle.mixture.specs.Names.{ModelData, Held, held, width, isCell}
+use Rattle.mixture.specs.Names.{Held, held, width, isCell}
 use Rattle.mixture.specs.Faults.{dataFault}
-use Rattle.mixture.specs.Memory.{Memory, leastValues, short, isShort, After, after}
+use Rattle.mixture.specs.Memory.{Memory, After, after}
 use Rattle.mixture.specs.Layout.{dataIn, place, numbers, cellAt}
 use Rattle.mixture.specs.Calls.{memoryFault, outcome, freshHead, afterOpen, loadFault, loadedHead, loadedMemory, afterLoad, settingFault, stalesAt, setMemory, setHead, afterSetting, fractionsFault, withFractions, afterFractions, queryFault, staleAt, worked, answered, afterQuery}
 use Rattle.mixture.specs.Book.{Open, Load, Set, Fractions, Query}
 use Rattle.mixture.specs.History.{afterCall}
 use Rattle.mixture.specs.Writes.{callFault, Numbers, Declined, heldBy, valuePlaces, cellPlaces, markPlaces, Writes, OnlyThere, DiagonalKept}
 use Rattle.mixture.proofs.ListLaws.{length-written, getD-kept}
-use Rattle.mixture.proofs.PlaceLaws.{spared, nought, at-away}
-use Rattle.mixture.proofs.RangeLaws.{long-is, first-is, sound, bounds}
-use Rattle.mixture.proofs.LoadLaws.{left, left-size, left-inRange}
+use Rattle.mixture.proofs.PlaceLaws.{at-away}
+use Rattle.mixture.proofs.RangeLaws.{first-is}
+use Rattle.mixture.proofs.CallLaws.{load-fits}
 
 -- ---- declined calls
 
@@ -81,15 +81,6 @@ past v l k h =
     let e : length v + (k - length v) ≡ k = omega arith in
     subst (λ (p : ℕ). at (v ++ drop (length v) l) p ≡ at l p) e (getD-append-add v (drop (length v) l) (k - length v) nan ∙ getD-drop (length v) l (k - length v) nan)
 
--- a load that is accepted fits
-fits : (m : Memory) (d : ModelData) → loadFault m d ≡ 0 → length (d .values) ≤ length (m .values)
-unfolding loadFault memoryFault leastValues short
-fits m d z =
-    let f = first-is (memoryFault m) (dataFault d) z in
-    let s = sound d (f .1) in
-    let b = bounds (left m (d .n) (d .ng) (d .lens) (d .groups) (d .values) (d .model)) (left-inRange m (d .n) (d .ng) (d .lens) (d .groups) (d .values) (d .model) s) .values in
-    omega (arith, s .size, left-size m (d .n) (d .ng) (d .lens) (d .groups) (d .values) (d .model), long-is m (spared (isShort m) 0 1 (nought 0) (f .0) .0) .values)
-
 outside : (p n k : ℕ) → (leb p k && ltb k (p + n)) ≡ false → (k < p) ⊎ (p + n ≤ k)
 outside p n k h =
     elim (le-or p k) [
@@ -98,7 +89,7 @@ outside p n k h =
     ]
 
 pub only-there : OnlyThere
-unfolding afterCall afterOpen afterLoad loadedMemory afterSetting setMemory stalesAt afterFractions afterQuery answered worked staleAt valuePlaces cellPlaces markPlaces
+unfolding loadFault afterCall afterOpen afterLoad loadedMemory afterSetting setMemory stalesAt afterFractions afterQuery answered worked staleAt valuePlaces cellPlaces markPlaces
 only-there m h Open = writes-by _ _ _ m h (memoryFault m) (after m (freshHead 0 0 0 [] []) Done) (λ z. still _ _ _ m h)
 only-there m h (Load d) =
     writes-by _ _ _ m h (loadFault m d) (after (loadedMemory m d) (loadedHead d) Done)
@@ -108,7 +99,7 @@ only-there m h (Load d) =
       cells = λ c p. refl;
       marks = λ c p. getD-kept (cellAt (held d)) (λ c. 0) (m .marks) c 0 (sym (and-true (cellAt (held d) c)) ∙ p);
       lengths = (
-        rw (length-append (d .values) (drop (length (d .values)) (m .values)), length-drop (length (d .values)) (m .values)) (omega (arith, fits m d z)),
+        rw (length-append (d .values) (drop (length (d .values)) (m .values)), length-drop (length (d .values)) (m .values)) (omega (arith, let f = first-is (memoryFault m) (dataFault d) z in load-fits m d (f .0) (f .1) .values)),
         refl,
         length-written (cellAt (held d)) (λ c. 0) (m .marks),
       );
