@@ -7,6 +7,7 @@ use mathlib.Core.List.{List, [], _∷_}
 use mathlib.Core.Logic.{inl, inr}
 use mathlib.Core.Option.{Option, none, some}
 use Prim.Native.Nat.{ℕ, _+_, _*_, _/_, _%_, _-_, _<_, _≤_}
+use native.Mathlib.Nat.{mul-le-mul}
 use native.Mathlib.Omega.{arith}
 use lib.Dec.{ltb, eqb}
 use lib.ListN.{length, getD, drop, replicate, length-append, length-drop, List·getD-append}
@@ -19,7 +20,6 @@ use Rattle.arithmetic.proofs.Differences.{either}
 use Rattle.arithmetic.proofs.TableLaws.{cell-lt, cell-row, cell-column}
 use Rattle.models.specs.declared.answers.Quantity.{Quantity}
 use Rattle.models.specs.Answers.{indexFault}
-use Rattle.models.specs.Composition.{tolerance, compositionFault}
 use Rattle.models.specs.Values.{start, lists}
 use Rattle.models.proofs.ListLaws.{list-place}
 use Rattle.mixture.specs.declared.head.Head.{Head}
@@ -38,10 +38,11 @@ use Rattle.mixture.specs.Calls.{memoryFault, inRange, headFault, outcome
 use Rattle.mixture.specs.Book.{Call, Open, Load, Set, Fractions, Query, Book, book, empty, setIn, setT, setModel, bookAfter, gives, touched, touchedCells, plain, having, bookAnswer, isQuery, accepted, sinceAfter, bookAnswers}
 use Rattle.mixture.specs.History.{afterCall, answers, History}
 use Rattle.mixture.proofs.ListLaws.{never, or-none, length-written, getD-written, howMany-rows, howManyPairs-same}
-use Rattle.mixture.proofs.PlaceLaws.{both, passed, nought, sizeOf}
+use Rattle.mixture.proofs.PlaceLaws.{both, nought, sizeOf}
 use Rattle.mixture.proofs.StoreLaws.{stored}
 use Rattle.mixture.proofs.AgreeLaws.{Alike, Agrees, caseFault-same, width-same, isCell-same, alike-refl, agrees-trans, set-alike, set-agrees, store-agrees}
-use Rattle.mixture.proofs.RangeLaws.{Long, short-no, long-is, first-is, Sound, sound, bounds}
+use Rattle.mixture.proofs.RangeLaws.{Long, short-no, long-is, Sound, sound, bounds}
+use Rattle.mixture.proofs.CallLaws.{mix-length}
 use Rattle.mixture.proofs.LoadLaws.{left-inRange, left-number, left-unset, left-agrees}
 use Rattle.mixture.proofs.CellLaws.{exponential-same, exponential-still, setT-still, stales-inputs, load-inputs, fractions-inputs, valueBy-same, plain-is}
 
@@ -117,6 +118,9 @@ head-fine : (m : Memory) (h : Head) → Long m → (h .model ≡ 0 → ⊥) → 
 unfolding headFault
 head-fine m h l n r = rw (short-no m l, ne-eqb (h .model) 0 n, r)
 
+kept-range : (m : Memory) (h : Head) {d : Held} {T : Option Float} {x : Option (List Float)} {since : List Call} → KeptModel m h d T x since → inRange (dataIn m h) ≡ true
+kept-range m h k = both (ltb (h .model) 5) (inRange (dataIn m h)) (k .range) .1
+
 -- ---- open
 
 step-open : (m : Memory) (h : Head) (b : Book) (since : List Call) → Keeps m h b since → Step (afterOpen m h) b since Open
@@ -135,7 +139,7 @@ cellAt-is c d a i j hi hj =
 
 -- the cells of a head in range have room
 room : (e : ModelData) (d : Held) → inRange e ≡ true → Alike (held e) d → width d * width d ≤ 1024
-room e d r a = rw (width-same (held e) d a) at (bounds e r .cells)
+room e d r a = let w = rw (width-same (held e) d a) at (bounds e r .wide .1) in mul-le-mul w w
 
 mark-room : (marks : List ℕ) (w : ℕ) → leastMarks ≤ length marks → w * w ≤ 1024 → (i j : ℕ) → i < w → j < w → i * w + j < length marks
 unfolding leastMarks
@@ -238,9 +242,6 @@ module _ (m : Memory) (h : Head) (d : Held) (T : Option Float) (x : Option (List
   abbrev e : ModelData
   e = dataIn m h
 
-  in-range : inRange e ≡ true
-  in-range = both (ltb (h .model) 5) (inRange e) (k .range) .1
-
   stalesAt-is : (s : Setting) (i j : ℕ) → i < width d → j < width d → isCell d i j ≡ true → stalesAt (held e) s (i * width d + j) ≡ stales d s i j
   unfolding stalesAt
   stalesAt-is s i j hi hj c =
@@ -253,7 +254,7 @@ module _ (m : Memory) (h : Head) (d : Held) (T : Option Float) (x : Option (List
 
   values-room : sizeOf e ≤ length (m .values)
   unfolding leastValues
-  values-room = omega (arith, bounds e in-range .values, l .values)
+  values-room = omega (arith, bounds e (kept-range m h k) .values, l .values)
 
   set-agree : (s : Setting) → caseFault d s ≡ 0 → Agrees (held (dataIn (setMemory m e s) (setHead h s))) (setIn s d)
   set-agree s f =
@@ -271,7 +272,7 @@ module _ (m : Memory) (h : Head) (d : Held) (T : Option Float) (x : Option (List
   set-marks s f i j hi hj c =
       rw (touched-more (Set s) i j, ← (stales-inputs d s i j f))
       (mark-step (stales d s i j) (touched (d .model) since i j) (getD (m .marks) (i * width d + j) 0) _
-      (getD-written (stalesAt (held e) s) (λ c. 0) (m .marks) (i * width d + j) 0 (mark-room (m .marks) (width d) (l .marks) (room e d in-range (k .agrees .alike)) i j hi hj)
+      (getD-written (stalesAt (held e) s) (λ c. 0) (m .marks) (i * width d + j) 0 (mark-room (m .marks) (width d) (l .marks) (room e d (kept-range m h k) (k .agrees .alike)) i j hi hj)
       ∙ rw (stalesAt-is s i j hi hj c))
       (k .marks i j hi hj c))
 
@@ -318,10 +319,6 @@ step-set m h (some d) T x since s k =
 
 -- ---- fractions
 
-mix-length : (n : ℕ) (x : List Float) → mixFault n x ≡ 0 → length x ≡ n
-unfolding mixFault
-mix-length n x z = eqb-true (length x) n (passed (eqb (length x) n) 0 7 (nought 6) (first-is (compositionFault tolerance x) (cond (eqb (length x) n) 0 7) z .1) .0)
-
 fractions-keptT : (h : Head) (T : Option Float) (x : List Float) → KeptT T h → KeptT T (withFractions h x)
 fractions-keptT h none x k = k
 fractions-keptT h (some T) x k = k
@@ -360,14 +357,11 @@ module _ (m : Memory) (h : Head) (d : Held) (T : Float) (x : List Float) (since 
   abbrev c : Held
   c = held (dataIn m h)
 
-  range : inRange (dataIn m h) ≡ true
-  range = both (ltb (h .model) 5) (inRange (dataIn m h)) (k .range) .1
-
   same : width c ≡ width d
   same = width-same c d (k .agrees .alike)
 
   small : width d * width d ≤ 1024
-  small = room (dataIn m h) d range (k .agrees .alike)
+  small = room (dataIn m h) d (kept-range m h k) (k .agrees .alike)
 
   -- a place is stale where it is that of a touched cell
   stale-is : (i j : ℕ) → i < width d → j < width d → staleAt m c (i * width d + j) ≡ (isCell d i j && touched (d .model) since i j)
@@ -408,7 +402,7 @@ module _ (m : Memory) (h : Head) (d : Held) (T : Float) (x : List Float) (since 
       let g = k .agrees .alike .groups e in
       subst (λ (z : ℕ). z < d .ng) (g .group i p hi hp)
       (subst (λ (z : ℕ). c .lists .group i p < z) (g .ng)
-      (bounds (dataIn m h) range .groups (k .agrees .alike .model ∙ e) (start (h .lens) i + p)
+      (bounds (dataIn m h) (kept-range m h k) .lists (k .agrees .alike .model ∙ e) .below (start (h .lens) i + p)
       (list-place (h .lens) i (h .n) p (rw (k .agrees .alike .n) hi) (rw (g .length i hi) hp))))
 
   fraction : (i : ℕ) → i < d .n → at (h .x) i ≡ at x i

@@ -63,7 +63,7 @@ module _ (m : Memory) (h : Head) (q : Quantity) where
 
 pub head-ranged : (m : Memory) (h : Head) → Passed m h → modelOf (h .model) ≡ Unifac → Ranged (h .n) (h .ng) (h .lens) (h .groups)
 head-ranged m h p e =
-    let l = p .lists e in
+    let l = p .range .lists e in
     record { some = p .range .some; few = p .range .few; someGroups = l .some; fewGroups = l .few; places = l .places; below = l .below }
 
 -- ---- a model's cells and value are the answer

@@ -1,7 +1,7 @@
 -- A setting by model: what it is declined for, where its numbers stand, and that both look at the head alone.
 use mathlib.Core.Path.{_≡_, refl, sym, ap, _∙_}
 use mathlib.Core.Bool.{Bool, true, false, _&&_, _||_, cond, or-false, or-true, and-false}
-use mathlib.Core.List.{List, []}
+use mathlib.Core.List.{List}
 use Prim.Native.Nat.{ℕ, _+_, _*_, _/_, _%_, _<_, _≤_}
 use native.Mathlib.Nat.{zero-add, zero-mul, mul-le-mul}
 use native.Mathlib.Numerals.{add-one, add-two, add-three, add-four}
@@ -32,8 +32,8 @@ use Rattle.mixture.specs.Calls.{inRange, headWith, headFault, settingFau
 use Rattle.mixture.specs.Blocks.{inBlock, block, blockOf, headOnly, Settable}
 use Rattle.mixture.proofs.ListLaws.{never, written-same}
 use Rattle.mixture.proofs.PlaceLaws.{below-is, had, fives, store-in}
-use Rattle.mixture.proofs.RangeLaws.{first-is, Bounds, bounds}
-use Rattle.mixture.proofs.CallLaws.{refused, lists-in, in-range, head-passed}
+use Rattle.mixture.proofs.RangeLaws.{first-is, bounds}
+use Rattle.mixture.proofs.CallLaws.{refused, in-range, head-passed}
 use Rattle.mixture.proofs.BlockLaws.{one-cell, one-row, no-cells, every-cell}
 
 -- how many rows and columns a model's tables have
@@ -143,17 +143,9 @@ unifac-alone Unifac a h = (refl, h)
 -- ---- where its numbers stand
 
 module _ (h : Head) {s : Setting} (ok : Settable h s) {model : Model} (e : model ≡ modelOf (h .model)) {w : ℕ} (f : w ≡ wide (h .n) (h .ng) model) where
-  pub width-in : (1 ≤ w) × (w ≤ 32)
-  width-in = rw f (go model e)
-    where
-      range : Bounds (headOnly h)
-      range = bounds (headOnly h) (ok .range)
-
-      go : (t : Model) → t ≡ modelOf (h .model) → (1 ≤ wide (h .n) (h .ng) t) × (wide (h .n) (h .ng) t ≤ 32)
-      go Wilson q = (range .some, omega (arith, range .few))
-      go Uniquac q = (range .some, omega (arith, range .few))
-      go Nrtl q = (range .some, omega (arith, range .few))
-      go Unifac q = let l = lists-in (memory [] [] []) h (ok .range) (sym q) in (l .some, l .few)
+  width-in : (1 ≤ w) × (w ≤ 32)
+  unfolding width
+  width-in = rw (f, e) (bounds (headOnly h) (ok .range) .wide)
 
   module _ {i j : ℕ} {v : Float} (g : s ≡ Entry i j v) where
     has-entry : hasEntry (held (headOnly h)) i j ≡ true
@@ -201,10 +193,10 @@ module _ (h : Head) {s : Setting} (ok : Settable h s) {i j : ℕ} {v : Float} (g
 
   pub count-within : (h .ng ≤ 32) × (i ≤ 12) × (j ≤ 12) × (start (h .lens) i ≤ 144)
   count-within =
-      let l = lists-in (memory [] [] []) h (ok .range) (has-count .0) in
+      let r = bounds (headOnly h) (ok .range) in
+      let l = r .lists (has-count .0) in
       let b = below-is i (h .n) j (getD (h .lens) i 0) (has-count .1) in
-      let few = bounds (headOnly h) (ok .range) .few in
-      (l .few, omega arith, omega (arith, l .short i (b .0)), omega (arith, l .places, start-up (h .lens) i (h .n) (omega arith)))
+      (l .few, omega (arith, r .few), omega (arith, l .short i (b .0)), omega (arith, l .places, start-up (h .lens) i (h .n) (omega arith)))
 
   pub count-place : {r : ℕ} → r ≡ countsAt (h .ng) + (start (h .lens) i + j) → r ≡ place (headOnly h) s
   unfolding place
@@ -363,7 +355,7 @@ set-fits m h s e =
     let f = first-is (headFault m h) _ e in
     let p = head-passed m h (f .0) in
     record {
-      ok = record { range = sym (range-only m h) ∙ in-range m h (f .0) .2; case = sym (case-only m h s) ∙ f .1 };
+      ok = record { range = sym (range-only m h) ∙ in-range m h (f .0); case = sym (case-only m h s) ∙ f .1 };
       values = omega (arith, place-only m h s, store-in (dataIn m h) s (f .1), p .range .values, p .long .values);
       marks = p .long .marks;
     }
