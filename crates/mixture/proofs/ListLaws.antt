@@ -1,5 +1,5 @@
 -- Lists written at places, padded lists, and counts by rows or in one run.
-use mathlib.Core.Path.{_≡_, refl, ap}
+use mathlib.Core.Path.{_≡_, refl, ap, _∙_}
 use mathlib.Core.Bool.{Bool, true, false, _||_, cond}
 use mathlib.Core.List.{List, [], _∷_, _++_}
 use Prim.Native.Nat.{ℕ, zero, suc, _+_, _*_, _<_, _≤_}
@@ -23,6 +23,9 @@ pub length-written : {A : Type 0} (p : ℕ → Bool) (f : ℕ → A) (l : List A
 unfolding written
 length-written p f [] = refl
 length-written p f (a ∷ l) = ap suc (length-written (λ k. p (suc k)) (λ k. f (suc k)) l)
+
+pub length-as : {A : Type 0} (p : ℕ → Bool) (f : ℕ → A) (l : List A) {m : List A} → m ≡ written p f l → length m ≡ length l
+length-as p f l e = ap length e ∙ length-written p f l
 
 pub getD-written : {A : Type 0} (p : ℕ → Bool) (f : ℕ → A) (l : List A) (c : ℕ) (d : A) → c < length l
     → getD (written p f l) c d ≡ cond (p c) (f c) (getD l c d)

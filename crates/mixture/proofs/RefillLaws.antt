@@ -21,7 +21,7 @@ use Rattle.mixture.specs.declared.head.Model.the-variants.{Wilson, Uniqu
 use Rattle.mixture.specs.Names.{byModel}
 use Rattle.mixture.specs.Lists.{written, howMany}
 use Rattle.mixture.specs.Refills.{rowCell, staleCell, Refilled}
-use Rattle.mixture.proofs.ListLaws.{never, length-written, getD-written, getD-kept, written-same, written-as, written-none, howMany-le, howMany-none, howMany-add, howMany-same}
+use Rattle.mixture.proofs.ListLaws.{never, length-written, length-as, getD-written, getD-kept, written-same, written-as, written-none, howMany-le, howMany-none, howMany-add, howMany-same}
 
 -- ---- a writable part, back
 
@@ -142,7 +142,7 @@ pub refilling : {j : ℕ} {p : ℕ → Bool} {f : ℕ → Float} {cells : List F
 refilling {j} {p} {f} {cells} {marks} now =
     record {
       all = now;
-      long = (ap length (now .worked) ∙ length-written (among j p) f cells, ap length (now .marked) ∙ length-written (among j p) (λ c. 1) marks);
+      long = (length-as (among j p) f cells (now .worked), length-as (among j p) (λ c. 1) marks (now .marked));
       few = rw (now .counted) (howMany-le j p);
     }
 
@@ -170,7 +170,7 @@ module _ (k : Model) (i : ℕ) (f : ℕ → Float) (cells : List Float) (marks :
 lent : {A : Type 0} (s : ℕ) (p : ℕ → Bool) (f : ℕ → A) (old : List A) (z : A) {l : List A} → l ≡ written (among s p) f old → (j : ℕ) → s + j < length old
     → getD (from s l) j z ≡ getD old (s + j) z
 lent {A} s p f old z {l} above j b =
-    getD-take (length l - s) (drop s l) j z (omega (arith, ap length above, length-written (among s p) f old))
+    getD-take (length l - s) (drop s l) j z (omega (arith, length-as (among s p) f old above))
     ∙ (getD-drop s l j z ∙ (ap (λ (m : List A). getD m (s + j) z) above ∙ getD-kept (among s p) f old (s + j) z (among-past s p (s + j) (omega arith))))
 
 module _ {A : Type 0} (s w : ℕ) (p q : ℕ → Bool) (f g : ℕ → A) (old : List A) (z : A) (h : s + w ≤ length old)
@@ -188,10 +188,10 @@ module _ {A : Type 0} (s w : ℕ) (p q : ℕ → Bool) (f g : ℕ → A) (old : 
 
   module _ {l ys : List A} (above : l ≡ written (among s p) f old) (row : ys ≡ written (among w q) g (from s l)) where
     long : length l ≡ length old
-    long = ap length above ∙ length-written (among s p) f old
+    long = length-as (among s p) f old above
 
     row-long : length ys ≡ length old - s
-    row-long = ap length row ∙ (length-written (among w q) g (from s l) ∙ (from-length s l ∙ rw long))
+    row-long = length-as (among w q) g (from s l) row ∙ (from-length s l ∙ rw long)
 
     lower : (c : ℕ) → c < s → getD (take s l ++ ys) c z ≡ getD (written (among (s + w) p) f old) c z
     lower c b =

@@ -21,7 +21,7 @@ use Rattle.mixture.proofs.PlaceLaws.{eq-cases}
 
 module _ {A : Type 0} where
   -- one place more
-  pub written-set : (p q : ℕ → Bool) (f : ℕ → A) (l : List A) (k : ℕ) → ((c : ℕ) → q c ≡ (p c || eqb c k)) → set (written p f l) k (f k) ≡ written q f l
+  written-set : (p q : ℕ → Bool) (f : ℕ → A) (l : List A) (k : ℕ) → ((c : ℕ) → q c ≡ (p c || eqb c k)) → set (written p f l) k (f k) ≡ written q f l
   unfolding written
   written-set p q f [] k h = refl
   written-set p q f (a ∷ l) zero h =
@@ -54,7 +54,7 @@ module _ (start left j skip : ℕ) where
   row-out c e l = rw (l, e) (sym (or-false (inRow start left j skip c)))
 
   -- the place start + j, which isn't the one to skip
-  pub row-more : left ≤ j → (j ≡ skip → ⊥) → (c : ℕ) → inRow start left (j + 1) skip c ≡ (inRow start left j skip c || eqb c (start + j))
+  row-more : left ≤ j → (j ≡ skip → ⊥) → (c : ℕ) → inRow start left (j + 1) skip c ≡ (inRow start left j skip c || eqb c (start + j))
   row-more h n c =
       by-place c (start + j)
       (λ (b : c < start + j). row-out c (ne-eqb c (start + j) (λ (e : c ≡ start + j). omega arith)) (lt-ltb c (start + (j + 1)) (omega arith) ∙ sym (lt-ltb _ _ b)))
@@ -64,12 +64,20 @@ module _ (start left j skip : ℕ) where
       (sym (or-true (true && ltb (start + j) (start + j) && true)))))
       (λ (b : start + j < c). row-out c (ne-eqb c (start + j) (λ (e : c ≡ start + j). omega arith)) (le-ltb c (start + (j + 1)) (omega arith) ∙ sym (le-ltb c (start + j) (omega arith))))
 
-  pub row-skips : j ≡ skip → (c : ℕ) → inRow start left j skip c ≡ inRow start left (j + 1) skip c
+  row-skips : j ≡ skip → (c : ℕ) → inRow start left j skip c ≡ inRow start left (j + 1) skip c
   row-skips h c =
       by-place c (start + j)
       (λ (b : c < start + j). rw (lt-ltb _ _ b, lt-ltb c (start + (j + 1)) (omega arith)))
       (λ (e : start + j ≡ c). rw (eq-eqb c (start + skip) (omega arith)) (and-false (leb (start + left) c && ltb c (start + j)) ∙ sym (and-false (leb (start + left) c && ltb c (start + (j + 1))))))
       (λ (b : start + j < c). rw (le-ltb c (start + j) (omega arith), le-ltb c (start + (j + 1)) (omega arith)))
+
+  -- a turn writes the place, or skips it
+  module _ (l : List ℕ) {m r : List ℕ} (so : m ≡ written (inRow start left j skip) (λ c. 0) l) where
+    pub row-write : left ≤ j → (j ≡ skip → ⊥) → r ≡ set m (start + j) 0 → r ≡ written (inRow start left (j + 1) skip) (λ c. 0) l
+    row-write h n e = e ∙ rw so (written-set _ _ (λ c. 0) l (start + j) (row-more h n))
+
+    pub row-keep : j ≡ skip → r ≡ m → r ≡ written (inRow start left (j + 1) skip) (λ c. 0) l
+    row-keep h e = e ∙ (so ∙ written-same _ _ (λ c. 0) l (row-skips h))
 
 pub row-none : (start left right skip : ℕ) → right ≤ left → (c : ℕ) → inRow start left right skip c ≡ false
 row-none start left right skip h c =
