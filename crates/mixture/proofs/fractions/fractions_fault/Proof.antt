@@ -1,4 +1,4 @@
--- 1 and 8 of the head first; then those of the fractions.
+-- What fractions are declined for: 1 and 8 of the head first; then their own.
 use Rattle.models.proofs.AnswerLaws.{first-left, first-right}
 use Rattle.mixture.specs.Calls.{fractionsFault}
 use Rattle.mixture.proofs.fractions.fractions_fault.Statement.{statement}

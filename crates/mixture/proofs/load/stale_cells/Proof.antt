@@ -1,4 +1,4 @@
--- The block of all rows and columns is that of the model's cells.
+-- Makes all the model's cells stale: they are the block of all rows and columns.
 use native.Mathlib.Nat.{mul-le-mul}
 use Rattle.mixture.proofs.BlockLaws.{cells-stale}
 use Prim.Native.Nat.{_≤_}

@@ -1,5 +1,5 @@
--- Of short rows nothing is said. With cells on the diagonal no mark may be other than 1; without, as many as on the diagonal, so
--- none off it.
+-- Whether counting the marks shows that no cell is stale. Of few rows nothing is said; with cells on the diagonal no mark is other than 1; without, no more
+-- are than on the diagonal, so that none off it is.
 use mathlib.Core.Path.{sym, _∙_}
 use mathlib.Core.Bool.{false≢true}
 use Prim.Native.Nat.{_*_, _/_, _%_}

@@ -1,4 +1,4 @@
--- Nothing to do where all marks are fresh; else row by row.
+-- Works out every stale cell: nothing to do where all marks are fresh; else row by row.
 use borrow.Author.Needs.{needs}
 use Rattle.mixture.proofs.RefillLaws.{refilled-fresh}
 use Rattle.mixture.proofs.refill.refill.Statement.{statement}

@@ -1,4 +1,4 @@
--- A short row cell by cell; nothing to do in one with nothing stale; any other is worked out at once.
+-- Works out a row's stale cells: a short row one by one; nothing where none is stale; else the row at once.
 use borrow.Author.Needs.{needs}
 use Rattle.mixture.proofs.RefillLaws.{refilled-fresh}
 use Rattle.mixture.proofs.refill.refill_row.Statement.{statement}

@@ -1,4 +1,4 @@
--- No mark is other than 1; or one is, and it is the diagonal's, which has no cell there.
+-- Whether counting the marks shows that no cell of a row is stale: no mark is other than 1; or one is, the diagonal's, which has no cell there.
 use mathlib.Core.Path.{sym, _∙_}
 use mathlib.Core.Bool.{false≢true}
 use native.Mathlib.Omega.{arith}

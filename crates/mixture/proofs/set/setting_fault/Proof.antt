@@ -1,4 +1,4 @@
--- 1 and 8 of the head first; then the case's.
+-- What a setting is declined for: 1 and 8 of the head first; then the case's.
 use Rattle.mixture.proofs.CallLaws.{few-by}
 use Rattle.models.proofs.AnswerLaws.{first-left, first-right}
 use Rattle.mixture.specs.Calls.{settingFault}
