@@ -57,7 +57,7 @@ module _ (d : Held) (w : ℕ) (diagonal : Bool) (e : w ≡ width d) (f : diagona
   cell-at c = rw (← e, rows-lt w c some, cell-is d (c / w) (c % w), f)
 
   -- all cells
-  pub all-cells : (c : ℕ) → inBlock w diagonal (block 0 w 0 w) c ≡ cellAt d c
+  all-cells : (c : ℕ) → inBlock w diagonal (block 0 w 0 w) c ≡ cellAt d c
   unfolding inBlock
   all-cells c = rw (cell-at c, zero-add w, le-leb 0 (c / w) (omega arith), le-leb 0 (c % w) (omega arith), lt-ltb (c % w) w (mod-lt c some))
 

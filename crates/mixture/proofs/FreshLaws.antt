@@ -1,4 +1,4 @@
--- Where all the marks that are not 1 are counted on the diagonal, those off it are 1.
+-- Counting what passes, and what a count shows: where all the marks that are not 1 are counted on the diagonal, those off it are 1.
 use mathlib.Core.Path.{_≡_, refl, sym, _∙_, subst}
 use mathlib.Core.Bool.{Bool, true, false, not, _&&_, cond, and-false}
 use mathlib.Core.List.{List}

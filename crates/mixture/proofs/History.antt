@@ -43,6 +43,7 @@ use Rattle.mixture.proofs.StoreLaws.{stored}
 use Rattle.mixture.proofs.AgreeLaws.{Alike, Agrees, caseFault-same, width-same, isCell-same, alike-refl, agrees-trans, set-alike, set-agrees, store-agrees}
 use Rattle.mixture.proofs.RangeLaws.{Long, short-no, long-is, Sound, sound, bounds}
 use Rattle.mixture.proofs.CallLaws.{mix-length}
+use Rattle.mixture.proofs.SetLaws.{head-same}
 use Rattle.mixture.proofs.LoadLaws.{left-inRange, left-number, left-unset, left-agrees}
 use Rattle.mixture.proofs.CellLaws.{exponential-same, exponential-still, setT-still, stales-inputs, load-inputs, fractions-inputs, valueBy-same, plain-is}
 
@@ -194,20 +195,11 @@ step-load m h b since d k =
 
 -- a setting leaves the head's model, sizes and lists
 set-data : (m : Memory) (h : Head) (s : Setting) → dataIn (setMemory m (dataIn m h) s) (setHead h s) ≡ stored (dataIn m h) s
-unfolding setMemory setHead
-set-data m h (Temperature T) = refl
-set-data m h (Entry i j v) = refl
-set-data m h (TdEntry i j p) = refl
-set-data m h (Size i w v) = refl
-set-data m h (Count i j v) = refl
+unfolding setMemory
+set-data m h s = rw (← head-same h s)
 
 set-number : (h : Head) (s : Setting) → setHead h s .model ≡ h .model
-unfolding setHead
-set-number h (Temperature T) = refl
-set-number h (Entry i j v) = refl
-set-number h (TdEntry i j p) = refl
-set-number h (Size i w v) = refl
-set-number h (Count i j v) = refl
+set-number h s = ap (λ (g : Head). g .model) (sym (head-same h s))
 
 set-keptT : (h : Head) (s : Setting) (T : Option Float) → KeptT T h → KeptT (setT s T) (setHead h s)
 unfolding setHead setT
@@ -218,13 +210,8 @@ set-keptT h (Size i w v) T k = k
 set-keptT h (Count i j v) T k = k
 
 set-keptX : (h : Head) (s : Setting) (x : Option (List Float)) (n : ℕ) → KeptX x n h → KeptX x n (setHead h s)
-unfolding setHead
-set-keptX h (Temperature U) none n k = k
-set-keptX h (Temperature U) (some x) n k = k
-set-keptX h (Entry i j v) x n k = k
-set-keptX h (TdEntry i j p) x n k = k
-set-keptX h (Size i w v) x n k = k
-set-keptX h (Count i j v) x n k = k
+set-keptX h s none n k = rw (← head-same h s) k
+set-keptX h s (some x) n k = rw (← head-same h s) k
 
 mark-step : (t u : Bool) (x y : ℕ) → y ≡ cond t 0 x → eqb x 1 ≡ not u → eqb y 1 ≡ not (t || u)
 mark-step true u x y e h = rw e

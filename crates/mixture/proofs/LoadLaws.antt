@@ -1,4 +1,5 @@
--- Two data whose values are equal over the model's length hold the same by name: every name is read within it.
+-- Two data whose values are equal over the model's length hold the same by name: every name is read within it. So what a load leaves in memory and
+-- head is what it brought.
 use mathlib.Core.Path.{_≡_, refl, sym, _∙_}
 use mathlib.Core.Bool.{true, false}
 use mathlib.Core.List.{List, [], _++_}
@@ -49,7 +50,7 @@ module _ (e d : ModelData) (alike : Alike (held e) (held d)) (starts : d .model 
           same (place d s + 4) (omega arith),
         ))
 
-    pub read-agrees : Agrees (held e) (held d)
+    read-agrees : Agrees (held e) (held d)
     unfolding lists
     read-agrees =
         record {
@@ -96,7 +97,7 @@ module _ (m : Memory) (d : ModelData) where
   groups = d .groups
 
   -- what stands in memory and head after a load for the model k
-  abbrev pub left : Model → ModelData
+  abbrev left : Model → ModelData
   left k = dataIn (loadedMemory m (D d k)) (loadedHead (D d k))
 
   left-alike : (k : Model) → Alike (held (left k)) (held (D d k))
@@ -123,7 +124,7 @@ module _ (m : Memory) (d : ModelData) where
   left-starts Nrtl e i = not-unifac Nrtl refl e
   left-starts Unifac e i = start-past (12 - length lens) lens i
 
-  pub left-size : (k : Model) → sizeOf (left k) ≡ sizeOf (D d k)
+  left-size : (k : Model) → sizeOf (left k) ≡ sizeOf (D d k)
   unfolding loadedHead modelOf
   left-size Wilson = refl
   left-size Uniquac = refl

@@ -28,7 +28,7 @@ use Rattle.mixture.proofs.PlaceLaws.{both, passed, spared, nought, size
 
 -- ---- tests
 
-pub between-is : (a b k : ℕ) → between a b k ≡ true → (a ≤ k) × (k ≤ b)
+between-is : (a b k : ℕ) → between a b k ≡ true → (a ≤ k) × (k ≤ b)
 between-is a b k h = let f = both (leb a k) (leb k b) h in (leb-true a k (f .0), leb-true k b (f .1))
 
 pub all-at : (n : ℕ) (p : ℕ → Bool) → allTo n p ≡ true → (i : ℕ) → i < n → p i ≡ true

@@ -377,7 +377,7 @@ module _ (m : Memory) (h : Head) (s : Setting) where
   set-refused {k} e n = rw (ne-eqb k 0 n) (refused m h _ e n)
 
 -- a setting changes T alone of the head, and whether it is set
-head-same : (h : Head) (s : Setting) → headWith h (setHead h s .t) (setHead h s .«has_t») (h .x) (h .«has_x») ≡ setHead h s
+pub head-same : (h : Head) (s : Setting) → headWith h (setHead h s .t) (setHead h s .«has_t») (h .x) (h .«has_x») ≡ setHead h s
 unfolding setHead
 head-same h (Temperature T) = refl
 head-same h (Entry i j v) = refl

@@ -31,12 +31,14 @@ stored d s =
 module _ (d : ModelData) (room : sizeOf d ≤ length (d .values)) where
   -- ---- a store that doesn't reach a name leaves it
 
+  kept : (s z : Setting) {a b : Float} → a ≡ at (stored d s .values) (place d z) → b ≡ at (d .values) (place d z)
+      → Away (place d s) (length (numbers s)) (place d z) → a ≡ b
+  kept s z p q far = p ∙ (at-away (d .values) (place d s) (numbers s) (place d z) far ∙ sym q)
+
   entry-kept : (s : Setting) (i j : ℕ) → hasEntry (held d) i j ≡ true → Away (place d s) (length (numbers s)) (place d (Entry i j nan))
       → entries (stored d s) i j ≡ entries d i j
   unfolding hasEntry place
-  entry-kept s i j h far =
-      entry-reads (stored d s) (d .model) i j nan h
-      ∙ (at-away (d .values) (place d s) (numbers s) (place d (Entry i j nan)) far ∙ sym (entry-reads d (d .model) i j nan h))
+  entry-kept s i j h far = kept s (Entry i j nan) (entry-reads (stored d s) (d .model) i j nan h) (entry-reads d (d .model) i j nan h) far
 
   td-kept : (s : Setting) (i j : ℕ) → hasTdEntry (held d) i j ≡ true
       → (place d (TdEntry i j (fiveAt [] 0)) + 5 ≤ place d s) ⊎ (place d s + length (numbers s) ≤ place d (TdEntry i j (fiveAt [] 0)))
@@ -49,9 +51,7 @@ module _ (d : ModelData) (room : sizeOf d ≤ length (d .values)) where
   size-kept : (s : Setting) (i w : ℕ) → hasSize (held d) i w ≡ true → Away (place d s) (length (numbers s)) (place d (Size i w nan))
       → sizes (stored d s) i w ≡ sizes d i w
   unfolding hasSize place
-  size-kept s i w h far =
-      size-reads (stored d s) (d .model) i w nan h
-      ∙ (at-away (d .values) (place d s) (numbers s) (place d (Size i w nan)) far ∙ sym (size-reads d (d .model) i w nan h))
+  size-kept s i w h far = kept s (Size i w nan) (size-reads (stored d s) (d .model) i w nan h) (size-reads d (d .model) i w nan h) far
 
   roomy : (s : Setting) → sizeOf (stored d s) ≤ length (stored d s .values)
   roomy s = rw (length-sets (d .values) (place d s) (numbers s)) room
@@ -62,9 +62,7 @@ module _ (d : ModelData) (room : sizeOf d ≤ length (d .values)) where
   count-kept : (s : Setting) (i j : ℕ) → hasCount (held d) i j ≡ true → Away (place d s) (length (numbers s)) (place d (Count i j nan))
       → countIn (stored d s) i j ≡ countIn d i j
   unfolding hasCount place lists
-  count-kept s i j h far =
-      count-reads (stored d s) (d .model) i j nan h (roomy s)
-      ∙ (at-away (d .values) (place d s) (numbers s) (place d (Count i j nan)) far ∙ sym (count-reads d (d .model) i j nan h room))
+  count-kept s i j h far = kept s (Count i j nan) (count-reads (stored d s) (d .model) i j nan h (roomy s)) (count-reads d (d .model) i j nan h room) far
 
   -- ---- each name after a setting
 

@@ -2,7 +2,7 @@
 -- order.
 use mathlib.Core.Path.{_≡_, refl, _∙_}
 use mathlib.Core.List.{List}
-use Prim.Native.Nat.{ℕ, zero, suc, _+_, _*_, _≤_}
+use Prim.Native.Nat.{ℕ, _+_, _*_, _≤_}
 use native.Mathlib.Nat.{zero-add}
 use native.Mathlib.Omega.{arith}
 use lib.ListN.{length, getD, take}
@@ -19,12 +19,7 @@ use Rattle.mixture.specs.Names.{ModelData, held, entries, tdEntries, siz
 use Rattle.mixture.specs.Plain.{valuesIn, WrittenBack}
 use Rattle.mixture.proofs.PlaceLaws.{sizeOf, D}
 use Rattle.mixture.proofs.RangeLaws.{sound}
-use Rattle.mixture.proofs.RowLaws.{before, row-is, rows-is, table-is, tds-is}
-
-before-lens : (lens : List ℕ) (i : ℕ) → before (λ k. getD lens k 0) i ≡ start lens i
-unfolding before start
-before-lens lens zero = refl
-before-lens lens (suc i) = rw (before-lens lens i)
+use Rattle.mixture.proofs.RowLaws.{before, before-lens, row-is, rows-is, table-is, tds-is}
 
 -- ---- lists
 
