@@ -152,17 +152,17 @@ refilled-is : {n : ℕ} {p : ℕ → Bool} {f : ℕ → Float} {cells : List Flo
     → d ≡ c → m ≡ k → s ≡ r → Refilled n p f cells marks c k r → Refilled n p f cells marks d m s
 refilled-is e g h all = record { worked = e ∙ all .worked; marked = g ∙ all .marked; counted = h ∙ all .counted }
 
-module _ (k : Model) (i : ℕ) (f : ℕ → Float) (cells : List Float) (marks : List ℕ) (j : ℕ) {c : List Float} {l : List ℕ} {r : ℕ} {b : Bool}
-    (now : Refilled j (λ c. staleCell k (getD marks c 0) i c) f cells marks c l r) (told : b ≡ staleCell k (getD l j 0) i j) where
+module _ (k : Model) (i : ℕ) {f : ℕ → Float} {cells : List Float} {marks : List ℕ} {j : ℕ} {c : List Float} {l : List ℕ} {r : ℕ} {b : Bool}
+    (now : Refilling j (λ c. staleCell k (getD marks c 0) i c) f cells marks c l r) (told : b ≡ staleCell k (getD l j 0) i j) where
   stale-told : b ≡ staleCell k (getD marks j 0) i j
-  stale-told = told ∙ ap (λ (mark : ℕ). staleCell k mark i j) (refilled-mark _ f cells marks j now)
+  stale-told = told ∙ ap (λ (mark : ℕ). staleCell k mark i j) (refilled-mark _ f cells marks j (now .all))
 
   pub row-more : {d : List Float} {m : List ℕ} {s : ℕ} {v : Float} → b ≡ true → j < length cells → j < length marks → v ≡ f j → d ≡ set c j v → m ≡ set l j 1 → s ≡ r + 1
-      → Refilled (j + 1) (λ c. staleCell k (getD marks c 0) i c) f cells marks d m s
-  row-more t h g e x y z = refilled-is x y z (refilled-more _ f cells marks j now (sym stale-told ∙ t) h g e)
+      → Refilling (j + 1) (λ c. staleCell k (getD marks c 0) i c) f cells marks d m s
+  row-more t h g e x y z = refilling (refilled-is x y z (refilled-more _ f cells marks j (now .all) (sym stale-told ∙ t) h g e))
 
-  pub row-skip : {d : List Float} {m : List ℕ} {s : ℕ} → b ≡ false → d ≡ c → m ≡ l → s ≡ r → Refilled (j + 1) (λ c. staleCell k (getD marks c 0) i c) f cells marks d m s
-  row-skip t x y z = refilled-is x y z (refilled-skip _ f cells marks j now (sym stale-told ∙ t))
+  pub row-skip : {d : List Float} {m : List ℕ} {s : ℕ} → b ≡ false → d ≡ c → m ≡ l → s ≡ r → Refilling (j + 1) (λ c. staleCell k (getD marks c 0) i c) f cells marks d m s
+  row-skip t x y z = refilling (refilled-is x y z (refilled-skip _ f cells marks j (now .all) (sym stale-told ∙ t)))
 
 -- ---- a row that comes back in the middle
 

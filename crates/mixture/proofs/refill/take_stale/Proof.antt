@@ -22,12 +22,10 @@ abbrev μ-loop : tie.MeasureT-loop
 loop-again : tie.Need-loop-again Inv-loop μ-loop
 loop-again c =
     let turn = c .before .before .before in
-    let so = turn .before .loop .inv .1 .all in
+    let so = turn .before .loop .inv .1 in
     let told = c .before .is-stale .ensures in (
       omega arith,
-      refilling (⊎-elim
-          (λ w. row-more _ _ _ _ _ _ so told (w .0 .taken) (omega arith) (omega arith) refl (w .2) (w .3) (w .4))
-          (λ w. row-skip _ _ _ _ _ _ so told (w .0 .left) (w .1) (w .2) (w .3)) (c .if1 .came)),
+      ⊎-elim (λ w. row-more _ _ so told (w .0 .taken) (omega arith) (omega arith) refl (w .2) (w .3) (w .4)) (λ w. row-skip _ _ so told (w .0 .left) (w .1) (w .2) (w .3)) (c .if1 .came),
     )
 
 returns : tie.Need-returns Inv-loop μ-loop
