@@ -77,19 +77,32 @@ module _ (d : Held) where
   unfolding countsAt
   length-front = rw (length-append (sizes0 ng ++ sizes1 ng) (tds ng), length-groups, length-tds ng ng (d .tdEntry))
 
+  -- the parts that the values of Wilson and UNIQUAC begin with
+  in-table : (ys : List Float) (i j : ℕ) → i < n → j < n → at (table ++ ys) (i * n + j) ≡ d .entry i j
+  in-table ys i j h g = getD-before table ys (n * n) (i * n + j) nan (length-table n n (d .entry)) (cell-lt n n i j h g) ∙ table-at n n (d .entry) i j nan h g
+
+  in-sizes : (i : ℕ) → i < n → at (table ++ sizes0 n) (n * n + i) ≡ d .size i 0
+  in-sizes i h = getD-after table (sizes0 n) (n * n) i nan (length-table n n (d .entry)) ∙ row-at n (λ i. d .size i 0) i nan h
+
+  in-two : (k : ℕ) → k < n * n + n → at (table ++ sizes0 n ++ sizes1 n) k ≡ at (table ++ sizes0 n) k
+  in-two k h = getD-before (table ++ sizes0 n) (sizes1 n) (n * n + n) k nan length-two h
+
+  -- those that UNIFAC's begin with
+  in-groups : (k : ℕ) → k < ng + ng → at (sizes0 ng ++ sizes1 ng ++ tds ng ++ counts) k ≡ at (sizes0 ng ++ sizes1 ng) k
+  unfolding countsAt
+  in-groups k h =
+      getD-before (sizes0 ng ++ sizes1 ng ++ tds ng) counts (ng + ng + ng * ng * 5) k nan length-front (omega arith)
+      ∙ getD-before (sizes0 ng ++ sizes1 ng) (tds ng) (ng + ng) k nan length-groups h
+
   entry-back : (i j : ℕ) → hasEntry d i j ≡ true → entries (dataOf d) i j ≡ d .entry i j
   unfolding entries valuesIn energies alphas hasEntry
   entry-back i j h = go (d .model) refl
     where
       go : (k : Model) → d .model ≡ k → entries (dataOf d) i j ≡ d .entry i j
-      go Wilson e =
-          let b = below-is i n j n (rw e at h) in
-          rw e (getD-before table (sizes0 n) (n * n) (i * n + j) nan (length-table n n (d .entry)) (cell-lt n n i j (b .0) (b .1)) ∙ table-at n n (d .entry) i j nan (b .0) (b .1))
+      go Wilson e = let b = below-is i n j n (rw e at h) in rw e (in-table (sizes0 n) i j (b .0) (b .1))
       go Uniquac e =
           let b = below-is i n j n (rw e at h) in
-          rw e
-          (getD-before (table ++ sizes0 n) (sizes1 n) (n * n + n) (i * n + j) nan length-two (omega (arith, cell-lt n n i j (b .0) (b .1)))
-          ∙ getD-before table (sizes0 n) (n * n) (i * n + j) nan (length-table n n (d .entry)) (cell-lt n n i j (b .0) (b .1)) ∙ table-at n n (d .entry) i j nan (b .0) (b .1))
+          rw e (in-two (i * n + j) (omega (arith, cell-lt n n i j (b .0) (b .1))) ∙ in-table (sizes0 n) i j (b .0) (b .1))
       go Nrtl e =
           let b = below-is i n j n (rw e at h) in
           rw e (getD-after (tds n) table (n * n * 5) (i * n + j) nan (length-tds n n (d .tdEntry)) ∙ table-at n n (d .entry) i j nan (b .0) (b .1))
@@ -112,19 +125,13 @@ module _ (d : Held) where
           ∙ five-after (sizes0 ng ++ sizes1 ng) (tds ng) (ng + ng) ((i * ng + j) * 5) length-groups ∙ tds-at ng ng (d .tdEntry) i j (b .0) (b .1))
 
   size-back : (i w : ℕ) → hasSize d i w ≡ true → sizes (dataOf d) i w ≡ d .size i w
-  unfolding sizes valuesIn volumes rs qs groupRs groupQs hasSize countsAt
+  unfolding sizes valuesIn volumes rs qs groupRs groupQs hasSize
   size-back i w h = go (d .model) refl w h
     where
       go : (k : Model) → d .model ≡ k → (w : ℕ) → hasSize d i w ≡ true → sizes (dataOf d) i w ≡ d .size i w
-      go Wilson e zero h =
-          let b = below-is i n 0 1 (rw e at h) in
-          rw e (getD-after table (sizes0 n) (n * n) i nan (length-table n n (d .entry)) ∙ row-at n (λ i. d .size i 0) i nan (b .0))
+      go Wilson e zero h = let b = below-is i n 0 1 (rw e at h) in rw e (in-sizes i (b .0))
       go Wilson e (suc w) h = let b = below-is i n (suc w) 1 (rw e at h) in absurd (omega arith)
-      go Uniquac e zero h =
-          let b = below-is i n 0 2 (rw e at h) in
-          rw e
-          (getD-before (table ++ sizes0 n) (sizes1 n) (n * n + n) (n * n + i) nan length-two (omega arith)
-          ∙ getD-after table (sizes0 n) (n * n) i nan (length-table n n (d .entry)) ∙ row-at n (λ i. d .size i 0) i nan (b .0))
+      go Uniquac e zero h = let b = below-is i n 0 2 (rw e at h) in rw e (in-two (n * n + i) (omega arith) ∙ in-sizes i (b .0))
       go Uniquac e (suc zero) h =
           let b = below-is i n 1 2 (rw e at h) in
           rw e (getD-after (table ++ sizes0 n) (sizes1 n) (n * n + n) i nan length-two ∙ row-at n (λ i. d .size i 1) i nan (b .0))
@@ -132,16 +139,10 @@ module _ (d : Held) where
       go Nrtl e w h = never (sym (rw e at h))
       go Unifac e zero h =
           let b = below-is i ng 0 2 (rw e at h) in
-          rw e
-          (getD-before (sizes0 ng ++ sizes1 ng ++ tds ng) counts (ng + ng + ng * ng * 5) i nan length-front (omega arith)
-          ∙ getD-before (sizes0 ng ++ sizes1 ng) (tds ng) (ng + ng) i nan length-groups (omega arith)
-          ∙ getD-before (sizes0 ng) (sizes1 ng) ng i nan (length-row ng (λ i. d .size i 0)) (b .0) ∙ row-at ng (λ i. d .size i 0) i nan (b .0))
+          rw e (in-groups i (omega arith) ∙ getD-before (sizes0 ng) (sizes1 ng) ng i nan (length-row ng (λ i. d .size i 0)) (b .0) ∙ row-at ng (λ i. d .size i 0) i nan (b .0))
       go Unifac e (suc zero) h =
           let b = below-is i ng 1 2 (rw e at h) in
-          rw e
-          (getD-before (sizes0 ng ++ sizes1 ng ++ tds ng) counts (ng + ng + ng * ng * 5) (ng + i) nan length-front (omega arith)
-          ∙ getD-before (sizes0 ng ++ sizes1 ng) (tds ng) (ng + ng) (ng + i) nan length-groups (omega arith)
-          ∙ getD-after (sizes0 ng) (sizes1 ng) ng i nan (length-row ng (λ i. d .size i 0)) ∙ row-at ng (λ i. d .size i 1) i nan (b .0))
+          rw e (in-groups (ng + i) (omega arith) ∙ getD-after (sizes0 ng) (sizes1 ng) ng i nan (length-row ng (λ i. d .size i 0)) ∙ row-at ng (λ i. d .size i 1) i nan (b .0))
       go Unifac e (suc (suc w)) h = let b = below-is i ng (suc (suc w)) 2 (rw e at h) in absurd (omega arith)
 
   -- the counts, list after list
