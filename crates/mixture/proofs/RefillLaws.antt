@@ -265,11 +265,12 @@ module _ (k : Model) (w stride i : ℕ) (table tau : List Float) (T L : Float) (
 
   pub turn-more : {ys : List Float} {zs : List ℕ} {s : ℕ}
       → Refilled w (λ j. staleCell k (getD (from (i * w) l) j 0) i j) (rowCell k (from (i * stride) table) (from (i * stride) tau) T L i) (from (i * w) c) (from (i * w) l) ys zs s
-      → Refilled ((i + 1) * w) (λ c. staleCell k (getD marks c 0) (c / w) (c % w))
+      → (i + 1 ≤ w) × Refilling ((i + 1) * w) (λ c. staleCell k (getD marks c 0) (c / w) (c % w))
       (λ c. rowCell k (from (c / w * stride) table) (from (c / w * stride) tau) T L (c / w) (c % w)) cells marks
       (putMid (i * w) (length c - i * w) c ys) (putMid (i * w) (length l - i * w) l zs) (r + s)
   turn-more row =
-      let d = row-end w w i b in refilled-row k w i _ cells marks (omega arith) (omega arith) _ above row (λ j b. row-cells k w stride table tau T L i j b)
+      let d = row-end w w i b in
+      (omega arith, refilling (refilled-row k w i _ cells marks (omega arith) (omega arith) _ above row (λ j b. row-cells k w stride table tau T L i j b)))
 
 -- a loop that counts i to w has all of them at its end
 pub refilled-done : (i w : ℕ) {p : ℕ → Bool} {f : ℕ → Float} {cells : List Float} {marks : List ℕ} {c : List Float} {l : List ℕ} {r : ℕ}

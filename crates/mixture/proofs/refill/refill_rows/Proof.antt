@@ -2,7 +2,6 @@
 use Prim.Native.Nat.{_+_, _*_, _-_, _/_, _%_, _≤_}
 use native.Mathlib.Nat.{zero-mul, mul-le-mul, mul-le-mul-right}
 use native.Mathlib.Omega.{arith}
-use borrow.Author.Needs.{needs}
 use denote.Ref.{now}
 use lib.ListN.{getD}
 use Rattle.arithmetic.specs.Tables.{from}
@@ -44,10 +43,8 @@ loop-again : tie.Need-loop-again Inv-loop μ-loop
 loop-again c =
     let turn = c .before .before .before .before .before .before .before .before .before in
     let a = entry turn .args in
-    let p = entry turn .pre in (
-      omega arith,
-      refilling (turn-more (a .model) (a .w) (a .stride) (turn .before .loop .i) (now (a .table)) (now (a .tau)) (a .t) (a .ln) (now (a .cells)) (now (a .marks)) (turn .loop-test .taken) (p .3) (p .4) (turn .before .loop .inv .1 .all) (c .before .before .before .before .refill-row .ensures)),
-    )
+    let p = entry turn .pre in
+    turn-more (a .model) (a .w) (a .stride) (turn .before .loop .i) (now (a .table)) (now (a .tau)) (a .t) (a .ln) (now (a .cells)) (now (a .marks)) (turn .loop-test .taken) (p .3) (p .4) (turn .before .loop .inv .1 .all) (c .before .before .before .before .refill-row .ensures)
 
 returns : tie.Need-returns Inv-loop μ-loop
 returns c = refilled-done _ _ (c .before .loop .inv .0) (c .loop-test .left) (c .before .loop .inv .1 .all)
@@ -81,6 +78,6 @@ refill-rows-spec =
     (λ c. omega arith)
     (λ c. omega arith)
     loop-again
-    (λ c. search needs)
-    (λ c. search needs)
+    (λ c. c .before .loop .inv .1 .long .0)
+    (λ c. c .before .loop .inv .1 .long .1)
     returns)
