@@ -113,8 +113,8 @@ at-within (a ∷ vs) l p (suc k) h g =
     rw (add-suc p k, ← (suc-add p k)) (at-within vs (set l p a) (suc p) k (omega arith) (rw (length-set l p a) (omega arith)))
 
 -- a td entry's five
-abbrev pub fives : TdParam → List Float
-fives P = P .a ∷ P .b ∷ P .c ∷ P .d ∷ P .e ∷ []
+abbrev pub fiveOf : TdParam → List Float
+fiveOf P = P .a ∷ P .b ∷ P .c ∷ P .d ∷ P .e ∷ []
 
 pub five-away : (l : List Float) (p : ℕ) (vs : List Float) (q : ℕ) → (q + 5 ≤ p) ⊎ (p + length vs ≤ q) → fiveAt (sets l p vs) q ≡ fiveAt l q
 unfolding fiveAt
@@ -130,14 +130,14 @@ five-away l p vs q h =
     far : (d r : ℕ) → r ≤ q + 4 → q ≤ r → Away p (length vs) r
     far d r a b = ⊎-elim (λ (g : q + 5 ≤ p). inl (omega arith)) (λ (g : p + length vs ≤ q). inr (omega arith)) h
 
-pub five-within : (l : List Float) (p : ℕ) (P : TdParam) → p + 5 ≤ length l → fiveAt (sets l p (fives P)) p ≡ P
+pub five-within : (l : List Float) (p : ℕ) (P : TdParam) → p + 5 ≤ length l → fiveAt (sets l p (fiveOf P)) p ≡ P
 unfolding fiveAt
 five-within l p P h = rw (first, w 1 (omega arith), w 2 (omega arith), w 3 (omega arith), w 4 (omega arith))
   where
-    w : (k : ℕ) → k < 5 → at (sets l p (fives P)) (p + k) ≡ at (fives P) k
-    w k b = at-within (fives P) l p k b h
+    w : (k : ℕ) → k < 5 → at (sets l p (fiveOf P)) (p + k) ≡ at (fiveOf P) k
+    w k b = at-within (fiveOf P) l p k b h
 
-    first : at (sets l p (fives P)) p ≡ P .a
+    first : at (sets l p (fiveOf P)) p ≡ P .a
     first = rw (add-zero p) at (w 0 (omega arith))
 
 -- ---- how many values a model has

@@ -68,17 +68,10 @@ head-ranged m h p e =
 
 -- ---- a model's cells and value are the answer
 
-stale-place : (m : Memory) (h : Head) (c : ℕ) → let d = held (dataIn m h) in
-    among (width d * width d) (λ c. staleCell (modelOf (h .model)) (getD (m .marks) c 0) (c / width d) (c % width d)) c ≡ staleAt m d c
-unfolding staleAt cellAt staleCell isCell
-stale-place m h c =
-    let d = held (dataIn m h) in
-    sym (and-assoc (ltb c (width d * width d)) (isCell d (c / width d) (c % width d)) (not (eqb (getD (m .marks) c 0) 1)))
-
 module _ (m : Memory) (h : Head) (q : Quantity) {c : List Float} {l : List ℕ} {r : Worked} where
   answered-by : Solved (modelOf (h .model)) (width (held (dataIn m h))) (exponential (held (dataIn m h)) (h .t))
       (λ E. valueBy (held (dataIn m h)) (h .t) E (at (h .x)) q) (m .cells) (m .marks) c l r → Answered m h q c l r
-  unfolding worked
+  unfolding worked staleAt cellAt staleCell isCell
   answered-by s =
       record {
         cells = s .refilled .worked ∙ written-same (among (w * w) p) (staleAt m d) f (m .cells) stale-is;
@@ -100,7 +93,7 @@ module _ (m : Memory) (h : Head) (q : Quantity) {c : List Float} {l : List ℕ} 
       f c = exponential (held (dataIn m h)) (h .t) (c / w) (c % w)
 
       stale-is : (c : ℕ) → among (w * w) p c ≡ staleAt m d c
-      stale-is c = stale-place m h c
+      stale-is c = sym (and-assoc (ltb c (w * w)) (isCell d (c / w) (c % w)) (not (eqb (getD (m .marks) c 0) 1)))
 
   pub wilson-answered : modelOf (h .model) ≡ Wilson
       → Solved Wilson (h .n) (energy (energies (h .n) (m .values)) (h .t)) (λ E. wilson (h .n) (volumes (h .n) (m .values)) E (at (h .x)) q) (m .cells) (m .marks) c l r

@@ -31,7 +31,7 @@ use Rattle.mixture.specs.Layout.{modelOf, dataIn, place, numbers, cellAt
 use Rattle.mixture.specs.Calls.{inRange, headWith, headFault, settingFault, stales, stalesAt, setMemory, setHead, afterSetting}
 use Rattle.mixture.specs.Blocks.{inBlock, block, blockOf, headOnly, Settable}
 use Rattle.mixture.proofs.ListLaws.{never, written-same}
-use Rattle.mixture.proofs.PlaceLaws.{below-is, had, fives, store-in}
+use Rattle.mixture.proofs.PlaceLaws.{below-is, had, fiveOf, store-in}
 use Rattle.mixture.proofs.RangeLaws.{first-is, bounds}
 use Rattle.mixture.proofs.CallLaws.{refused, in-range, head-passed}
 use Rattle.mixture.proofs.BlockLaws.{one-cell, one-row, no-cells, every-cell}
@@ -318,7 +318,7 @@ module _ (model : Model) (w i j : ℕ) where
 
 -- ---- numbers in turn
 
-pub put-five : (l : List Float) (at : ℕ) (p : TdParam) → set (set (set (set (set l at (p .a)) (at + 1) (p .b)) (at + 2) (p .c)) (at + 3) (p .d)) (at + 4) (p .e) ≡ sets l at (fives p)
+pub put-five : (l : List Float) (at : ℕ) (p : TdParam) → set (set (set (set (set l at (p .a)) (at + 1) (p .b)) (at + 2) (p .c)) (at + 3) (p .d)) (at + 4) (p .e) ≡ sets l at (fiveOf p)
 put-five l at p = rw (add-one at, add-two at, add-three at, add-four at)
 
 -- ---- a base by model
