@@ -16,7 +16,7 @@ use Rattle.arithmetic.specs.declared.parameters.TdParam.{TdParam}
 use Rattle.arithmetic.proofs.Differences.{either}
 use Rattle.models.specs.declared.answers.Quantity.{Quantity}
 use Rattle.models.specs.Answers.{indexFault}
-use Rattle.models.specs.Exponentials.{groupEnergy}
+use Rattle.models.specs.Exponentials.{energy, groupEnergy}
 use Rattle.models.specs.Wilson.{wilsonAt}
 use Rattle.models.specs.Uniquac.{uniquacAt}
 use Rattle.models.specs.Nrtl.{nrtlAt}
@@ -80,15 +80,12 @@ pub exponential-same : (c d : Held) → Agrees c d → (T : Float) (i j : ℕ) �
 unfolding exponential groupEnergy width
 exponential-same c d a T i j hi hj = go (d .model) (a .alike .model) refl
   where
+    energies : (k : Model) → byModel k true true true false ≡ true → d .model ≡ k → i < d .n → j < d .n → energy (c .entry) T i j ≡ energy (d .entry) T i j
+    energies k u e b g = energy-same (c .entry) (d .entry) T T i j (a .entry i j (entry-there d i j k u e b g)) (a .entry i i (entry-there d i i k u e b b)) refl
+
     go : (k : Model) → c .model ≡ k → d .model ≡ k → exponential c T i j ≡ exponential d T i j
-    go Wilson f e =
-        rw (f, e)
-        (energy-same (c .entry) (d .entry) T T i j (a .entry i j (entry-there d i j Wilson refl e (rw e at hi) (rw e at hj)))
-        (a .entry i i (entry-there d i i Wilson refl e (rw e at hi) (rw e at hi))) refl)
-    go Uniquac f e =
-        rw (f, e)
-        (energy-same (c .entry) (d .entry) T T i j (a .entry i j (entry-there d i j Uniquac refl e (rw e at hi) (rw e at hj)))
-        (a .entry i i (entry-there d i i Uniquac refl e (rw e at hi) (rw e at hi))) refl)
+    go Wilson f e = rw (f, e) (energies Wilson refl e (rw e at hi) (rw e at hj))
+    go Uniquac f e = rw (f, e) (energies Uniquac refl e (rw e at hi) (rw e at hj))
     go Nrtl f e =
         rw (f, e)
         (nonrandomness-same (c .entry) (d .entry) (λ i j. tdAt (c .tdEntry i j) T) (λ i j. tdAt (d .tdEntry i j) T) i j
@@ -118,13 +115,14 @@ unfolding exponential stales setIn groupEnergy
 exponential-still d (Temperature U) T i j h = refl
 exponential-still d (Entry r s v) T i j h = go (d .model) refl
   where
+    energies : (eqb i r && (eqb j s || eqb r s)) ≡ false → energy (replaced (d .entry) r s v) T i j ≡ energy (d .entry) T i j
+    energies q =
+        let b = energy-off i j r s q in
+        energy-same _ (d .entry) T T i j (replaced-off (d .entry) r s v i j (b .0)) (replaced-off (d .entry) r s v i i (b .1)) refl
+
     go : (k : Model) → d .model ≡ k → exponential (setIn (Entry r s v) d) T i j ≡ exponential d T i j
-    go Wilson e =
-        let b = energy-off i j r s (rw e at h) in
-        rw e (energy-same _ (d .entry) T T i j (replaced-off (d .entry) r s v i j (b .0)) (replaced-off (d .entry) r s v i i (b .1)) refl)
-    go Uniquac e =
-        let b = energy-off i j r s (rw e at h) in
-        rw e (energy-same _ (d .entry) T T i j (replaced-off (d .entry) r s v i j (b .0)) (replaced-off (d .entry) r s v i i (b .1)) refl)
+    go Wilson e = rw e (energies (rw e at h))
+    go Uniquac e = rw e (energies (rw e at h))
     go Nrtl e = rw e (nonrandomness-same _ (d .entry) _ (λ i j. tdAt (d .tdEntry i j) T) i j (replaced-off (d .entry) r s v i j (rw e at h)) refl)
     go Unifac e = rw e
 exponential-still d (TdEntry r s p) T i j h = go (d .model) refl

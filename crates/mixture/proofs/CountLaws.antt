@@ -1,6 +1,6 @@
 -- How many cells a model has, and how many of them a setting makes stale: all, a row's n - 1, or at most one.
 use mathlib.Core.Path.{_≡_, refl, sym, _∙_, subst}
-use mathlib.Core.Bool.{Bool, true, false, not, _&&_, _||_, cond, and-true, and-false, or-false}
+use mathlib.Core.Bool.{Bool, true, false, not, _&&_, _||_, cond, and-true, and-false, and-comm, and-assoc, or-true, or-false}
 use mathlib.Core.Logic.{inl, inr}
 use Prim.Native.Nat.{ℕ, zero, suc, _*_, _-_, _<_, _≤_}
 use native.Mathlib.Nat.{zero-mul, suc-mul, eq-or-lt-of-le}
@@ -110,18 +110,8 @@ diagonal-stales d i v t h = go (d .model) refl
   where
     energy : howManyPairs (d .n) (d .n) (λ k l. not (eqb k l) && (eqb k i && (eqb l i || eqb i i))) ≡ d .n - 1
     energy =
-        howManyPairs-same (d .n) (d .n) _ (λ k l. eqb k i && not (eqb k l)) (λ k l a b. rw (eq-eqb i i refl) (swap (eqb l i) (not (eqb k l)) (eqb k i)))
+        howManyPairs-same (d .n) (d .n) _ (λ k l. eqb k i && not (eqb k l)) (λ k l a b. rw (eq-eqb i i refl, or-true (eqb l i), and-true (eqb k i)) (and-comm (not (eqb k l)) (eqb k i)))
         ∙ (pairs-row (d .n) (d .n) i (λ k l. not (eqb k l)) ∙ rw (lt-ltb i (d .n) h) (howMany-but (d .n) i h))
-      where
-        swap : (c a b : Bool) → (a && (b && (c || true))) ≡ (b && a)
-        swap true true true = refl
-        swap true true false = refl
-        swap true false true = refl
-        swap true false false = refl
-        swap false true true = refl
-        swap false true false = refl
-        swap false false true = refl
-        swap false false false = refl
 
     go : (k : Model) → d .model ≡ k → staled d (Entry i i v) ≡ d .n - 1
     go Wilson e = rw e energy
@@ -132,16 +122,10 @@ diagonal-stales d i v t h = go (d .model) refl
 one-stale : (w i j : ℕ) (p : ℕ → ℕ → Bool) → howManyPairs w w (λ k l. p k l && (eqb k i && eqb l j)) ≤ 1
 one-stale w i j p =
     rw (
-      howManyPairs-same w w (λ k l. p k l && (eqb k i && eqb l j)) (λ k l. eqb k i && (eqb l j && p k l)) (λ k l a b. turn (p k l) (eqb k i) (eqb l j)),
+      howManyPairs-same w w (λ k l. p k l && (eqb k i && eqb l j)) (λ k l. eqb k i && (eqb l j && p k l)) (λ k l a b. and-comm (p k l) (eqb k i && eqb l j) ∙ and-assoc (eqb k i) (eqb l j) (p k l)),
       pairs-row w w i (λ k l. eqb l j && p k l),
     )
     (elim (either (ltb i w)) [ inl t ↦ rw t (howMany-one w j (p i)) | inr t ↦ rw t (omega arith) ])
-  where
-    turn : (a b c : Bool) → (a && (b && c)) ≡ (b && (c && a))
-    turn true true c = sym (and-true c)
-    turn true false c = refl
-    turn false true c = sym (and-false c)
-    turn false false c = refl
 
 -- any other entry: at most its own
 pub entry-stales : (d : Held) (i j : ℕ) (v : Float) → byModel (d .model) (not (eqb i j)) (not (eqb i j)) true true ≡ true → staled d (Entry i j v) ≤ 1

@@ -1,9 +1,9 @@
 -- Demand 1, on any memory and with any head: each call is a refusal that leaves all, or writes by place.
 use mathlib.Core.Path.{_≡_, refl, sym, _∙_, subst}
-use mathlib.Core.Bool.{Bool, false, _&&_, and-true}
+use mathlib.Core.Bool.{Bool, false, not, _&&_, and-true}
 use mathlib.Core.List.{List, [], _++_}
 use mathlib.Core.Logic.{_⊎_, inl, inr}
-use Prim.Native.Nat.{ℕ, _+_, _*_, _-_, _<_, _≤_}
+use Prim.Native.Nat.{ℕ, _+_, _*_, _-_, _/_, _%_, _<_, _≤_}
 use native.Mathlib.Omega.{arith}
 use lib.Dec.{leb, ltb, eqb}
 use lib.ListN.{length, drop, length-append, length-drop}
@@ -131,10 +131,13 @@ no-cell : (d : Held) (i : ℕ) → (d .model ≡ Unifac → ⊥) → i < d .n �
 unfolding cellAt width isCell
 no-cell d i u h = go (d .model) refl
   where
+    own : (ltb (i * d .n + i) (d .n * d .n) && not (eqb ((i * d .n + i) / d .n) ((i * d .n + i) % d .n))) ≡ false
+    own = rw (lt-ltb _ _ (cell-lt (d .n) (d .n) i i h h), cell-row (d .n) i i h, cell-column (d .n) i i h, eq-eqb i i refl)
+
     go : (k : Model) → d .model ≡ k → cellAt d (i * d .n + i) ≡ false
-    go Wilson e = rw (e, lt-ltb _ _ (cell-lt (d .n) (d .n) i i h h), cell-row (d .n) i i h, cell-column (d .n) i i h, eq-eqb i i refl)
-    go Uniquac e = rw (e, lt-ltb _ _ (cell-lt (d .n) (d .n) i i h h), cell-row (d .n) i i h, cell-column (d .n) i i h, eq-eqb i i refl)
-    go Nrtl e = rw (e, lt-ltb _ _ (cell-lt (d .n) (d .n) i i h h), cell-row (d .n) i i h, cell-column (d .n) i i h, eq-eqb i i refl)
+    go Wilson e = rw e own
+    go Uniquac e = rw e own
+    go Nrtl e = rw e own
     go Unifac e = absurd (u e)
 
 pub diagonal-kept : DiagonalKept
