@@ -27,12 +27,12 @@ use Rattle.mixture.specs.declared.head.Model.the-variants.{Unifac}
 use Rattle.mixture.specs.declared.setting.Setting.{Setting}
 use Rattle.mixture.specs.declared.setting.Setting.the-variants.{Temperature, Entry, TdEntry, Size, Count}
 use Rattle.mixture.specs.declared.answers.Answer.{Answer}
-use Rattle.mixture.specs.declared.answers.Answer.the-variants.{Done, Value}
+use Rattle.mixture.specs.declared.answers.Answer.the-variants.{Refused, Done, Value}
 use Rattle.mixture.specs.Answers.{numberOf, unless}
 use Rattle.mixture.specs.Lists.{written, padded, anyOf, howMany}
 use Rattle.mixture.specs.Names.{ModelData, Held, held, width, isCell, inputs}
 use Rattle.mixture.specs.Faults.{dataFault, caseFault, mixFault}
-use Rattle.mixture.specs.Memory.{Memory, memory, leastValues, leastCells, leastMarks, After, after}
+use Rattle.mixture.specs.Memory.{Memory, memory, leastValues, leastCells, leastMarks, After}
 use Rattle.mixture.specs.Layout.{dataIn, place, numbers, cellAt}
 use Rattle.mixture.specs.Calls.{memoryFault, inRange, headFault, outcome, freshHead, afterOpen, loadFault, loadedHead, loadedMemory, afterLoad, settingFault, stales, stalesAt, setMemory, setHead, afterSetting, fractionsFault, withFractions, afterFractions, queryFault, exponential, valueBy, staleAt, worked, answered, afterQuery}
 use Rattle.mixture.specs.Book.{Call, Open, Load, Set, Fractions, Query, Book, book, empty, setIn, setT, setModel, bookAfter, gives, touched, touchedCells, plain, having, bookAnswer, isQuery, accepted, sinceAfter, bookAnswers}
@@ -109,6 +109,11 @@ step-by fault k m h a v b since c kept e s z f =
           })
     ]
 
+step-declined : (fault k : ℕ) (m : Memory) (h : Head) (a : After) (b : Book) (since : List Call) (c : Call)
+    → Keeps m h b since → fault ≡ k → bookAnswer b since c ≡ Refused k → (k ≡ 0 → ⊥) → Step (outcome fault m h a) b since c
+unfolding numberOf
+step-declined fault k m h a b since c kept e s n = step-by fault k m h a Done b since c kept e (s ∙ rw (ne-eqb k 0 n)) refl (λ z. absurd (n z))
+
 -- ---- the faults of memory and head
 
 head-none : (m : Memory) (h : Head) → Long m → h .model ≡ 0 → headFault m h ≡ 8
@@ -127,7 +132,7 @@ kept-range m h k = both (ltb (h .model) 5) (inRange (dataIn m h)) (k .range) .1
 step-open : (m : Memory) (h : Head) (b : Book) (since : List Call) → Keeps m h b since → Step (afterOpen m h) b since Open
 unfolding afterOpen bookAnswer bookAfter empty numberOf
 step-open m h b since k =
-    step-by (memoryFault m) 0 m h (after m (freshHead 0 0 0 [] []) Done) Done b since Open k (short-no m (k .long)) refl refl
+    step-by (memoryFault m) 0 m h _ Done b since Open k (short-no m (k .long)) refl refl
     (λ _. (refl, record { long = k .long; kept = refl }))
 
 -- ---- cells at their places
@@ -188,7 +193,7 @@ load-long m d l =
 step-load : (m : Memory) (h : Head) (b : Book) (since : List Call) (d : ModelData) → Keeps m h b since → Step (afterLoad m h d) b since (Load d)
 unfolding afterLoad loadFault bookAnswer bookAfter sinceAfter isQuery numberOf
 step-load m h b since d k =
-    step-by (loadFault m d) (dataFault d) m h (after (loadedMemory m d) (loadedHead d) Done) Done b since (Load d) k (rw (short-no m (k .long))) refl refl
+    step-by (loadFault m d) (dataFault d) m h _ Done b since (Load d) k (rw (short-no m (k .long))) refl refl
     (λ z. (refl, record { long = load-long m d (k .long); kept = load-kept m d since (k .long) (sound d z) }))
 
 -- ---- setting
@@ -297,10 +302,9 @@ step-set : (m : Memory) (h : Head) (o : Option Held) (T : Option Float) (x : Opt
     → Keeps m h (book o T x) since → Step (afterSetting m h s) (book o T x) since (Set s)
 unfolding afterSetting settingFault bookAnswer having bookAfter setModel sinceAfter isQuery numberOf
 step-set m h none T x since s k =
-    step-by (settingFault m h s) 8 m h (after (setMemory m (dataIn m h) s) (setHead h s) Done) Done (book none T x) since (Set s) k
-    (rw (head-none m h (k .long) (k .kept))) refl refl (λ z. absurd (nought 7 z))
+    step-declined (settingFault m h s) 8 m h _ (book none T x) since (Set s) k (rw (head-none m h (k .long) (k .kept))) refl (nought 7)
 step-set m h (some d) T x since s k =
-    step-by (settingFault m h s) (caseFault d s) m h (after (setMemory m (dataIn m h) s) (setHead h s) Done) Done (book (some d) T x) since (Set s) k
+    step-by (settingFault m h s) (caseFault d s) m h _ Done (book (some d) T x) since (Set s) k
     (rw (head-fine m h (k .long) (k .kept .number) (k .kept .range)) (caseFault-same (held (dataIn m h)) d (k .kept .agrees .alike) s)) refl refl
     (λ z. (refl, record { long = set-long m (dataIn m h) s (k .long); kept = set-kept m h d T x since (k .long) (k .kept) s z }))
 
@@ -328,10 +332,9 @@ step-fractions : (m : Memory) (h : Head) (o : Option Held) (T : Option Float) (u
     → Keeps m h (book o T u) since → Step (afterFractions m h x) (book o T u) since (Fractions x)
 unfolding afterFractions fractionsFault bookAnswer having bookAfter sinceAfter isQuery numberOf
 step-fractions m h none T u since x k =
-    step-by (fractionsFault m h x) 8 m h (after m (withFractions h x) Done) Done (book none T u) since (Fractions x) k
-    (rw (head-none m h (k .long) (k .kept))) refl refl (λ z. absurd (nought 7 z))
+    step-declined (fractionsFault m h x) 8 m h _ (book none T u) since (Fractions x) k (rw (head-none m h (k .long) (k .kept))) refl (nought 7)
 step-fractions m h (some d) T u since x k =
-    step-by (fractionsFault m h x) (mixFault (d .n) x) m h (after m (withFractions h x) Done) Done (book (some d) T u) since (Fractions x) k
+    step-by (fractionsFault m h x) (mixFault (d .n) x) m h _ Done (book (some d) T u) since (Fractions x) k
     (rw (head-fine m h (k .long) (k .kept .number) (k .kept .range)) (ap (λ (n : ℕ). mixFault n x) (k .kept .agrees .alike .n))) refl refl
     (λ z. (refl, record { long = k .long; kept = fractions-kept m h d T u since x (mix-length (d .n) x z) (k .kept) }))
 
@@ -431,16 +434,14 @@ step-query : (m : Memory) (h : Head) (o : Option Held) (T : Option Float) (x : O
     → Keeps m h (book o T x) since → Step (afterQuery m h q) (book o T x) since (Query q)
 unfolding afterQuery queryFault answered bookAnswer having bookAfter sinceAfter isQuery numberOf
 step-query m h none T x since q k =
-    step-by (queryFault m h q) 8 m h (answered m (held (dataIn m h)) h q) Done (book none T x) since (Query q) k
-    (rw (head-none m h (k .long) (k .kept))) refl refl (λ z. absurd (nought 7 z))
+    step-declined (queryFault m h q) 8 m h _ (book none T x) since (Query q) k (rw (head-none m h (k .long) (k .kept))) refl (nought 7)
 step-query m h (some d) none x since q k =
-    step-by (queryFault m h q) 9 m h (answered m (held (dataIn m h)) h q) Done (book (some d) none x) since (Query q) k
-    (rw (head-fine m h (k .long) (k .kept .number) (k .kept .range), k .kept .keptT)) refl refl (λ z. absurd (nought 8 z))
+    step-declined (queryFault m h q) 9 m h _ (book (some d) none x) since (Query q) k (rw (head-fine m h (k .long) (k .kept .number) (k .kept .range), k .kept .keptT)) refl (nought 8)
 step-query m h (some d) (some T) none since q k =
-    step-by (queryFault m h q) 9 m h (answered m (held (dataIn m h)) h q) Done (book (some d) (some T) none) since (Query q) k
-    (rw (head-fine m h (k .long) (k .kept .number) (k .kept .range), k .kept .keptT .0, k .kept .keptX)) refl refl (λ z. absurd (nought 8 z))
+    step-declined (queryFault m h q) 9 m h _ (book (some d) (some T) none) since (Query q) k
+    (rw (head-fine m h (k .long) (k .kept .number) (k .kept .range), k .kept .keptT .0, k .kept .keptX)) refl (nought 8)
 step-query m h (some d) (some T) (some x) since q k =
-    step-by (queryFault m h q) (indexFault (d .n) q) m h (answered m (held (dataIn m h)) h q) (Value (plain d T x q) (touchedCells d since))
+    step-by (queryFault m h q) (indexFault (d .n) q) m h _ (Value (plain d T x q) (touchedCells d since))
     (book (some d) (some T) (some x)) since (Query q) k
     (rw (head-fine m h (k .long) (k .kept .number) (k .kept .range), k .kept .keptT .0, k .kept .keptX .0) (ap (λ (n : ℕ). indexFault n q) (k .kept .agrees .alike .n))) refl refl
     (λ z. (

@@ -1,7 +1,7 @@
 -- Demand 1, on any memory and with any head: each call is a refusal that leaves all, or writes by place.
 use mathlib.Core.Path.{_≡_, refl, sym, _∙_, subst}
 use mathlib.Core.Bool.{Bool, false, not, _&&_, and-true}
-use mathlib.Core.List.{List, [], _++_}
+use mathlib.Core.List.{List, _++_}
 use mathlib.Core.Logic.{_⊎_, inl, inr}
 use Prim.Native.Nat.{ℕ, _+_, _*_, _-_, _/_, _%_, _<_, _≤_}
 use native.Mathlib.Omega.{arith}
@@ -16,13 +16,12 @@ use Rattle.arithmetic.proofs.TableLaws.{cell-lt, cell-row, cell-column}
 use Rattle.mixture.specs.declared.head.Head.{Head}
 use Rattle.mixture.specs.declared.head.Model.{Model}
 use Rattle.mixture.specs.declared.head.Model.the-variants.{Wilson, Uniquac, Nrtl, Unifac}
-use Rattle.mixture.specs.declared.answers.Answer.the-variants.{Done}
 use Rattle.mixture.specs.Answers.{numberOf}
 use Rattle.mixture.specs.Names.{Held, held, width, isCell}
 use Rattle.mixture.specs.Faults.{dataFault}
-use Rattle.mixture.specs.Memory.{Memory, After, after}
+use Rattle.mixture.specs.Memory.{Memory, After}
 use Rattle.mixture.specs.Layout.{dataIn, place, numbers, cellAt}
-use Rattle.mixture.specs.Calls.{memoryFault, outcome, freshHead, afterOpen, loadFault, loadedHead, loadedMemory, afterLoad, settingFault, stalesAt, setMemory, setHead, afterSetting, fractionsFault, withFractions, afterFractions, queryFault, staleAt, worked, answered, afterQuery}
+use Rattle.mixture.specs.Calls.{memoryFault, outcome, afterOpen, loadFault, loadedMemory, afterLoad, settingFault, stalesAt, setMemory, afterSetting, fractionsFault, afterFractions, queryFault, staleAt, worked, answered, afterQuery}
 use Rattle.mixture.specs.Book.{Open, Load, Set, Fractions, Query}
 use Rattle.mixture.specs.History.{afterCall}
 use Rattle.mixture.specs.Writes.{callFault, Numbers, Declined, heldBy, valuePlaces, cellPlaces, markPlaces, Writes, OnlyThere, DiagonalKept}
@@ -43,11 +42,11 @@ number-is k m h a z =
 
 pub numbers-are : Numbers
 unfolding afterCall afterOpen afterLoad afterSetting afterFractions afterQuery answered callFault numberOf
-numbers-are m h Open = number-is (memoryFault m) m h (after m (freshHead 0 0 0 [] []) Done) refl
-numbers-are m h (Load d) = number-is (loadFault m d) m h (after (loadedMemory m d) (loadedHead d) Done) refl
-numbers-are m h (Set s) = number-is (settingFault m h s) m h (after (setMemory m (dataIn m h) s) (setHead h s) Done) refl
-numbers-are m h (Fractions x) = number-is (fractionsFault m h x) m h (after m (withFractions h x) Done) refl
-numbers-are m h (Query q) = number-is (queryFault m h q) m h (answered m (held (dataIn m h)) h q) refl
+numbers-are m h Open = number-is (memoryFault m) m h _ refl
+numbers-are m h (Load d) = number-is (loadFault m d) m h _ refl
+numbers-are m h (Set s) = number-is (settingFault m h s) m h _ refl
+numbers-are m h (Fractions x) = number-is (fractionsFault m h x) m h _ refl
+numbers-are m h (Query q) = number-is (queryFault m h q) m h _ refl
 
 -- a number other than 0 leaves memory and head
 declines : (k : ℕ) (m : Memory) (h : Head) (a : After) → (k ≡ 0 → ⊥) → (outcome k m h a .memory ≡ m) × (outcome k m h a .reply .head ≡ h)
@@ -90,9 +89,9 @@ outside p n k h =
 
 pub only-there : OnlyThere
 unfolding loadFault afterCall afterOpen afterLoad loadedMemory afterSetting setMemory stalesAt afterFractions afterQuery answered worked staleAt valuePlaces cellPlaces markPlaces
-only-there m h Open = writes-by _ _ _ m h (memoryFault m) (after m (freshHead 0 0 0 [] []) Done) (λ z. still _ _ _ m h)
+only-there m h Open = writes-by _ _ _ m h (memoryFault m) _ (λ z. still _ _ _ m h)
 only-there m h (Load d) =
-    writes-by _ _ _ m h (loadFault m d) (after (loadedMemory m d) (loadedHead d) Done)
+    writes-by _ _ _ m h (loadFault m d) _
     (λ z.
     record {
       values = λ k p. past (d .values) (m .values) k (ltb-false k (length (d .values)) p);
@@ -105,7 +104,7 @@ only-there m h (Load d) =
       );
     })
 only-there m h (Set s) =
-    writes-by _ _ _ m h (settingFault m h s) (after (setMemory m (dataIn m h) s) (setHead h s) Done)
+    writes-by _ _ _ m h (settingFault m h s) _
     (λ z.
     record {
       values = λ k p. at-away (m .values) (place (dataIn m h) s) (numbers s) k (outside (place (dataIn m h) s) (length (numbers s)) k p);
@@ -113,9 +112,9 @@ only-there m h (Set s) =
       marks = λ c p. getD-kept (stalesAt (held (dataIn m h)) s) (λ c. 0) (m .marks) c 0 p;
       lengths = (length-sets (m .values) (place (dataIn m h) s) (numbers s), refl, length-written (stalesAt (held (dataIn m h)) s) (λ c. 0) (m .marks));
     })
-only-there m h (Fractions x) = writes-by _ _ _ m h (fractionsFault m h x) (after m (withFractions h x) Done) (λ z. still _ _ _ m h)
+only-there m h (Fractions x) = writes-by _ _ _ m h (fractionsFault m h x) _ (λ z. still _ _ _ m h)
 only-there m h (Query q) =
-    writes-by _ _ _ m h (queryFault m h q) (answered m (held (dataIn m h)) h q)
+    writes-by _ _ _ m h (queryFault m h q) _
     (λ z.
     record {
       values = λ k p. refl;
