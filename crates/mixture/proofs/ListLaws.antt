@@ -1,11 +1,12 @@
 -- Lists written at places, padded lists, and counts by rows or in one run.
-use mathlib.Core.Path.{_≡_, refl, ap, _∙_}
-use mathlib.Core.Bool.{Bool, true, false, _||_, cond}
+use mathlib.Core.Path.{_≡_, refl, sym, ap, _∙_}
+use mathlib.Core.Bool.{Bool, true, false, _||_, cond, or-true, or-false}
 use mathlib.Core.List.{List, [], _∷_, _++_}
 use Prim.Native.Nat.{ℕ, zero, suc, _+_, _*_, _<_, _≤_}
 use native.Mathlib.Nat.{add-zero, add-suc, suc-mul, zero-mul, add-assoc}
 use native.Mathlib.Omega.{arith}
-use lib.ListN.{length, getD, replicate}
+use lib.Dec.{eqb, eqb·zero-suc, eqb·suc-zero, eqb·suc-suc}
+use lib.ListN.{length, getD, set, replicate}
 use Rattle.mixture.specs.Lists.{written, howMany, howManyPairs}
 
 -- ---- cases
@@ -60,6 +61,30 @@ pub written-none : {A : Type 0} (p : ℕ → Bool) (f : ℕ → A) (l : List A) 
 unfolding written
 written-none p f [] h = refl
 written-none p f (a ∷ l) h = rw (h 0, ← written-none (λ k. p (suc k)) (λ k. f (suc k)) l (λ c. h (suc c)))
+
+-- one place more
+pub written-set : {A : Type 0} (p q : ℕ → Bool) (f : ℕ → A) (l : List A) (k : ℕ) → ((c : ℕ) → q c ≡ (p c || eqb c k)) → set (written p f l) k (f k) ≡ written q f l
+unfolding written
+written-set p q f [] k h = refl
+written-set {A} p q f (a ∷ l) zero h =
+    rw (h 0, or-true (p 0))
+    (ap (λ (r : List A). f 0 ∷ r) (written-same (λ k. p (suc k)) (λ k. q (suc k)) (λ k. f (suc k)) l (λ c. sym (h (suc c) ∙ rw (eqb·suc-zero c) (or-false (p (suc c)))))))
+written-set p q f (a ∷ l) (suc k) h =
+    rw (h 0, eqb·zero-suc k, or-false (p 0), written-set (λ k. p (suc k)) (λ k. q (suc k)) (λ k. f (suc k)) l k (λ c. h (suc c) ∙ rw (eqb·suc-suc c k)))
+
+-- the places of one test, then those of another
+pub written-both : {A : Type 0} (p q r : ℕ → Bool) (f : ℕ → A) (l : List A) → ((c : ℕ) → r c ≡ (p c || q c)) → written q f (written p f l) ≡ written r f l
+unfolding written
+written-both p q r f [] h = refl
+written-both {A} p q r f (a ∷ l) h =
+    rw (h 0, written-both (λ k. p (suc k)) (λ k. q (suc k)) (λ k. r (suc k)) (λ k. f (suc k)) l (λ c. h (suc c)))
+    (ap (λ (b : A). b ∷ written (λ k. r (suc k)) (λ k. f (suc k)) l) (twice (p 0) (q 0)))
+  where
+    twice : (s t : Bool) → cond t (f 0) (cond s (f 0) a) ≡ cond (s || t) (f 0) a
+    twice true true = refl
+    twice true false = refl
+    twice false true = refl
+    twice false false = refl
 
 -- ---- padded lists
 

@@ -1,6 +1,6 @@
 -- Stale cells worked out place by place, row by row through parts, are `written` and `howMany` over all of them.
 use mathlib.Core.Path.{_≡_, refl, sym, ap, _∙_, subst}
-use mathlib.Core.Bool.{Bool, true, false, _&&_, cond, and-false}
+use mathlib.Core.Bool.{Bool, true, false, _&&_, _||_, cond, and-false, or-true, or-false}
 use mathlib.Core.List.{List, _++_, append-nil}
 use mathlib.Core.Logic.{inl, inr}
 use Prim.Native.Nat.{ℕ, zero, suc, _+_, _*_, _-_, _/_, _%_, _<_, _≤_}
@@ -9,9 +9,9 @@ use native.Mathlib.Numerals.{add-one}
 use native.Mathlib.Omega.{arith}
 use borrow.Rule.Slice.PartMut.{putMid}
 use borrow.Author.Tests.{lt-ltb, le-ltb, eq-eqb, ne-eqb}
-use lib.Dec.{ltb}
-use lib.ListN.{length, getD, set, take, drop, length-set, length-append, length-drop, drop-of-length-le, List·getD-append}
-use lib.Seq.{getD-set-same, getD-set-other, getD-take, getD-drop, getD-append-add, length-take-le, ext-getD}
+use lib.Dec.{ltb, eqb}
+use lib.ListN.{length, getD, set, take, drop, length-append, length-drop, drop-of-length-le, List·getD-append}
+use lib.Seq.{getD-take, getD-drop, getD-append-add, length-take-le, ext-getD}
 use lib.Ieee.{Float, nan}
 use Rattle.arithmetic.specs.Tables.{from}
 use Rattle.arithmetic.proofs.Differences.{le-or}
@@ -21,7 +21,7 @@ use Rattle.mixture.specs.declared.head.Model.the-variants.{Wilson, Uniqu
 use Rattle.mixture.specs.Names.{byModel}
 use Rattle.mixture.specs.Lists.{written, howMany}
 use Rattle.mixture.specs.Refills.{rowCell, staleCell, Refilled}
-use Rattle.mixture.proofs.ListLaws.{never, length-written, length-as, getD-written, getD-kept, written-same, written-as, written-none, howMany-le, howMany-none, howMany-add, howMany-same}
+use Rattle.mixture.proofs.ListLaws.{never, length-written, length-as, getD-written, getD-kept, written-same, written-as, written-none, written-set, howMany-le, howMany-none, howMany-add, howMany-same}
 
 -- ---- a writable part, back
 
@@ -50,22 +50,15 @@ module _ {A : Type 0} (p : ℕ → Bool) (f : ℕ → A) (l : List A) (j : ℕ) 
   written-skip : p j ≡ false → written (among j p) f l ≡ written (among (j + 1) p) f l
   written-skip t = written-same (among j p) (among (j + 1) p) f l (λ c. by-place c j (λ d. among-other j p c (λ q. omega arith)) (λ e. rw (← e, t, and-false, and-false)) (λ d. among-other j p c (λ q. omega arith)))
 
-  written-more : (z v : A) → p j ≡ true → j < length l → v ≡ f j → set (written (among j p) f l) j v ≡ written (among (j + 1) p) f l
-  written-more z v t h e =
-      ext-getD z _ _ (length-set (written (among j p) f l) j v ∙ length-written (among j p) f l ∙ sym (length-written (among (j + 1) p) f l))
-      (λ c b.
-      let k : c < length l = rw (length-set (written (among j p) f l) j v, length-written (among j p) f l) at b in
-      by-place c j (λ d. other c k (ne-of-lt d) (λ q. omega arith))
-      (λ q.
-      rw (← q)
-      (getD-set-same (written (among j p) f l) j v z (rw (length-written (among j p) f l) h)
-      ∙ (e ∙ sym (getD-written (among (j + 1) p) f l j z h ∙ rw (among-in (j + 1) p j (omega arith), t)))))
-      (λ d. other c k (ne-of-gt d) (λ q. omega arith)))
+  written-more : {v : A} → p j ≡ true → v ≡ f j → set (written (among j p) f l) j v ≡ written (among (j + 1) p) f l
+  written-more t e = rw e (written-set (among j p) (among (j + 1) p) f l j more)
     where
-      other : (c : ℕ) → c < length l → (c ≡ j → ⊥) → (j ≡ c → ⊥) → getD (set (written (among j p) f l) j v) c z ≡ getD (written (among (j + 1) p) f l) c z
-      other c k ne en =
-          getD-set-other (written (among j p) f l) j c v z ne
-          ∙ (getD-written (among j p) f l c z k ∙ (ap (λ (t : Bool). cond t (f c) (getD l c z)) (among-other j p c en) ∙ sym (getD-written (among (j + 1) p) f l c z k)))
+      more : (c : ℕ) → among (j + 1) p c ≡ (among j p c || eqb c j)
+      more c =
+          by-place c j
+          (λ d. rw (ne-eqb c j (ne-of-lt d), or-false (among j p c)) (sym (among-other j p c (λ q. omega arith))))
+          (λ q. rw (← q) (among-in (j + 1) p j (omega arith) ∙ (t ∙ sym (rw (eq-eqb j j refl) (or-true (among j p j))))))
+          (λ d. rw (ne-eqb c j (ne-of-gt d), or-false (among j p c)) (sym (among-other j p c (λ q. omega arith))))
 
 -- ---- a stale cell
 
@@ -122,12 +115,12 @@ module _ (p : ℕ → Bool) (f : ℕ → Float) (cells : List Float) (marks : Li
           counted = now .counted ∙ rw (add-one j, t, add-zero);
         }
 
-    refilled-more : {v : Float} → p j ≡ true → j < length cells → j < length marks → v ≡ f j → Refilled (j + 1) p f cells marks (set cells′ j v) (set marks′ j 1) (r + 1)
+    refilled-more : {v : Float} → p j ≡ true → v ≡ f j → Refilled (j + 1) p f cells marks (set cells′ j v) (set marks′ j 1) (r + 1)
     unfolding howMany
-    refilled-more {v} t h k e =
+    refilled-more t e =
         record {
-          worked = rw (now .worked) (written-more p f cells j nan v t h e);
-          marked = rw (now .marked) (written-more p (λ c. 1) marks j 0 1 t k refl);
+          worked = rw (now .worked) (written-more p f cells j t e);
+          marked = rw (now .marked) (written-more p (λ c. 1) marks j t refl);
           counted = rw (add-one j, t, now .counted);
         }
 
@@ -157,9 +150,9 @@ module _ (k : Model) (i : ℕ) {f : ℕ → Float} {cells : List Float} {marks :
   stale-told : b ≡ staleCell k (getD marks j 0) i j
   stale-told = told ∙ ap (λ (mark : ℕ). staleCell k mark i j) (refilled-mark _ f cells marks j (now .all))
 
-  pub row-more : {d : List Float} {m : List ℕ} {s : ℕ} {v : Float} → b ≡ true → j < length cells → j < length marks → v ≡ f j → d ≡ set c j v → m ≡ set l j 1 → s ≡ r + 1
+  pub row-more : {d : List Float} {m : List ℕ} {s : ℕ} {v : Float} → b ≡ true → v ≡ f j → d ≡ set c j v → m ≡ set l j 1 → s ≡ r + 1
       → Refilling (j + 1) (λ c. staleCell k (getD marks c 0) i c) f cells marks d m s
-  row-more t h g e x y z = refilling (refilled-is x y z (refilled-more _ f cells marks j (now .all) (sym stale-told ∙ t) h g e))
+  row-more t e x y z = refilling (refilled-is x y z (refilled-more _ f cells marks j (now .all) (sym stale-told ∙ t) e))
 
   pub row-skip : {d : List Float} {m : List ℕ} {s : ℕ} → b ≡ false → d ≡ c → m ≡ l → s ≡ r → Refilling (j + 1) (λ c. staleCell k (getD marks c 0) i c) f cells marks d m s
   row-skip t x y z = refilling (refilled-is x y z (refilled-skip _ f cells marks j (now .all) (sym stale-told ∙ t)))

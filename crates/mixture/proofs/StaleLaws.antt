@@ -1,12 +1,12 @@
 -- Marks written 0 place after place and row after row, as a list written at the places that pass.
 use mathlib.Core.Path.{_≡_, refl, sym, ap, _∙_}
 use mathlib.Core.Bool.{Bool, true, false, not, _&&_, _||_, cond, or-false, or-true, and-false}
-use mathlib.Core.List.{List, [], _∷_}
+use mathlib.Core.List.{List}
 use Prim.Native.Nat.{ℕ, zero, suc, _+_, _*_, _/_, _%_, _<_, _≤_}
 use mathlib.Core.Logic.{inl, inr}
 use native.Mathlib.Nat.{zero-add, suc-add, add-suc, div-add-mod', mod-lt}
 use native.Mathlib.Omega.{arith}
-use lib.Dec.{leb, ltb, eqb, leb·suc-suc, eqb·zero-suc, eqb·suc-zero, eqb·suc-suc}
+use lib.Dec.{leb, ltb, eqb, leb·suc-suc}
 use lib.ListN.{set}
 use borrow.Author.Tests.{lt-ltb, le-ltb, le-leb, lt-leb, eq-eqb, ne-eqb}
 use Rattle.arithmetic.proofs.Differences.{le-or}
@@ -14,35 +14,8 @@ use Rattle.arithmetic.proofs.TableLaws.{by-place, row-end}
 use Rattle.mixture.specs.declared.stale.Block.{Block}
 use Rattle.mixture.specs.Lists.{written}
 use Rattle.mixture.specs.Blocks.{inBlock}
-use Rattle.mixture.proofs.ListLaws.{written-same, written-none}
+use Rattle.mixture.proofs.ListLaws.{written-same, written-none, written-set, written-both}
 use Rattle.mixture.proofs.PlaceLaws.{eq-cases}
-
--- ---- a list written at places
-
-module _ {A : Type 0} where
-  -- one place more
-  written-set : (p q : ℕ → Bool) (f : ℕ → A) (l : List A) (k : ℕ) → ((c : ℕ) → q c ≡ (p c || eqb c k)) → set (written p f l) k (f k) ≡ written q f l
-  unfolding written
-  written-set p q f [] k h = refl
-  written-set p q f (a ∷ l) zero h =
-      rw (h 0, or-true (p 0))
-      (ap (λ (r : List A). f 0 ∷ r) (written-same (λ k. p (suc k)) (λ k. q (suc k)) (λ k. f (suc k)) l (λ c. sym (h (suc c) ∙ rw (eqb·suc-zero c) (or-false (p (suc c)))))))
-  written-set p q f (a ∷ l) (suc k) h =
-      rw (h 0, eqb·zero-suc k, or-false (p 0), written-set (λ k. p (suc k)) (λ k. q (suc k)) (λ k. f (suc k)) l k (λ c. h (suc c) ∙ rw (eqb·suc-suc c k)))
-
-  -- the places of one, then those of another
-  written-both : (p q r : ℕ → Bool) (f : ℕ → A) (l : List A) → ((c : ℕ) → r c ≡ (p c || q c)) → written q f (written p f l) ≡ written r f l
-  unfolding written
-  written-both p q r f [] h = refl
-  written-both p q r f (a ∷ l) h =
-      rw (h 0, written-both (λ k. p (suc k)) (λ k. q (suc k)) (λ k. r (suc k)) (λ k. f (suc k)) l (λ c. h (suc c)))
-      (ap (λ (b : A). b ∷ written (λ k. r (suc k)) (λ k. f (suc k)) l) (twice (p 0) (q 0)))
-    where
-      twice : (s t : Bool) → cond t (f 0) (cond s (f 0) a) ≡ cond (s || t) (f 0) a
-      twice true true = refl
-      twice true false = refl
-      twice false true = refl
-      twice false false = refl
 
 -- ---- a row
 

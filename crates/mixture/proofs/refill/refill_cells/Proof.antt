@@ -24,7 +24,7 @@ loop-again c =
     let so = turn .before .loop .inv .1 in
     let told = c .before .is-stale .ensures in (
       omega arith,
-      ⊎-elim (λ w. row-more _ _ so told (w .0 .taken) (omega arith) (omega arith) (w .1 .ensures) (w .2) (w .3) (w .4)) (λ w. row-skip _ _ so told (w .0 .left) (w .1) (w .2) (w .3)) (c .if1 .came),
+      ⊎-elim (λ w. row-more _ _ so told (w .0 .taken) (w .1 .ensures) (w .2) (w .3) (w .4)) (λ w. row-skip _ _ so told (w .0 .left) (w .1) (w .2) (w .3)) (c .if1 .came),
     )
 
 returns : tie.Need-returns Inv-loop μ-loop
