@@ -1,4 +1,4 @@
--- A setting by model: what it is declined for, where its numbers stand, and that both look at the head alone.
+-- A setting by model: what it is declined for, where its numbers stand, and that both look at the head alone; the cells that it makes stale, and its reply.
 use mathlib.Core.Path.{_≡_, refl, sym, ap, _∙_}
 use mathlib.Core.Bool.{Bool, true, false, _&&_, _||_, cond, or-false, or-true, and-false}
 use mathlib.Core.List.{List}

@@ -1,4 +1,4 @@
--- Each model's refilled cells hold its exponentials, and its value is that over the cells.
+-- What a model needs of memory; its refilled cells hold its exponentials, and its value is that over the cells.
 use mathlib.Core.Path.{_≡_, refl, sym, ap, _∙_}
 use mathlib.Core.Bool.{Bool}
 use mathlib.Core.List.{List}
