@@ -38,16 +38,28 @@ unifac-requires c κs =
     (head-ranged (memOf (entry top)) _ (passed top .0) (is top (c .before .before .before .before .enum-told4 .given .1)), r .1, r .2, r .3, r .4)
 
 returns : tie.Need-returns
-returns c = wilson-answered _ _ _ (is (c .before .before .before .before .before .before .before .before .before) (c .before .before .before .before .before .before .before .enum-told .given .1)) (c .before .before .before .before .wilson .ensures)
+returns c =
+    let call = c .before .before .before .before in
+    let told = call .before .before .before in
+    wilson-answered _ _ _ (is (told .before .before) (told .enum-told .given .1)) (call .wilson .ensures)
 
 returns-2 : tie.Need-returns-2
-returns-2 c = uniquac-answered _ _ _ (is (c .before .before .before .before .before .before .before .before .before) (c .before .before .before .before .before .before .before .enum-told2 .given .1)) (c .before .before .before .before .uniquac .ensures)
+returns-2 c =
+    let call = c .before .before .before .before in
+    let told = call .before .before .before in
+    uniquac-answered _ _ _ (is (told .before .before) (told .enum-told2 .given .1)) (call .uniquac .ensures)
 
 returns-3 : tie.Need-returns-3
-returns-3 c = nrtl-answered _ _ _ (is (c .before .before .before .before .before .before .before .before .before) (c .before .before .before .before .before .before .before .enum-told3 .given .1)) (c .before .before .before .before .nrtl .ensures)
+returns-3 c =
+    let call = c .before .before .before .before in
+    let told = call .before .before .before in
+    nrtl-answered _ _ _ (is (told .before .before) (told .enum-told3 .given .1)) (call .nrtl .ensures)
 
 returns-4 : tie.Need-returns-4
-returns-4 c = unifac-answered _ _ _ (is (c .before .before .before .before .before .before .before .before .before .before .before) (c .before .before .before .before .before .before .before .before .before .enum-told4 .given .1)) (c .before .before .before .before .unifac .ensures)
+returns-4 c =
+    let call = c .before .before .before .before in
+    let told = call .before .before .before .before .before in
+    unifac-answered _ _ _ (is (told .before .before) (told .enum-told4 .given .1)) (call .unifac .ensures)
 
 pub solve-spec : {M : Type 1} → statement M
 solve-spec =
