@@ -6,6 +6,8 @@ use mathlib.Core.Logic.{inl, inr}
 use Prim.Native.Nat.{ℕ, _<_, _≤_}
 use lib.ListN.{length}
 use borrow.Author.Tests.{le-ltb}
+use lib.Ieee.{Float}
+use Rattle.arithmetic.specs.declared.parameters.TdParam.{TdParam}
 use Rattle.arithmetic.proofs.Differences.{le-or}
 use Rattle.models.specs.Values.{lists}
 use Rattle.mixture.specs.declared.head.Model.{Model}
@@ -14,7 +16,7 @@ use Rattle.mixture.specs.declared.setting.Setting.{Setting}
 use Rattle.mixture.specs.declared.setting.Setting.the-variants.{Temperature, Entry, TdEntry, Size, Count}
 use Rattle.mixture.specs.Names.{byModel, ModelData, Held, held, width, isCell}
 use Rattle.mixture.specs.Faults.{hasEntry, hasTdEntry, hasSize, hasCount, caseFault}
-use Rattle.mixture.specs.Book.{replaced, setIn}
+use Rattle.mixture.specs.Book.{replaced, holding, setIn}
 use Rattle.mixture.proofs.PlaceLaws.{sizeOf}
 use Rattle.mixture.proofs.StoreLaws.{stored, entry-after, td-after, size-after, count-after}
 
@@ -116,14 +118,18 @@ agrees-trans {b} {c} {d} p q =
 
 -- ---- under a setting
 
--- it leaves model, sizes and lists
+-- other values leave model, sizes and lists
+values-alike : (c d : Held) → Alike c d → (e f : ℕ → ℕ → Float) (t u : ℕ → ℕ → TdParam) (s r : ℕ → ℕ → Float) (k l : ℕ → ℕ → Float) → Alike (holding c e t s k) (holding d f u r l)
+values-alike c d a e f t u s r k l =
+    record { model = a .model; n = a .n; groups = λ q. let g = a .groups q in record { ng = g .ng; length = g .length; group = g .group } }
+
 pub set-alike : (s : Setting) (d : Held) → Alike d (setIn s d)
 unfolding setIn
-set-alike (Temperature T) d = record { model = refl; n = refl; groups = λ e. record { ng = refl; length = λ i h. refl; group = λ i p h g. refl } }
-set-alike (Entry i j v) d = record { model = refl; n = refl; groups = λ e. record { ng = refl; length = λ i h. refl; group = λ i p h g. refl } }
-set-alike (TdEntry i j p) d = record { model = refl; n = refl; groups = λ e. record { ng = refl; length = λ i h. refl; group = λ i p h g. refl } }
-set-alike (Size i w v) d = record { model = refl; n = refl; groups = λ e. record { ng = refl; length = λ i h. refl; group = λ i p h g. refl } }
-set-alike (Count i j v) d = record { model = refl; n = refl; groups = λ e. record { ng = refl; length = λ i h. refl; group = λ i p h g. refl } }
+set-alike (Temperature T) d = alike-refl d
+set-alike (Entry i j v) d = values-alike d d (alike-refl d) _ _ _ _ _ _ _ _
+set-alike (TdEntry i j p) d = values-alike d d (alike-refl d) _ _ _ _ _ _ _ _
+set-alike (Size i w v) d = values-alike d d (alike-refl d) _ _ _ _ _ _ _ _
+set-alike (Count i j v) d = values-alike d d (alike-refl d) _ _ _ _ _ _ _ _
 
 replaced-same : {A : Type 0} (f g : ℕ → ℕ → A) (i j : ℕ) (v : A) (r s : ℕ) → f r s ≡ g r s → replaced f i j v r s ≡ replaced g i j v r s
 unfolding replaced
@@ -134,10 +140,10 @@ module _ (c d : Held) (a : Agrees c d) where
   sets-alike : (s : Setting) → Alike (setIn s c) (setIn s d)
   unfolding setIn
   sets-alike (Temperature T) = a .alike
-  sets-alike (Entry i j v) = record { model = a .alike .model; n = a .alike .n; groups = λ e. let l = a .alike .groups e in record { ng = l .ng; length = l .length; group = l .group } }
-  sets-alike (TdEntry i j p) = record { model = a .alike .model; n = a .alike .n; groups = λ e. let l = a .alike .groups e in record { ng = l .ng; length = l .length; group = l .group } }
-  sets-alike (Size i w v) = record { model = a .alike .model; n = a .alike .n; groups = λ e. let l = a .alike .groups e in record { ng = l .ng; length = l .length; group = l .group } }
-  sets-alike (Count i j v) = record { model = a .alike .model; n = a .alike .n; groups = λ e. let l = a .alike .groups e in record { ng = l .ng; length = l .length; group = l .group } }
+  sets-alike (Entry i j v) = values-alike c d (a .alike) _ _ _ _ _ _ _ _
+  sets-alike (TdEntry i j p) = values-alike c d (a .alike) _ _ _ _ _ _ _ _
+  sets-alike (Size i w v) = values-alike c d (a .alike) _ _ _ _ _ _ _ _
+  sets-alike (Count i j v) = values-alike c d (a .alike) _ _ _ _ _ _ _ _
 
   pub set-agrees : (s : Setting) → Agrees (setIn s c) (setIn s d)
   unfolding setIn hasEntry hasTdEntry hasSize hasCount
@@ -182,8 +188,8 @@ store-agrees d s f room =
     let k = set-alike s (held d) in
     record {
       alike = record { model = k .model; n = k .n; groups = λ e. let l = k .groups e in record { ng = l .ng; length = l .length; group = l .group } };
-      entry = λ i j h. entry-after (d .n) (d .ng) (d .lens) (d .groups) (d .values) (d .model) room s f i j (hasEntry-same _ _ k i j ∙ h);
-      tdEntry = λ i j h. td-after (d .n) (d .ng) (d .lens) (d .groups) (d .values) (d .model) room s f i j (hasTdEntry-same _ _ k i j ∙ h);
-      size = λ i w h. size-after (d .n) (d .ng) (d .lens) (d .groups) (d .values) (d .model) room s f i w (hasSize-same _ _ k i w ∙ h);
-      count = λ i j h. count-after (d .n) (d .ng) (d .lens) (d .groups) (d .values) (d .model) room s f i j (hasCount-same _ _ k i j ∙ h);
+      entry = λ i j h. entry-after d room s f i j (hasEntry-same _ _ k i j ∙ h);
+      tdEntry = λ i j h. td-after d room s f i j (hasTdEntry-same _ _ k i j ∙ h);
+      size = λ i w h. size-after d room s f i w (hasSize-same _ _ k i w ∙ h);
+      count = λ i j h. count-after d room s f i j (hasCount-same _ _ k i j ∙ h);
     }

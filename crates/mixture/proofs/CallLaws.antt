@@ -1,5 +1,4 @@
 -- A call is refused with its number, or leaves what it leaves where that is 0; and what a head that passes has shown.
---
 use mathlib.Core.Path.{_≡_, refl, sym, _∙_}
 use mathlib.Core.Bool.{Bool, true, false, _&&_, cond}
 use mathlib.Core.List.{List, _++_}
@@ -8,7 +7,7 @@ use native.Mathlib.Omega.{arith}
 use lib.Dec.{leb, ltb, eqb}
 use lib.ListN.{length, getD, drop, replicate, length-replicate}
 use lib.Ieee.{Float}
-use borrow.Author.Tests.{ltb-true, leb-true, le-leb, eqb-true, eqb-false, lt-ltb, le-ltb, eq-eqb, ne-eqb}
+use borrow.Author.Tests.{le-leb, eqb-true, lt-ltb, le-ltb, eq-eqb, ne-eqb}
 use Rattle.arithmetic.specs.Floats.{+0}
 use Rattle.models.specs.Composition.{tolerance, compositionFault}
 use Rattle.models.specs.Plain.{between, allTo}
@@ -19,14 +18,14 @@ use Rattle.mixture.specs.declared.head.Model.{Model}
 use Rattle.mixture.specs.declared.head.Model.the-variants.{Wilson, Uniquac, Nrtl, Unifac}
 use Rattle.mixture.specs.declared.answers.Answer.the-variants.{Refused, Done}
 use Rattle.mixture.specs.Lists.{written}
-use Rattle.mixture.specs.Names.{byModel, ModelData, held}
+use Rattle.mixture.specs.Names.{byModel, ModelData, held, width}
 use Rattle.mixture.specs.Faults.{dataFault, mixFault}
 use Rattle.mixture.specs.Memory.{Memory, memory, leastValues, leastMarks, short, isShort, After, after}
-use Rattle.mixture.specs.Layout.{modelOf, dataIn, cellAt}
+use Rattle.mixture.specs.Layout.{dataIn, cellAt}
 use Rattle.mixture.specs.Calls.{memoryFault, inRange, headFault, outcome, fractionsFault, loadFault, loadedHead, loadedMemory, afterLoad}
 use Rattle.mixture.proofs.ListLaws.{never}
 use Rattle.mixture.proofs.PlaceLaws.{both, passed, spared, nought}
-use Rattle.mixture.proofs.RangeLaws.{between-is, all-at, at-all, first-is, start-bound, Bounds, bounds, Long, long-is, Sound, sound}
+use Rattle.mixture.proofs.RangeLaws.{at-all, first-is, start-bound, Bounds, bounds, Long, long-is, Sound, sound}
 
 module _ (m : Memory) (h : Head) where
   pub refused : (a : After) {f k : ℕ} → k ≡ f → (k ≡ 0 → ⊥) → after m h (Refused k) ≡ outcome f m h a
@@ -86,67 +85,25 @@ module _ (m : Memory) (h : Head) where
 
 -- ---- slices and a head that pass
 
-pub memory-long : (m : Memory) → memoryFault m ≡ 0 → Long m
+memory-long : (m : Memory) → memoryFault m ≡ 0 → Long m
 unfolding memoryFault
 memory-long m e = long-is m (spared (isShort m) 0 1 (nought 0) e .0)
 
--- UNIFAC's ng and lists
-pub record Lists (h : Head) : Type 0 where
-  pub some : 1 ≤ h .ng
-  pub few : h .ng ≤ 32
-  pub short : (i : ℕ) → i < h .n → getD (h .lens) i 0 ≤ 12
-  pub places : start (h .lens) (h .n) ≤ 144
-  pub below : (p : ℕ) → p < start (h .lens) (h .n) → getD (h .groups) p 0 < h .ng
-
 pub record Passed (m : Memory) (h : Head) : Type 0 where
   pub long : Long m
-  pub model : (1 ≤ h .model) × (h .model < 5)
   pub range : Bounds (dataIn m h)
-  pub lists : modelOf (h .model) ≡ Unifac → Lists h
-
-pub lists-in : (m : Memory) (h : Head) → inRange (dataIn m h) ≡ true → modelOf (h .model) ≡ Unifac → Lists h
-unfolding inRange
-lists-in m h r u =
-    let f = both (between 1 12 (h .n) && between 1 32 (h .ng) && allTo (h .n) (λ i. leb (getD (h .lens) i 0) 12)) _ (rw u at r) in
-    let g = both (between 1 12 (h .n) && between 1 32 (h .ng)) _ (f .0) in
-    let k = both (between 1 12 (h .n)) (between 1 32 (h .ng)) (g .0) in
-    let n = between-is 1 12 (h .n) (k .0) in
-    let ng = between-is 1 32 (h .ng) (k .1) in
-    let short : (i : ℕ) → i < h .n → getD (h .lens) i 0 ≤ 12 = λ i b. leb-true _ _ (all-at (h .n) (λ i. leb (getD (h .lens) i 0) 12) (g .1) i b) in
-    record {
-      some = ng .0;
-      few = ng .1;
-      short = short;
-      places = omega (arith, start-bound (h .lens) (h .n) short, n .1);
-      below = λ p b. ltb-true _ _ (all-at (start (h .lens) (h .n)) (λ p. ltb (getD (h .groups) p 0) (h .ng)) (f .1) p b);
-    }
 
 module _ (m : Memory) (h : Head) (e : headFault m h ≡ 0) where
-  pub in-range : ((h .model ≡ 0) → ⊥) × (ltb (h .model) 5 ≡ true) × (inRange (dataIn m h) ≡ true)
+  pub in-range : inRange (dataIn m h) ≡ true
   unfolding headFault
   in-range =
       let f = first-is (memoryFault m) _ e in
       let g = spared (eqb (h .model) 0) _ 8 (nought 7) (f .1) in
-      let k = both _ _ (passed (ltb (h .model) 5 && inRange (dataIn m h)) 0 1 (nought 0) (g .1) .0) in
-      (eqb-false _ _ (g .0), k .0, k .1)
-
-  long : Long m
-  unfolding headFault
-  long = memory-long m (first-is (memoryFault m) _ e .0)
+      both (ltb (h .model) 5) (inRange (dataIn m h)) (passed (ltb (h .model) 5 && inRange (dataIn m h)) 0 1 (nought 0) (g .1) .0) .1
 
   pub head-passed : Passed m h
-  head-passed =
-      let r = in-range in
-      let some : 1 ≤ h .model = above (h .model) (r .0) in
-      record {
-        long = long;
-        model = (some, ltb-true _ _ (r .1));
-        range = bounds (dataIn m h) (r .2);
-        lists = lists-in m h (r .2);
-      }
-    where
-      above : (k : ℕ) → (k ≡ 0 → ⊥) → 1 ≤ k
-      above k n = omega arith
+  unfolding headFault
+  head-passed = record { long = memory-long m (first-is (memoryFault m) _ e .0); range = bounds (dataIn m h) in-range }
 
 -- n is in range where the head passes with some memory of these lengths
 pub few-by : (h : Head) (lv lc lm : ℕ) {r : ℕ}
@@ -159,41 +116,37 @@ few-by h lv lc lm e z =
 
 -- ---- fractions that pass
 
+pub mix-length : (n : ℕ) (x : List Float) → mixFault n x ≡ 0 → length x ≡ n
+unfolding mixFault
+mix-length n x z = eqb-true (length x) n (passed (eqb (length x) n) 0 7 (nought 6) (first-is (compositionFault tolerance x) _ z .1) .0)
+
 pub fractions-fit : (m : Memory) (h : Head) (x : List Float) → fractionsFault m h x ≡ 0 → length x ≤ 12
-unfolding fractionsFault mixFault
+unfolding fractionsFault
 fractions-fit m h x e =
     let f = first-is (headFault m h) _ e in
-    let long : length x ≡ h .n = eqb-true (length x) (h .n) (passed (eqb (length x) (h .n)) 0 7 (nought 6) (first-is (compositionFault tolerance x) _ (f .1) .1) .0) in
-    omega (arith, long, head-passed m h (f .0) .range .few)
+    omega (arith, mix-length (h .n) x (f .1), head-passed m h (f .0) .range .few)
 
 -- ---- a load that passes
 
-module _ (d : ModelData) (s : Sound d) where
-  sound-range : inRange d ≡ true
-  unfolding inRange
-  sound-range = go (d .model) refl
-    where
-      go : (k : Model) → d .model ≡ k → inRange d ≡ true
-      go Wilson e = rw (e, le-leb 1 (d .n) (s .some), le-leb (d .n) 12 (s .few))
-      go Uniquac e = rw (e, le-leb 1 (d .n) (s .some), le-leb (d .n) 12 (s .few))
-      go Nrtl e = rw (e, le-leb 1 (d .n) (s .some), le-leb (d .n) 12 (s .few))
-      go Unifac e =
-          let l = s .lists e in
-          rw (
-            e,
-            le-leb 1 (d .n) (s .some),
-            le-leb (d .n) 12 (s .few),
-            le-leb 1 (d .ng) (l .some),
-            le-leb (d .ng) 32 (l .few),
-            at-all (d .n) (λ i. leb (getD (d .lens) i 0) 12) (λ i b. le-leb _ _ (l .short i b)),
-            at-all (start (d .lens) (d .n)) (λ p. ltb (getD (d .groups) p 0) (d .ng)) (λ p b. lt-ltb _ _ (l .group p b)),
-          )
-
-  sound-width : (k : Model) → d .model ≡ k → (1 ≤ byModel k (d .n) (d .n) (d .n) (d .ng)) × (byModel k (d .n) (d .n) (d .n) (d .ng) ≤ 32)
-  sound-width Wilson e = (s .some, omega (arith, s .few))
-  sound-width Uniquac e = (s .some, omega (arith, s .few))
-  sound-width Nrtl e = (s .some, omega (arith, s .few))
-  sound-width Unifac e = (s .lists e .some, s .lists e .few)
+sound-range : (d : ModelData) → Sound d → inRange d ≡ true
+unfolding inRange
+sound-range d s = go (d .model) refl
+  where
+    go : (k : Model) → d .model ≡ k → inRange d ≡ true
+    go Wilson e = rw (e, le-leb 1 (d .n) (s .some), le-leb (d .n) 12 (s .few))
+    go Uniquac e = rw (e, le-leb 1 (d .n) (s .some), le-leb (d .n) 12 (s .few))
+    go Nrtl e = rw (e, le-leb 1 (d .n) (s .some), le-leb (d .n) 12 (s .few))
+    go Unifac e =
+        let l = s .lists e in
+        rw (
+          e,
+          le-leb 1 (d .n) (s .some),
+          le-leb (d .n) 12 (s .few),
+          le-leb 1 (d .ng) (l .some),
+          le-leb (d .ng) 32 (l .few),
+          at-all (d .n) (λ i. leb (getD (d .lens) i 0) 12) (λ i b. le-leb _ _ (l .short i b)),
+          at-all (start (d .lens) (d .n)) (λ p. ltb (getD (d .groups) p 0) (d .ng)) (λ p b. lt-ltb _ _ (l .group p b)),
+        )
 
 pub record Fits (m : Memory) (d : ModelData) : Type 0 where
   pub values : length (d .values) ≤ length (m .values)
@@ -202,14 +155,15 @@ pub record Fits (m : Memory) (d : ModelData) : Type 0 where
   pub lists : d .model ≡ Unifac → (length (d .lens) ≤ 12) × (length (d .groups) ≤ 144)
 
 pub load-fits : (m : Memory) (d : ModelData) → memoryFault m ≡ 0 → dataFault d ≡ 0 → Fits m d
-unfolding leastValues leastMarks
+unfolding leastValues leastMarks width
 load-fits m d e f =
     let long = memory-long m e in
     let s = sound d f in
+    let range = bounds d (sound-range d s) in
     record {
-      values = omega (arith, s .size, bounds d (sound-range d s) .values, long .values);
+      values = omega (arith, s .size, range .values, long .values);
       marks = long .marks;
-      width = sound-width d s (d .model) refl;
+      width = range .wide;
       lists = λ u. let l = s .lists u in (omega (arith, l .lens, s .few), omega (arith, l .places, start-bound (d .lens) (d .n) (l .short), s .few));
     }
 

@@ -16,7 +16,7 @@ use Rattle.arithmetic.specs.declared.parameters.TdParam.{TdParam}
 use Rattle.arithmetic.proofs.Differences.{either}
 use Rattle.models.specs.declared.answers.Quantity.{Quantity}
 use Rattle.models.specs.Answers.{indexFault}
-use Rattle.models.specs.Exponentials.{groupEnergy}
+use Rattle.models.specs.Exponentials.{energy, groupEnergy}
 use Rattle.models.specs.Wilson.{wilsonAt}
 use Rattle.models.specs.Uniquac.{uniquacAt}
 use Rattle.models.specs.Nrtl.{nrtlAt}
@@ -36,7 +36,7 @@ use Rattle.mixture.specs.Faults.{hasEntry, hasTdEntry, hasSize, hasCount
 use Rattle.mixture.specs.Calls.{exponential, valueBy, stales}
 use Rattle.mixture.specs.Book.{Call, Load, Set, Fractions, replaced, setIn, setT, gives, plain}
 use Rattle.mixture.proofs.ListLaws.{never, or-none}
-use Rattle.mixture.proofs.PlaceLaws.{passed, nought}
+use Rattle.mixture.proofs.PlaceLaws.{had}
 use Rattle.mixture.proofs.AgreeLaws.{Agrees}
 
 -- ---- names that are there
@@ -80,15 +80,12 @@ pub exponential-same : (c d : Held) → Agrees c d → (T : Float) (i j : ℕ) �
 unfolding exponential groupEnergy width
 exponential-same c d a T i j hi hj = go (d .model) (a .alike .model) refl
   where
+    energies : (k : Model) → byModel k true true true false ≡ true → d .model ≡ k → i < d .n → j < d .n → energy (c .entry) T i j ≡ energy (d .entry) T i j
+    energies k u e b g = energy-same (c .entry) (d .entry) T T i j (a .entry i j (entry-there d i j k u e b g)) (a .entry i i (entry-there d i i k u e b b)) refl
+
     go : (k : Model) → c .model ≡ k → d .model ≡ k → exponential c T i j ≡ exponential d T i j
-    go Wilson f e =
-        rw (f, e)
-        (energy-same (c .entry) (d .entry) T T i j (a .entry i j (entry-there d i j Wilson refl e (rw e at hi) (rw e at hj)))
-        (a .entry i i (entry-there d i i Wilson refl e (rw e at hi) (rw e at hi))) refl)
-    go Uniquac f e =
-        rw (f, e)
-        (energy-same (c .entry) (d .entry) T T i j (a .entry i j (entry-there d i j Uniquac refl e (rw e at hi) (rw e at hj)))
-        (a .entry i i (entry-there d i i Uniquac refl e (rw e at hi) (rw e at hi))) refl)
+    go Wilson f e = rw (f, e) (energies Wilson refl e (rw e at hi) (rw e at hj))
+    go Uniquac f e = rw (f, e) (energies Uniquac refl e (rw e at hi) (rw e at hj))
     go Nrtl f e =
         rw (f, e)
         (nonrandomness-same (c .entry) (d .entry) (λ i j. tdAt (c .tdEntry i j) T) (λ i j. tdAt (d .tdEntry i j) T) i j
@@ -118,13 +115,14 @@ unfolding exponential stales setIn groupEnergy
 exponential-still d (Temperature U) T i j h = refl
 exponential-still d (Entry r s v) T i j h = go (d .model) refl
   where
+    energies : (eqb i r && (eqb j s || eqb r s)) ≡ false → energy (replaced (d .entry) r s v) T i j ≡ energy (d .entry) T i j
+    energies q =
+        let b = energy-off i j r s q in
+        energy-same _ (d .entry) T T i j (replaced-off (d .entry) r s v i j (b .0)) (replaced-off (d .entry) r s v i i (b .1)) refl
+
     go : (k : Model) → d .model ≡ k → exponential (setIn (Entry r s v) d) T i j ≡ exponential d T i j
-    go Wilson e =
-        let b = energy-off i j r s (rw e at h) in
-        rw e (energy-same _ (d .entry) T T i j (replaced-off (d .entry) r s v i j (b .0)) (replaced-off (d .entry) r s v i i (b .1)) refl)
-    go Uniquac e =
-        let b = energy-off i j r s (rw e at h) in
-        rw e (energy-same _ (d .entry) T T i j (replaced-off (d .entry) r s v i j (b .0)) (replaced-off (d .entry) r s v i i (b .1)) refl)
+    go Wilson e = rw e (energies (rw e at h))
+    go Uniquac e = rw e (energies (rw e at h))
     go Nrtl e = rw e (nonrandomness-same _ (d .entry) _ (λ i j. tdAt (d .tdEntry i j) T) i j (replaced-off (d .entry) r s v i j (rw e at h)) refl)
     go Unifac e = rw e
 exponential-still d (TdEntry r s p) T i j h = go (d .model) refl
@@ -170,14 +168,14 @@ no-inputs Unifac i j c t e p = rw (t, p i j)
 pub stales-inputs : (d : Held) (s : Setting) (i j : ℕ) → caseFault d s ≡ 0 → stales d s i j ≡ anyOf (inputs (d .model) i j) (gives (Set s))
 unfolding stales anyOf inputs gives named caseFault hasEntry hasTdEntry
 stales-inputs d (Temperature T) i j f = refl
-stales-inputs d (Entry r s v) i j f = go (d .model) refl (passed (hasEntry d r s) 0 10 (nought 9) f .0)
+stales-inputs d (Entry r s v) i j f = go (d .model) refl (had (hasEntry d r s) 0 f)
   where
     go : (k : Model) → d .model ≡ k → hasEntry d r s ≡ true → stales d (Entry r s v) i j ≡ anyOf (inputs (d .model) i j) (gives (Set (Entry r s v)))
     go Wilson e h = rw e (energy-inputs i j r s)
     go Uniquac e h = rw e (energy-inputs i j r s)
     go Nrtl e h = rw e (sym (or-false (eqb i r && eqb j s)))
     go Unifac e h = never (sym (rw e at h))
-stales-inputs d (TdEntry r s p) i j f = go (d .model) refl (passed (hasTdEntry d r s) 0 10 (nought 9) f .0)
+stales-inputs d (TdEntry r s p) i j f = go (d .model) refl (had (hasTdEntry d r s) 0 f)
   where
     go : (k : Model) → d .model ≡ k → hasTdEntry d r s ≡ true → stales d (TdEntry r s p) i j ≡ anyOf (inputs (d .model) i j) (gives (Set (TdEntry r s p)))
     go Wilson e h = never (sym (rw e at h))

@@ -1,6 +1,6 @@
 -- How many cells a model has, and how many of them a setting makes stale: all, a row's n - 1, or at most one.
 use mathlib.Core.Path.{_≡_, refl, sym, _∙_, subst}
-use mathlib.Core.Bool.{Bool, true, false, not, _&&_, _||_, cond, and-true, and-false, or-false}
+use mathlib.Core.Bool.{Bool, true, false, not, _&&_, _||_, cond, and-true, and-false, and-comm, and-assoc, or-true, or-false}
 use mathlib.Core.Logic.{inl, inr}
 use Prim.Native.Nat.{ℕ, zero, suc, _*_, _-_, _<_, _≤_}
 use native.Mathlib.Nat.{zero-mul, suc-mul, eq-or-lt-of-le}
@@ -17,7 +17,7 @@ use Rattle.mixture.specs.declared.setting.Setting.the-variants.{Temperat
 use Rattle.mixture.specs.Lists.{howMany, howManyPairs}
 use Rattle.mixture.specs.Names.{byModel, Held, width, isCell}
 use Rattle.mixture.specs.Calls.{stales}
-use Rattle.mixture.proofs.ListLaws.{never, howMany-same, howManyPairs-same}
+use Rattle.mixture.proofs.ListLaws.{never, howMany-none, howMany-same, howManyPairs-same}
 
 -- ---- numbers below n
 
@@ -25,11 +25,6 @@ howMany-all : (n : ℕ) → howMany n (λ j. true) ≡ n
 unfolding howMany
 howMany-all zero = refl
 howMany-all (suc n) = rw (howMany-all n) (omega arith)
-
-howMany-none : (n : ℕ) → howMany n (λ j. false) ≡ 0
-unfolding howMany
-howMany-none zero = refl
-howMany-none (suc n) = rw (howMany-none n)
 
 -- all but i
 howMany-but : (n i : ℕ) → i < n → howMany n (λ j. not (eqb i j)) ≡ n - 1
@@ -49,7 +44,7 @@ unfolding howMany
 howMany-one zero j p = omega arith
 howMany-one (suc n) j p =
     elim (either (eqb n j)) [
-      | inl e ↦ rw (e, howMany-same n (λ l. eqb l j && p l) (λ l. false) (λ l b. let q : n ≡ j = eqb-true n j e in rw (ne-eqb l j (λ r. omega arith))), howMany-none n)
+      | inl e ↦ rw (e, howMany-none n (λ l. eqb l j && p l) (λ l b. let q : n ≡ j = eqb-true n j e in rw (ne-eqb l j (λ r. omega arith))))
           (elim (either (p n)) [ inl t ↦ rw t (omega arith) | inr t ↦ rw t (omega arith) ])
       | inr e ↦ rw e (omega (arith, howMany-one n j p))
     ]
@@ -63,7 +58,7 @@ pairs-row (suc m) n i p =
     (elim (either (eqb m i)) [
       | inl e ↦ let q : m ≡ i = eqb-true m i e in rw (e, q, le-ltb i i (omega arith), lt-ltb i (suc i) (omega arith)) (omega arith)
       | inr e ↦
-          rw (e, howMany-none n)
+          rw (e, howMany-none n (λ l. false) (λ l b. refl))
           (elim (le-or m i) [
             | inl g ↦ let l : suc m ≤ i = lt-of m i g (eqb-false m i e) in rw (le-ltb i m g, le-ltb i (suc m) l)
             | inr g ↦ rw (lt-ltb i m g, lt-ltb i (suc m) (omega arith)) (omega arith)
@@ -115,18 +110,8 @@ diagonal-stales d i v t h = go (d .model) refl
   where
     energy : howManyPairs (d .n) (d .n) (λ k l. not (eqb k l) && (eqb k i && (eqb l i || eqb i i))) ≡ d .n - 1
     energy =
-        howManyPairs-same (d .n) (d .n) _ (λ k l. eqb k i && not (eqb k l)) (λ k l a b. rw (eq-eqb i i refl) (swap (eqb l i) (not (eqb k l)) (eqb k i)))
+        howManyPairs-same (d .n) (d .n) _ (λ k l. eqb k i && not (eqb k l)) (λ k l a b. rw (eq-eqb i i refl, or-true (eqb l i), and-true (eqb k i)) (and-comm (not (eqb k l)) (eqb k i)))
         ∙ (pairs-row (d .n) (d .n) i (λ k l. not (eqb k l)) ∙ rw (lt-ltb i (d .n) h) (howMany-but (d .n) i h))
-      where
-        swap : (c a b : Bool) → (a && (b && (c || true))) ≡ (b && a)
-        swap true true true = refl
-        swap true true false = refl
-        swap true false true = refl
-        swap true false false = refl
-        swap false true true = refl
-        swap false true false = refl
-        swap false false true = refl
-        swap false false false = refl
 
     go : (k : Model) → d .model ≡ k → staled d (Entry i i v) ≡ d .n - 1
     go Wilson e = rw e energy
@@ -137,16 +122,10 @@ diagonal-stales d i v t h = go (d .model) refl
 one-stale : (w i j : ℕ) (p : ℕ → ℕ → Bool) → howManyPairs w w (λ k l. p k l && (eqb k i && eqb l j)) ≤ 1
 one-stale w i j p =
     rw (
-      howManyPairs-same w w (λ k l. p k l && (eqb k i && eqb l j)) (λ k l. eqb k i && (eqb l j && p k l)) (λ k l a b. turn (p k l) (eqb k i) (eqb l j)),
+      howManyPairs-same w w (λ k l. p k l && (eqb k i && eqb l j)) (λ k l. eqb k i && (eqb l j && p k l)) (λ k l a b. and-comm (p k l) (eqb k i && eqb l j) ∙ and-assoc (eqb k i) (eqb l j) (p k l)),
       pairs-row w w i (λ k l. eqb l j && p k l),
     )
     (elim (either (ltb i w)) [ inl t ↦ rw t (howMany-one w j (p i)) | inr t ↦ rw t (omega arith) ])
-  where
-    turn : (a b c : Bool) → (a && (b && c)) ≡ (b && (c && a))
-    turn true true c = sym (and-true c)
-    turn true false c = refl
-    turn false true c = sym (and-false c)
-    turn false false c = refl
 
 -- any other entry: at most its own
 pub entry-stales : (d : Held) (i j : ℕ) (v : Float) → byModel (d .model) (not (eqb i j)) (not (eqb i j)) true true ≡ true → staled d (Entry i j v) ≤ 1
@@ -176,7 +155,7 @@ none-stale d = howManyPairs-same (width d) (width d) _ (λ i j. false) (λ i j a
   where
     none : (m n : ℕ) → howManyPairs m n (λ i j. false) ≡ 0
     none zero n = refl
-    none (suc m) n = rw (none m n, howMany-none n)
+    none (suc m) n = rw (none m n, howMany-none n (λ j. false) (λ j b. refl))
 
 pub size-stales : (d : Held) (i which : ℕ) (v : Float) → staled d (Size i which v) ≡ 0
 unfolding stales

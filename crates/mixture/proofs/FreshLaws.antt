@@ -1,10 +1,10 @@
--- Where all the marks that are not 1 are counted on the diagonal, those off it are 1.
+-- Counting what passes, and what a count shows: where all the marks that are not 1 are counted on the diagonal, those off it are 1.
 use mathlib.Core.Path.{_≡_, refl, sym, _∙_, subst}
 use mathlib.Core.Bool.{Bool, true, false, not, _&&_, cond, and-false}
 use mathlib.Core.List.{List}
 use mathlib.Core.Logic.{inl, inr}
 use Prim.Native.Nat.{ℕ, zero, suc, _+_, _*_, _/_, _%_, _<_, _≤_}
-use native.Mathlib.Nat.{zero-mul, div-add-mod', mod-lt, div-lt-iff-lt-mul}
+use native.Mathlib.Nat.{add-zero, le-antisymm, zero-mul, div-add-mod', mod-lt, div-lt-iff-lt-mul}
 use native.Mathlib.Numerals.{add-one}
 use native.Mathlib.Omega.{arith}
 use borrow.Author.Tests.{eq-eqb, ne-eqb, eqb-false}
@@ -17,17 +17,29 @@ use Rattle.mixture.specs.declared.head.Model.the-variants.{Wilson, Uniqu
 use Rattle.mixture.specs.Names.{byModel}
 use Rattle.mixture.specs.Lists.{howMany, howManyPairs}
 use Rattle.mixture.specs.Refills.{staleCell, unmarked}
-use Rattle.mixture.proofs.ListLaws.{never, howMany-rows}
+use Rattle.mixture.proofs.ListLaws.{never, howMany-le, howMany-rows}
 
 -- ---- counting
 
-pub many-none : (p : ℕ → Bool) → 0 ≡ howMany 0 p
-unfolding howMany
-many-none p = refl
+module _ (p : ℕ → Bool) where
+  pub many-none : 0 ≡ howMany 0 p
+  unfolding howMany
+  many-none = refl
 
-pub many-more : (n : ℕ) (p : ℕ → Bool) (b : Bool) → p n ≡ b → howMany n p + cond b 1 0 ≡ howMany (n + 1) p
-unfolding howMany
-many-more n p b e = rw (add-one n, e) refl
+  module _ (n : ℕ) {k : ℕ} (so : k ≡ howMany n p) where
+    pub many-more : {r : ℕ} → p n ≡ true → r ≡ k + 1 → r ≡ howMany (n + 1) p
+    unfolding howMany
+    many-more t e = e ∙ rw (so, add-one n, t)
+
+    pub many-skip : {r : ℕ} → p n ≡ false → r ≡ k → r ≡ howMany (n + 1) p
+    unfolding howMany
+    many-skip t e = e ∙ rw (so, add-one n, t, add-zero)
+
+    pub many-few : k ≤ n
+    many-few = rw so (howMany-le n p)
+
+    pub many-done : (m : ℕ) → n ≤ m → m ≤ n → k ≡ howMany m p
+    many-done m a b = subst (λ (i : ℕ). k ≡ howMany i p) (le-antisymm a b) so
 
 pub is-unmarked : (m : ℕ) → (m ≡ 1 → ⊥) → not (eqb m 1) ≡ true
 is-unmarked m h = rw (ne-eqb m 1 h) refl

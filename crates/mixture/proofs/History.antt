@@ -7,6 +7,7 @@ use mathlib.Core.List.{List, [], _∷_}
 use mathlib.Core.Logic.{inl, inr}
 use mathlib.Core.Option.{Option, none, some}
 use Prim.Native.Nat.{ℕ, _+_, _*_, _/_, _%_, _-_, _<_, _≤_}
+use native.Mathlib.Nat.{mul-le-mul}
 use native.Mathlib.Omega.{arith}
 use lib.Dec.{ltb, eqb}
 use lib.ListN.{length, getD, drop, replicate, length-append, length-drop, List·getD-append}
@@ -19,7 +20,6 @@ use Rattle.arithmetic.proofs.Differences.{either}
 use Rattle.arithmetic.proofs.TableLaws.{cell-lt, cell-row, cell-column}
 use Rattle.models.specs.declared.answers.Quantity.{Quantity}
 use Rattle.models.specs.Answers.{indexFault}
-use Rattle.models.specs.Composition.{tolerance, compositionFault}
 use Rattle.models.specs.Values.{start, lists}
 use Rattle.models.proofs.ListLaws.{list-place}
 use Rattle.mixture.specs.declared.head.Head.{Head}
@@ -27,21 +27,23 @@ use Rattle.mixture.specs.declared.head.Model.the-variants.{Unifac}
 use Rattle.mixture.specs.declared.setting.Setting.{Setting}
 use Rattle.mixture.specs.declared.setting.Setting.the-variants.{Temperature, Entry, TdEntry, Size, Count}
 use Rattle.mixture.specs.declared.answers.Answer.{Answer}
-use Rattle.mixture.specs.declared.answers.Answer.the-variants.{Done, Value}
+use Rattle.mixture.specs.declared.answers.Answer.the-variants.{Refused, Done, Value}
 use Rattle.mixture.specs.Answers.{numberOf, unless}
 use Rattle.mixture.specs.Lists.{written, padded, anyOf, howMany}
 use Rattle.mixture.specs.Names.{ModelData, Held, held, width, isCell, inputs}
 use Rattle.mixture.specs.Faults.{dataFault, caseFault, mixFault}
-use Rattle.mixture.specs.Memory.{Memory, memory, leastValues, leastCells, leastMarks, After, after}
+use Rattle.mixture.specs.Memory.{Memory, memory, leastValues, leastCells, leastMarks, After}
 use Rattle.mixture.specs.Layout.{dataIn, place, numbers, cellAt}
 use Rattle.mixture.specs.Calls.{memoryFault, inRange, headFault, outcome, freshHead, afterOpen, loadFault, loadedHead, loadedMemory, afterLoad, settingFault, stales, stalesAt, setMemory, setHead, afterSetting, fractionsFault, withFractions, afterFractions, queryFault, exponential, valueBy, staleAt, worked, answered, afterQuery}
 use Rattle.mixture.specs.Book.{Call, Open, Load, Set, Fractions, Query, Book, book, empty, setIn, setT, setModel, bookAfter, gives, touched, touchedCells, plain, having, bookAnswer, isQuery, accepted, sinceAfter, bookAnswers}
 use Rattle.mixture.specs.History.{afterCall, answers, History}
 use Rattle.mixture.proofs.ListLaws.{never, or-none, length-written, getD-written, howMany-rows, howManyPairs-same}
-use Rattle.mixture.proofs.PlaceLaws.{both, passed, nought, sizeOf}
+use Rattle.mixture.proofs.PlaceLaws.{both, nought, sizeOf}
 use Rattle.mixture.proofs.StoreLaws.{stored}
 use Rattle.mixture.proofs.AgreeLaws.{Alike, Agrees, caseFault-same, width-same, isCell-same, alike-refl, agrees-trans, set-alike, set-agrees, store-agrees}
-use Rattle.mixture.proofs.RangeLaws.{Long, short-no, long-is, first-is, Sound, sound, bounds}
+use Rattle.mixture.proofs.RangeLaws.{Long, short-no, long-is, Sound, sound, bounds}
+use Rattle.mixture.proofs.CallLaws.{mix-length}
+use Rattle.mixture.proofs.SetLaws.{head-same}
 use Rattle.mixture.proofs.LoadLaws.{left-inRange, left-number, left-unset, left-agrees}
 use Rattle.mixture.proofs.CellLaws.{exponential-same, exponential-still, setT-still, stales-inputs, load-inputs, fractions-inputs, valueBy-same, plain-is}
 
@@ -107,6 +109,11 @@ step-by fault k m h a v b since c kept e s z f =
           })
     ]
 
+step-declined : (fault k : ℕ) (m : Memory) (h : Head) (a : After) (b : Book) (since : List Call) (c : Call)
+    → Keeps m h b since → fault ≡ k → bookAnswer b since c ≡ Refused k → (k ≡ 0 → ⊥) → Step (outcome fault m h a) b since c
+unfolding numberOf
+step-declined fault k m h a b since c kept e s n = step-by fault k m h a Done b since c kept e (s ∙ rw (ne-eqb k 0 n)) refl (λ z. absurd (n z))
+
 -- ---- the faults of memory and head
 
 head-none : (m : Memory) (h : Head) → Long m → h .model ≡ 0 → headFault m h ≡ 8
@@ -117,12 +124,15 @@ head-fine : (m : Memory) (h : Head) → Long m → (h .model ≡ 0 → ⊥) → 
 unfolding headFault
 head-fine m h l n r = rw (short-no m l, ne-eqb (h .model) 0 n, r)
 
+kept-range : (m : Memory) (h : Head) {d : Held} {T : Option Float} {x : Option (List Float)} {since : List Call} → KeptModel m h d T x since → inRange (dataIn m h) ≡ true
+kept-range m h k = both (ltb (h .model) 5) (inRange (dataIn m h)) (k .range) .1
+
 -- ---- open
 
 step-open : (m : Memory) (h : Head) (b : Book) (since : List Call) → Keeps m h b since → Step (afterOpen m h) b since Open
 unfolding afterOpen bookAnswer bookAfter empty numberOf
 step-open m h b since k =
-    step-by (memoryFault m) 0 m h (after m (freshHead 0 0 0 [] []) Done) Done b since Open k (short-no m (k .long)) refl refl
+    step-by (memoryFault m) 0 m h _ Done b since Open k (short-no m (k .long)) refl refl
     (λ _. (refl, record { long = k .long; kept = refl }))
 
 -- ---- cells at their places
@@ -135,7 +145,7 @@ cellAt-is c d a i j hi hj =
 
 -- the cells of a head in range have room
 room : (e : ModelData) (d : Held) → inRange e ≡ true → Alike (held e) d → width d * width d ≤ 1024
-room e d r a = rw (width-same (held e) d a) at (bounds e r .cells)
+room e d r a = let w = rw (width-same (held e) d a) at (bounds e r .wide .1) in mul-le-mul w w
 
 mark-room : (marks : List ℕ) (w : ℕ) → leastMarks ≤ length marks → w * w ≤ 1024 → (i j : ℕ) → i < w → j < w → i * w + j < length marks
 unfolding leastMarks
@@ -152,10 +162,10 @@ load-kept : (m : Memory) (d : ModelData) (since : List Call) → Long m → Soun
 unfolding touched anyOf loadedMemory
 load-kept m d since l s =
     let k = d .model in
-    let range : inRange (dataIn (loadedMemory m d) (loadedHead d)) ≡ true = left-inRange m (d .n) (d .ng) (d .lens) (d .groups) (d .values) k s in
-    let agrees = left-agrees m (d .n) (d .ng) (d .lens) (d .groups) (d .values) k s in
-    let number = left-number m (d .n) (d .ng) (d .lens) (d .groups) (d .values) k in
-    let unset = left-unset m (d .n) (d .ng) (d .lens) (d .groups) (d .values) k in
+    let range : inRange (dataIn (loadedMemory m d) (loadedHead d)) ≡ true = left-inRange m d k s in
+    let agrees = left-agrees m d k s in
+    let number = left-number m d k in
+    let unset = left-unset m d k in
     record {
       number = number .0;
       range = rw (number .1) range;
@@ -183,27 +193,18 @@ load-long m d l =
 step-load : (m : Memory) (h : Head) (b : Book) (since : List Call) (d : ModelData) → Keeps m h b since → Step (afterLoad m h d) b since (Load d)
 unfolding afterLoad loadFault bookAnswer bookAfter sinceAfter isQuery numberOf
 step-load m h b since d k =
-    step-by (loadFault m d) (dataFault d) m h (after (loadedMemory m d) (loadedHead d) Done) Done b since (Load d) k (rw (short-no m (k .long))) refl refl
+    step-by (loadFault m d) (dataFault d) m h _ Done b since (Load d) k (rw (short-no m (k .long))) refl refl
     (λ z. (refl, record { long = load-long m d (k .long); kept = load-kept m d since (k .long) (sound d z) }))
 
 -- ---- setting
 
 -- a setting leaves the head's model, sizes and lists
 set-data : (m : Memory) (h : Head) (s : Setting) → dataIn (setMemory m (dataIn m h) s) (setHead h s) ≡ stored (dataIn m h) s
-unfolding setMemory setHead
-set-data m h (Temperature T) = refl
-set-data m h (Entry i j v) = refl
-set-data m h (TdEntry i j p) = refl
-set-data m h (Size i w v) = refl
-set-data m h (Count i j v) = refl
+unfolding setMemory
+set-data m h s = rw (← head-same h s)
 
 set-number : (h : Head) (s : Setting) → setHead h s .model ≡ h .model
-unfolding setHead
-set-number h (Temperature T) = refl
-set-number h (Entry i j v) = refl
-set-number h (TdEntry i j p) = refl
-set-number h (Size i w v) = refl
-set-number h (Count i j v) = refl
+set-number h s = ap (λ (g : Head). g .model) (sym (head-same h s))
 
 set-keptT : (h : Head) (s : Setting) (T : Option Float) → KeptT T h → KeptT (setT s T) (setHead h s)
 unfolding setHead setT
@@ -214,13 +215,8 @@ set-keptT h (Size i w v) T k = k
 set-keptT h (Count i j v) T k = k
 
 set-keptX : (h : Head) (s : Setting) (x : Option (List Float)) (n : ℕ) → KeptX x n h → KeptX x n (setHead h s)
-unfolding setHead
-set-keptX h (Temperature U) none n k = k
-set-keptX h (Temperature U) (some x) n k = k
-set-keptX h (Entry i j v) x n k = k
-set-keptX h (TdEntry i j p) x n k = k
-set-keptX h (Size i w v) x n k = k
-set-keptX h (Count i j v) x n k = k
+set-keptX h s none n k = rw (← head-same h s) k
+set-keptX h s (some x) n k = rw (← head-same h s) k
 
 mark-step : (t u : Bool) (x y : ℕ) → y ≡ cond t 0 x → eqb x 1 ≡ not u → eqb y 1 ≡ not (t || u)
 mark-step true u x y e h = rw e
@@ -238,9 +234,6 @@ module _ (m : Memory) (h : Head) (d : Held) (T : Option Float) (x : Option (List
   abbrev e : ModelData
   e = dataIn m h
 
-  in-range : inRange e ≡ true
-  in-range = both (ltb (h .model) 5) (inRange e) (k .range) .1
-
   stalesAt-is : (s : Setting) (i j : ℕ) → i < width d → j < width d → isCell d i j ≡ true → stalesAt (held e) s (i * width d + j) ≡ stales d s i j
   unfolding stalesAt
   stalesAt-is s i j hi hj c =
@@ -253,7 +246,7 @@ module _ (m : Memory) (h : Head) (d : Held) (T : Option Float) (x : Option (List
 
   values-room : sizeOf e ≤ length (m .values)
   unfolding leastValues
-  values-room = omega (arith, bounds e in-range .values, l .values)
+  values-room = omega (arith, bounds e (kept-range m h k) .values, l .values)
 
   set-agree : (s : Setting) → caseFault d s ≡ 0 → Agrees (held (dataIn (setMemory m e s) (setHead h s))) (setIn s d)
   set-agree s f =
@@ -271,7 +264,7 @@ module _ (m : Memory) (h : Head) (d : Held) (T : Option Float) (x : Option (List
   set-marks s f i j hi hj c =
       rw (touched-more (Set s) i j, ← (stales-inputs d s i j f))
       (mark-step (stales d s i j) (touched (d .model) since i j) (getD (m .marks) (i * width d + j) 0) _
-      (getD-written (stalesAt (held e) s) (λ c. 0) (m .marks) (i * width d + j) 0 (mark-room (m .marks) (width d) (l .marks) (room e d in-range (k .agrees .alike)) i j hi hj)
+      (getD-written (stalesAt (held e) s) (λ c. 0) (m .marks) (i * width d + j) 0 (mark-room (m .marks) (width d) (l .marks) (room e d (kept-range m h k) (k .agrees .alike)) i j hi hj)
       ∙ rw (stalesAt-is s i j hi hj c))
       (k .marks i j hi hj c))
 
@@ -309,18 +302,13 @@ step-set : (m : Memory) (h : Head) (o : Option Held) (T : Option Float) (x : Opt
     → Keeps m h (book o T x) since → Step (afterSetting m h s) (book o T x) since (Set s)
 unfolding afterSetting settingFault bookAnswer having bookAfter setModel sinceAfter isQuery numberOf
 step-set m h none T x since s k =
-    step-by (settingFault m h s) 8 m h (after (setMemory m (dataIn m h) s) (setHead h s) Done) Done (book none T x) since (Set s) k
-    (rw (head-none m h (k .long) (k .kept))) refl refl (λ z. absurd (nought 7 z))
+    step-declined (settingFault m h s) 8 m h _ (book none T x) since (Set s) k (rw (head-none m h (k .long) (k .kept))) refl (nought 7)
 step-set m h (some d) T x since s k =
-    step-by (settingFault m h s) (caseFault d s) m h (after (setMemory m (dataIn m h) s) (setHead h s) Done) Done (book (some d) T x) since (Set s) k
+    step-by (settingFault m h s) (caseFault d s) m h _ Done (book (some d) T x) since (Set s) k
     (rw (head-fine m h (k .long) (k .kept .number) (k .kept .range)) (caseFault-same (held (dataIn m h)) d (k .kept .agrees .alike) s)) refl refl
     (λ z. (refl, record { long = set-long m (dataIn m h) s (k .long); kept = set-kept m h d T x since (k .long) (k .kept) s z }))
 
 -- ---- fractions
-
-mix-length : (n : ℕ) (x : List Float) → mixFault n x ≡ 0 → length x ≡ n
-unfolding mixFault
-mix-length n x z = eqb-true (length x) n (passed (eqb (length x) n) 0 7 (nought 6) (first-is (compositionFault tolerance x) (cond (eqb (length x) n) 0 7) z .1) .0)
 
 fractions-keptT : (h : Head) (T : Option Float) (x : List Float) → KeptT T h → KeptT T (withFractions h x)
 fractions-keptT h none x k = k
@@ -344,10 +332,9 @@ step-fractions : (m : Memory) (h : Head) (o : Option Held) (T : Option Float) (u
     → Keeps m h (book o T u) since → Step (afterFractions m h x) (book o T u) since (Fractions x)
 unfolding afterFractions fractionsFault bookAnswer having bookAfter sinceAfter isQuery numberOf
 step-fractions m h none T u since x k =
-    step-by (fractionsFault m h x) 8 m h (after m (withFractions h x) Done) Done (book none T u) since (Fractions x) k
-    (rw (head-none m h (k .long) (k .kept))) refl refl (λ z. absurd (nought 7 z))
+    step-declined (fractionsFault m h x) 8 m h _ (book none T u) since (Fractions x) k (rw (head-none m h (k .long) (k .kept))) refl (nought 7)
 step-fractions m h (some d) T u since x k =
-    step-by (fractionsFault m h x) (mixFault (d .n) x) m h (after m (withFractions h x) Done) Done (book (some d) T u) since (Fractions x) k
+    step-by (fractionsFault m h x) (mixFault (d .n) x) m h _ Done (book (some d) T u) since (Fractions x) k
     (rw (head-fine m h (k .long) (k .kept .number) (k .kept .range)) (ap (λ (n : ℕ). mixFault n x) (k .kept .agrees .alike .n))) refl refl
     (λ z. (refl, record { long = k .long; kept = fractions-kept m h d T u since x (mix-length (d .n) x z) (k .kept) }))
 
@@ -360,14 +347,11 @@ module _ (m : Memory) (h : Head) (d : Held) (T : Float) (x : List Float) (since 
   abbrev c : Held
   c = held (dataIn m h)
 
-  range : inRange (dataIn m h) ≡ true
-  range = both (ltb (h .model) 5) (inRange (dataIn m h)) (k .range) .1
-
   same : width c ≡ width d
   same = width-same c d (k .agrees .alike)
 
   small : width d * width d ≤ 1024
-  small = room (dataIn m h) d range (k .agrees .alike)
+  small = room (dataIn m h) d (kept-range m h k) (k .agrees .alike)
 
   -- a place is stale where it is that of a touched cell
   stale-is : (i j : ℕ) → i < width d → j < width d → staleAt m c (i * width d + j) ≡ (isCell d i j && touched (d .model) since i j)
@@ -408,7 +392,7 @@ module _ (m : Memory) (h : Head) (d : Held) (T : Float) (x : List Float) (since 
       let g = k .agrees .alike .groups e in
       subst (λ (z : ℕ). z < d .ng) (g .group i p hi hp)
       (subst (λ (z : ℕ). c .lists .group i p < z) (g .ng)
-      (bounds (dataIn m h) range .groups (k .agrees .alike .model ∙ e) (start (h .lens) i + p)
+      (bounds (dataIn m h) (kept-range m h k) .lists (k .agrees .alike .model ∙ e) .below (start (h .lens) i + p)
       (list-place (h .lens) i (h .n) p (rw (k .agrees .alike .n) hi) (rw (g .length i hi) hp))))
 
   fraction : (i : ℕ) → i < d .n → at (h .x) i ≡ at x i
@@ -450,16 +434,14 @@ step-query : (m : Memory) (h : Head) (o : Option Held) (T : Option Float) (x : O
     → Keeps m h (book o T x) since → Step (afterQuery m h q) (book o T x) since (Query q)
 unfolding afterQuery queryFault answered bookAnswer having bookAfter sinceAfter isQuery numberOf
 step-query m h none T x since q k =
-    step-by (queryFault m h q) 8 m h (answered m (held (dataIn m h)) h q) Done (book none T x) since (Query q) k
-    (rw (head-none m h (k .long) (k .kept))) refl refl (λ z. absurd (nought 7 z))
+    step-declined (queryFault m h q) 8 m h _ (book none T x) since (Query q) k (rw (head-none m h (k .long) (k .kept))) refl (nought 7)
 step-query m h (some d) none x since q k =
-    step-by (queryFault m h q) 9 m h (answered m (held (dataIn m h)) h q) Done (book (some d) none x) since (Query q) k
-    (rw (head-fine m h (k .long) (k .kept .number) (k .kept .range), k .kept .keptT)) refl refl (λ z. absurd (nought 8 z))
+    step-declined (queryFault m h q) 9 m h _ (book (some d) none x) since (Query q) k (rw (head-fine m h (k .long) (k .kept .number) (k .kept .range), k .kept .keptT)) refl (nought 8)
 step-query m h (some d) (some T) none since q k =
-    step-by (queryFault m h q) 9 m h (answered m (held (dataIn m h)) h q) Done (book (some d) (some T) none) since (Query q) k
-    (rw (head-fine m h (k .long) (k .kept .number) (k .kept .range), k .kept .keptT .0, k .kept .keptX)) refl refl (λ z. absurd (nought 8 z))
+    step-declined (queryFault m h q) 9 m h _ (book (some d) (some T) none) since (Query q) k
+    (rw (head-fine m h (k .long) (k .kept .number) (k .kept .range), k .kept .keptT .0, k .kept .keptX)) refl (nought 8)
 step-query m h (some d) (some T) (some x) since q k =
-    step-by (queryFault m h q) (indexFault (d .n) q) m h (answered m (held (dataIn m h)) h q) (Value (plain d T x q) (touchedCells d since))
+    step-by (queryFault m h q) (indexFault (d .n) q) m h _ (Value (plain d T x q) (touchedCells d since))
     (book (some d) (some T) (some x)) since (Query q) k
     (rw (head-fine m h (k .long) (k .kept .number) (k .kept .range), k .kept .keptT .0, k .kept .keptX .0) (ap (λ (n : ℕ). indexFault n q) (k .kept .agrees .alike .n))) refl refl
     (λ z. (

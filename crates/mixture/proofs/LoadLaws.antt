@@ -1,4 +1,5 @@
--- Two data whose values are equal over the model's length hold the same by name: every name is read within it.
+-- Two data whose values are equal over the model's length hold the same by name: every name is read within it. So what a load leaves in memory and
+-- head is what it brought.
 use mathlib.Core.Path.{_≡_, refl, sym, _∙_}
 use mathlib.Core.Bool.{true, false}
 use mathlib.Core.List.{List, [], _++_}
@@ -6,7 +7,7 @@ use Prim.Native.Nat.{ℕ, zero, suc, _+_, _-_, _<_, _≤_}
 use native.Mathlib.Omega.{arith}
 use lib.Dec.{leb, ltb}
 use lib.ListN.{length, getD, drop, replicate, length-append, List·getD-append}
-use lib.Ieee.{Float, nan}
+use lib.Ieee.{nan}
 use borrow.Author.Tests.{le-leb, lt-ltb}
 use Rattle.arithmetic.specs.Tables.{at}
 use Rattle.models.specs.Values.{fiveAt, start, lists}
@@ -49,27 +50,27 @@ module _ (e d : ModelData) (alike : Alike (held e) (held d)) (starts : d .model 
           same (place d s + 4) (omega arith),
         ))
 
-    pub read-agrees : Agrees (held e) (held d)
+    read-agrees : Agrees (held e) (held d)
     unfolding lists
     read-agrees =
         record {
           alike = alike;
           entry = λ i j h.
-              entry-reads (e .n) (e .ng) (e .lens) (e .groups) (e .values) (e .model) i j nan (hasEntry-same _ _ alike i j ∙ h)
-              ∙ (here (Entry i j nan) (entry-in (d .n) (d .ng) (d .lens) (d .groups) (d .values) (d .model) i j nan h)
-              ∙ sym (entry-reads (d .n) (d .ng) (d .lens) (d .groups) (d .values) (d .model) i j nan h));
+              entry-reads e (e .model) i j nan (hasEntry-same _ _ alike i j ∙ h)
+              ∙ (here (Entry i j nan) (entry-in d (d .model) i j nan h)
+              ∙ sym (entry-reads d (d .model) i j nan h));
           tdEntry = λ i j h.
-              td-reads (e .n) (e .ng) (e .lens) (e .groups) (e .values) (e .model) i j (fiveAt [] 0) (hasTdEntry-same _ _ alike i j ∙ h)
-              ∙ (five (TdEntry i j (fiveAt [] 0)) (td-in (d .n) (d .ng) (d .lens) (d .groups) (d .values) (d .model) i j (fiveAt [] 0) h)
-              ∙ sym (td-reads (d .n) (d .ng) (d .lens) (d .groups) (d .values) (d .model) i j (fiveAt [] 0) h));
+              td-reads e (e .model) i j (fiveAt [] 0) (hasTdEntry-same _ _ alike i j ∙ h)
+              ∙ (five (TdEntry i j (fiveAt [] 0)) (td-in d (d .model) i j (fiveAt [] 0) h)
+              ∙ sym (td-reads d (d .model) i j (fiveAt [] 0) h));
           size = λ i w h.
-              size-reads (e .n) (e .ng) (e .lens) (e .groups) (e .values) (e .model) i w nan (hasSize-same _ _ alike i w ∙ h)
-              ∙ (here (Size i w nan) (size-in (d .n) (d .ng) (d .lens) (d .groups) (d .values) (d .model) i w nan h)
-              ∙ sym (size-reads (d .n) (d .ng) (d .lens) (d .groups) (d .values) (d .model) i w nan h));
+              size-reads e (e .model) i w nan (hasSize-same _ _ alike i w ∙ h)
+              ∙ (here (Size i w nan) (size-in d (d .model) i w nan h)
+              ∙ sym (size-reads d (d .model) i w nan h));
           count = λ i j h.
-              count-reads (e .n) (e .ng) (e .lens) (e .groups) (e .values) (e .model) i j nan (hasCount-same _ _ alike i j ∙ h) eroom
-              ∙ (here (Count i j nan) (count-in (d .n) (d .ng) (d .lens) (d .groups) (d .values) (d .model) i j nan h)
-              ∙ sym (count-reads (d .n) (d .ng) (d .lens) (d .groups) (d .values) (d .model) i j nan h droom));
+              count-reads e (e .model) i j nan (hasCount-same _ _ alike i j ∙ h) eroom
+              ∙ (here (Count i j nan) (count-in d (d .model) i j nan h)
+              ∙ sym (count-reads d (d .model) i j nan h droom));
         }
 
 -- ---- the data that an accepted load leaves in memory and head
@@ -82,12 +83,24 @@ start-past m lens (suc i) = rw (start-past m lens i, getD-past m 0 lens i)
 not-unifac : {A : Type 0} (k : Model) → byModel k true true true false ≡ true → k ≡ Unifac → A
 not-unifac k t e = never (sym (rw e at t))
 
-module _ (m : Memory) (n ng : ℕ) (lens groups : List ℕ) (v : List Float) where
-  -- what stands in memory and head after a load for the model k
-  abbrev pub left : Model → ModelData
-  left k = dataIn (loadedMemory m (D n ng lens groups v k)) (loadedHead (D n ng lens groups v k))
+module _ (m : Memory) (d : ModelData) where
+  abbrev n : ℕ
+  n = d .n
 
-  left-alike : (k : Model) → Alike (held (left k)) (held (D n ng lens groups v k))
+  abbrev ng : ℕ
+  ng = d .ng
+
+  abbrev lens : List ℕ
+  lens = d .lens
+
+  abbrev groups : List ℕ
+  groups = d .groups
+
+  -- what stands in memory and head after a load for the model k
+  abbrev left : Model → ModelData
+  left k = dataIn (loadedMemory m (D d k)) (loadedHead (D d k))
+
+  left-alike : (k : Model) → Alike (held (left k)) (held (D d k))
   unfolding loadedMemory loadedHead modelOf lists
   left-alike Wilson = record { model = refl; n = refl; groups = not-unifac Wilson refl }
   left-alike Uniquac = record { model = refl; n = refl; groups = not-unifac Uniquac refl }
@@ -111,14 +124,14 @@ module _ (m : Memory) (n ng : ℕ) (lens groups : List ℕ) (v : List Float) whe
   left-starts Nrtl e i = not-unifac Nrtl refl e
   left-starts Unifac e i = start-past (12 - length lens) lens i
 
-  pub left-size : (k : Model) → sizeOf (left k) ≡ sizeOf (D n ng lens groups v k)
+  left-size : (k : Model) → sizeOf (left k) ≡ sizeOf (D d k)
   unfolding loadedHead modelOf
   left-size Wilson = refl
   left-size Uniquac = refl
   left-size Nrtl = refl
   left-size Unifac = rw (start-past (12 - length lens) lens n)
 
-  pub left-inRange : (k : Model) → Sound (D n ng lens groups v k) → inRange (left k) ≡ true
+  pub left-inRange : (k : Model) → Sound (D d k) → inRange (left k) ≡ true
   unfolding loadedHead modelOf inRange
   left-inRange Wilson s = rw (le-leb 1 n (s .some), le-leb n 12 (s .few))
   left-inRange Uniquac s = rw (le-leb 1 n (s .some), le-leb n 12 (s .few))
@@ -135,24 +148,24 @@ module _ (m : Memory) (n ng : ℕ) (lens groups : List ℕ) (v : List Float) whe
         at-all (start lens n) (λ p. ltb (getD (padded 144 0 groups) p 0) ng) (λ p b. rw (getD-past (144 - length groups) 0 groups p) (lt-ltb _ _ (l .group p b))),
       )
 
-  pub left-number : (k : Model) → (loadedHead (D n ng lens groups v k) .model ≡ 0 → ⊥) × (ltb (loadedHead (D n ng lens groups v k) .model) 5 ≡ true)
+  pub left-number : (k : Model) → (loadedHead (D d k) .model ≡ 0 → ⊥) × (ltb (loadedHead (D d k) .model) 5 ≡ true)
   unfolding loadedHead
   left-number Wilson = (nought 0, refl)
   left-number Uniquac = (nought 1, refl)
   left-number Nrtl = (nought 2, refl)
   left-number Unifac = (nought 3, refl)
 
-  pub left-unset : (k : Model) → (loadedHead (D n ng lens groups v k) .«has_t» ≡ false) × (loadedHead (D n ng lens groups v k) .«has_x» ≡ false)
+  pub left-unset : (k : Model) → (loadedHead (D d k) .«has_t» ≡ false) × (loadedHead (D d k) .«has_x» ≡ false)
   unfolding loadedHead
   left-unset Wilson = (refl, refl)
   left-unset Uniquac = (refl, refl)
   left-unset Nrtl = (refl, refl)
   left-unset Unifac = (refl, refl)
 
-  pub left-agrees : (k : Model) → Sound (D n ng lens groups v k) → Agrees (held (left k)) (held (D n ng lens groups v k))
+  pub left-agrees : (k : Model) → Sound (D d k) → Agrees (held (left k)) (held (D d k))
   unfolding loadedMemory
   left-agrees k s =
-      read-agrees (left k) (D n ng lens groups v k) (left-alike k) (left-starts k)
-      (λ p h. List·getD-append v (drop (length v) (m .values)) nan p (rw (s .size) h))
-      (rw (left-size k, ← (s .size), length-append v (drop (length v) (m .values))) (omega arith))
+      read-agrees (left k) (D d k) (left-alike k) (left-starts k)
+      (λ p h. List·getD-append (d .values) (drop (length (d .values)) (m .values)) nan p (rw (s .size) h))
+      (rw (left-size k, ← (s .size), length-append (d .values) (drop (length (d .values)) (m .values))) (omega arith))
       (rw (s .size) (omega arith))

@@ -39,6 +39,22 @@ below-is i m j n h = let b = both (ltb i m) (ltb j n) h in (ltb-true i m (b .0),
 pub eq-cases : (a b : ℕ) → (a ≡ b) ⊎ (a ≡ b → ⊥)
 eq-cases a b = elim (either (eqb a b)) [ inl e ↦ inl (eqb-true a b e) | inr e ↦ inr (eqb-false a b e) ]
 
+-- what passing a test shows
+pub passed : (t : Bool) (x k : ℕ) → (k ≡ 0 → ⊥) → cond t x k ≡ 0 → (t ≡ true) × (x ≡ 0)
+passed true x k n h = (refl, h)
+passed false x k n h = absurd (n h)
+
+pub spared : (t : Bool) (x k : ℕ) → (k ≡ 0 → ⊥) → cond t k x ≡ 0 → (t ≡ false) × (x ≡ 0)
+spared true x k n h = absurd (n h)
+spared false x k n h = (refl, h)
+
+pub nought : (k : ℕ) → suc k ≡ 0 → ⊥
+nought k h = omega arith
+
+-- 10 is the number of a name that the model doesn't have
+pub had : (t : Bool) (x : ℕ) → cond t x 10 ≡ 0 → t ≡ true
+had t x h = passed t x 10 (nought 9) h .0
+
 -- two pairs are one where a number of theirs is, and it tells them apart
 eqb-pair : (i j k l p q : ℕ) → (p ≡ q → (i ≡ k) × (j ≡ l)) → ((i ≡ k) → (j ≡ l) → p ≡ q) → eqb p q ≡ (eqb i k && eqb j l)
 eqb-pair i j k l p q f g =
@@ -54,7 +70,7 @@ eqb-pair i j k l p q f g =
 -- ---- rows
 
 -- a place of rows of n is another's only where row and column are
-pub place-is : (n i j k l : ℕ) → j < n → l < n → i * n + j ≡ k * n + l → (i ≡ k) × (j ≡ l)
+place-is : (n i j k l : ℕ) → j < n → l < n → i * n + j ≡ k * n + l → (i ≡ k) × (j ≡ l)
 place-is n i j k l b c e = (
   sym (cell-row n i j b) ∙ (ap (λ (p : ℕ). p / n) e ∙ cell-row n k l c),
   sym (cell-column n i j b) ∙ (ap (λ (p : ℕ). p % n) e ∙ cell-column n k l c),
@@ -89,7 +105,7 @@ at-away l p (a ∷ vs) q h =
     at-away (set l p a) (suc p) vs q (⊎-elim (λ (g : q < p). inl (omega arith)) (λ (g : p + suc (length vs) ≤ q). inr (omega arith)) h)
     ∙ getD-set-other l p q a nan (λ e. ⊎-elim (λ (g : q < p). omega arith) (λ (g : p + suc (length vs) ≤ q). omega arith) h)
 
-pub at-within : (vs l : List Float) (p k : ℕ) → k < length vs → p + length vs ≤ length l → at (sets l p vs) (p + k) ≡ at vs k
+at-within : (vs l : List Float) (p k : ℕ) → k < length vs → p + length vs ≤ length l → at (sets l p vs) (p + k) ≡ at vs k
 at-within [] l p k h g = absurd (omega arith)
 at-within (a ∷ vs) l p zero h g =
     rw (add-zero p) (at-away (set l p a) (suc p) vs p (inl (omega arith)) ∙ getD-set-same l p a nan (omega arith))
@@ -97,8 +113,8 @@ at-within (a ∷ vs) l p (suc k) h g =
     rw (add-suc p k, ← (suc-add p k)) (at-within vs (set l p a) (suc p) k (omega arith) (rw (length-set l p a) (omega arith)))
 
 -- a td entry's five
-abbrev pub fives : TdParam → List Float
-fives P = P .a ∷ P .b ∷ P .c ∷ P .d ∷ P .e ∷ []
+abbrev pub fiveOf : TdParam → List Float
+fiveOf P = P .a ∷ P .b ∷ P .c ∷ P .d ∷ P .e ∷ []
 
 pub five-away : (l : List Float) (p : ℕ) (vs : List Float) (q : ℕ) → (q + 5 ≤ p) ⊎ (p + length vs ≤ q) → fiveAt (sets l p vs) q ≡ fiveAt l q
 unfolding fiveAt
@@ -114,14 +130,14 @@ five-away l p vs q h =
     far : (d r : ℕ) → r ≤ q + 4 → q ≤ r → Away p (length vs) r
     far d r a b = ⊎-elim (λ (g : q + 5 ≤ p). inl (omega arith)) (λ (g : p + length vs ≤ q). inr (omega arith)) h
 
-pub five-within : (l : List Float) (p : ℕ) (P : TdParam) → p + 5 ≤ length l → fiveAt (sets l p (fives P)) p ≡ P
+pub five-within : (l : List Float) (p : ℕ) (P : TdParam) → p + 5 ≤ length l → fiveAt (sets l p (fiveOf P)) p ≡ P
 unfolding fiveAt
 five-within l p P h = rw (first, w 1 (omega arith), w 2 (omega arith), w 3 (omega arith), w 4 (omega arith))
   where
-    w : (k : ℕ) → k < 5 → at (sets l p (fives P)) (p + k) ≡ at (fives P) k
-    w k b = at-within (fives P) l p k b h
+    w : (k : ℕ) → k < 5 → at (sets l p (fiveOf P)) (p + k) ≡ at (fiveOf P) k
+    w k b = at-within (fiveOf P) l p k b h
 
-    first : at (sets l p (fives P)) p ≡ P .a
+    first : at (sets l p (fiveOf P)) p ≡ P .a
     first = rw (add-zero p) at (w 0 (omega arith))
 
 -- ---- how many values a model has
@@ -143,10 +159,22 @@ list-once lens i j r s h g e =
 
 -- ---- the bounds of each case's places
 
-module _ (n ng : ℕ) (lens groups : List ℕ) (v : List Float) where
-  -- the same sizes and values for a model k
+module _ (d : ModelData) where
+  abbrev n : ℕ
+  n = d .n
+
+  abbrev ng : ℕ
+  ng = d .ng
+
+  abbrev lens : List ℕ
+  lens = d .lens
+
+  abbrev v : List Float
+  v = d .values
+
+  -- the same sizes and values for a model k; D (d .model) is d
   abbrev pub D : Model → ModelData
-  D k = record { model = k; n = n; ng = ng; lens = lens; groups = groups; values = v }
+  D k = record { model = k; n = n; ng = ng; lens = lens; groups = d .groups; values = v }
 
   entry-bounds : (k : Model) (i j : ℕ) (a : Float) → hasEntry (held (D k)) i j ≡ true
       → (byModel k 0 0 (n * n * 5) 0 ≤ place (D k) (Entry i j a))
@@ -371,23 +399,11 @@ module _ (n ng : ℕ) (lens groups : List ℕ) (v : List Float) where
       → place (D k) (Count i j a) + 1 ≤ sizeOf (D k)
   count-in k i j a h = let b = count-bounds k i j a h in omega arith
 
--- what passing a test shows
-pub passed : (t : Bool) (x k : ℕ) → (k ≡ 0 → ⊥) → cond t x k ≡ 0 → (t ≡ true) × (x ≡ 0)
-passed true x k n h = (refl, h)
-passed false x k n h = absurd (n h)
-
-pub spared : (t : Bool) (x k : ℕ) → (k ≡ 0 → ⊥) → cond t k x ≡ 0 → (t ≡ false) × (x ≡ 0)
-spared true x k n h = absurd (n h)
-spared false x k n h = (refl, h)
-
-pub nought : (k : ℕ) → suc k ≡ 0 → ⊥
-nought k h = omega arith
-
 -- a setting's numbers stay within the model's values
 pub store-in : (d : ModelData) (s : Setting) → caseFault (held d) s ≡ 0 → place d s + length (numbers s) ≤ sizeOf d
 unfolding caseFault place
 store-in d (Temperature T) f = omega arith
-store-in d (Entry i j a) f = entry-in (d .n) (d .ng) (d .lens) (d .groups) (d .values) (d .model) i j a (passed (hasEntry (held d) i j) 0 10 (nought 9) f .0)
-store-in d (TdEntry i j p) f = td-in (d .n) (d .ng) (d .lens) (d .groups) (d .values) (d .model) i j p (passed (hasTdEntry (held d) i j) 0 10 (nought 9) f .0)
-store-in d (Size i w a) f = size-in (d .n) (d .ng) (d .lens) (d .groups) (d .values) (d .model) i w a (passed (hasSize (held d) i w) 0 10 (nought 9) f .0)
-store-in d (Count i j a) f = count-in (d .n) (d .ng) (d .lens) (d .groups) (d .values) (d .model) i j a (passed (hasCount (held d) i j) _ 10 (nought 9) f .0)
+store-in d (Entry i j a) f = entry-in d (d .model) i j a (had (hasEntry (held d) i j) 0 f)
+store-in d (TdEntry i j p) f = td-in d (d .model) i j p (had (hasTdEntry (held d) i j) 0 f)
+store-in d (Size i w a) f = size-in d (d .model) i w a (had (hasSize (held d) i w) 0 f)
+store-in d (Count i j a) f = count-in d (d .model) i j a (had (hasCount (held d) i j) _ f)

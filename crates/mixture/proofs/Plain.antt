@@ -13,11 +13,12 @@ use lib.Ieee.{Float, nan, lt}
 use borrow.Author.Tests.{le-leb, lt-ltb, eq-eqb, eqb-true}
 use Rattle.arithmetic.specs.Floats.{+0}
 use Rattle.arithmetic.specs.Tables.{at, from}
+use Rattle.arithmetic.specs.declared.parameters.TdParam.{TdParam}
 use Rattle.arithmetic.proofs.Differences.{either}
 use Rattle.arithmetic.proofs.TableLaws.{cell-lt, from-at}
 use Rattle.models.specs.declared.answers.Quantity.{Quantity}
 use Rattle.models.specs.declared.answers.Answer.the-variants.{Value}
-use Rattle.models.specs.Answers.{answer, first, firstTo, indexFault, numberOf as plainNumber, valuesOf as plainValues}
+use Rattle.models.specs.Answers.{answer, first, indexFault, numberOf as plainNumber, valuesOf as plainValues}
 use Rattle.models.specs.Composition.{tolerance, compositionFault}
 use Rattle.models.specs.Plain.{shapeFault, fractionsFault, listsFault, placeFault, groupsFault, unifacFault, wilsonPlain, uniquacPlain, nrtlPlain, unifacPlain}
 use Rattle.models.specs.Values.{tdGrid, wilsonSize, energies, volumes, uniquacSize, rs, qs, nrtlSize, taus, alphas, countsAt, groupRs, groupQs, groupAs, start, unifacSize, lists}
@@ -33,12 +34,12 @@ use Rattle.mixture.specs.Lists.{row, rows}
 use Rattle.mixture.specs.Names.{byModel, ModelData, Held, held, entries, tdEntries, sizes}
 use Rattle.mixture.specs.Faults.{dataFault, hasEntry, hasTdEntry, hasSize, hasCount, caseFault, mixFault}
 use Rattle.mixture.specs.Calls.{exponential}
-use Rattle.mixture.specs.Book.{Call, Open, Load, Set, Fractions, Query, Book, book, empty, replaced, setIn, setModel, bookAfter, plain, having, touchedCells, bookAnswer, accepted, sinceAfter, bookAnswers, bookOf, sinceOf}
+use Rattle.mixture.specs.Book.{Call, Open, Load, Set, Fractions, Query, Book, book, empty, replaced, holding, setIn, setModel, bookAfter, plain, having, touchedCells, bookAnswer, accepted, sinceAfter, bookAnswers, bookOf, sinceOf}
 use Rattle.mixture.specs.Plain.{fives, valuesIn, dataOf, plainCall, OneMore, PlainCall}
 use Rattle.mixture.proofs.ListLaws.{never}
 use Rattle.mixture.proofs.PlaceLaws.{passed, spared, nought, below-is, sizeOf}
 use Rattle.mixture.proofs.AgreeLaws.{Agrees, set-alike}
-use Rattle.mixture.proofs.RangeLaws.{first-is, at-all, Sound, sound}
+use Rattle.mixture.proofs.RangeLaws.{first-is, firstTo-none, at-all, Sound, sound}
 use Rattle.mixture.proofs.CellLaws.{exponential-same, valueBy-same, plain-is}
 use Rattle.mixture.proofs.RowLaws.{getD-after, getD-before, length-row, row-at, before, before-in, before-start, InRow, in-row, length-rows, rows-at, length-table, table-at, length-tds, tds-at, five-after, five-before}
 
@@ -76,19 +77,32 @@ module _ (d : Held) where
   unfolding countsAt
   length-front = rw (length-append (sizes0 ng ++ sizes1 ng) (tds ng), length-groups, length-tds ng ng (d .tdEntry))
 
+  -- the parts that the values of Wilson and UNIQUAC begin with
+  in-table : (ys : List Float) (i j : ℕ) → i < n → j < n → at (table ++ ys) (i * n + j) ≡ d .entry i j
+  in-table ys i j h g = getD-before table ys (n * n) (i * n + j) nan (length-table n n (d .entry)) (cell-lt n n i j h g) ∙ table-at n n (d .entry) i j nan h g
+
+  in-sizes : (i : ℕ) → i < n → at (table ++ sizes0 n) (n * n + i) ≡ d .size i 0
+  in-sizes i h = getD-after table (sizes0 n) (n * n) i nan (length-table n n (d .entry)) ∙ row-at n (λ i. d .size i 0) i nan h
+
+  in-two : (k : ℕ) → k < n * n + n → at (table ++ sizes0 n ++ sizes1 n) k ≡ at (table ++ sizes0 n) k
+  in-two k h = getD-before (table ++ sizes0 n) (sizes1 n) (n * n + n) k nan length-two h
+
+  -- those that UNIFAC's begin with
+  in-groups : (k : ℕ) → k < ng + ng → at (sizes0 ng ++ sizes1 ng ++ tds ng ++ counts) k ≡ at (sizes0 ng ++ sizes1 ng) k
+  unfolding countsAt
+  in-groups k h =
+      getD-before (sizes0 ng ++ sizes1 ng ++ tds ng) counts (ng + ng + ng * ng * 5) k nan length-front (omega arith)
+      ∙ getD-before (sizes0 ng ++ sizes1 ng) (tds ng) (ng + ng) k nan length-groups h
+
   entry-back : (i j : ℕ) → hasEntry d i j ≡ true → entries (dataOf d) i j ≡ d .entry i j
   unfolding entries valuesIn energies alphas hasEntry
   entry-back i j h = go (d .model) refl
     where
       go : (k : Model) → d .model ≡ k → entries (dataOf d) i j ≡ d .entry i j
-      go Wilson e =
-          let b = below-is i n j n (rw e at h) in
-          rw e (getD-before table (sizes0 n) (n * n) (i * n + j) nan (length-table n n (d .entry)) (cell-lt n n i j (b .0) (b .1)) ∙ table-at n n (d .entry) i j nan (b .0) (b .1))
+      go Wilson e = let b = below-is i n j n (rw e at h) in rw e (in-table (sizes0 n) i j (b .0) (b .1))
       go Uniquac e =
           let b = below-is i n j n (rw e at h) in
-          rw e
-          (getD-before (table ++ sizes0 n) (sizes1 n) (n * n + n) (i * n + j) nan length-two (omega (arith, cell-lt n n i j (b .0) (b .1)))
-          ∙ getD-before table (sizes0 n) (n * n) (i * n + j) nan (length-table n n (d .entry)) (cell-lt n n i j (b .0) (b .1)) ∙ table-at n n (d .entry) i j nan (b .0) (b .1))
+          rw e (in-two (i * n + j) (omega (arith, cell-lt n n i j (b .0) (b .1))) ∙ in-table (sizes0 n) i j (b .0) (b .1))
       go Nrtl e =
           let b = below-is i n j n (rw e at h) in
           rw e (getD-after (tds n) table (n * n * 5) (i * n + j) nan (length-tds n n (d .tdEntry)) ∙ table-at n n (d .entry) i j nan (b .0) (b .1))
@@ -111,19 +125,13 @@ module _ (d : Held) where
           ∙ five-after (sizes0 ng ++ sizes1 ng) (tds ng) (ng + ng) ((i * ng + j) * 5) length-groups ∙ tds-at ng ng (d .tdEntry) i j (b .0) (b .1))
 
   size-back : (i w : ℕ) → hasSize d i w ≡ true → sizes (dataOf d) i w ≡ d .size i w
-  unfolding sizes valuesIn volumes rs qs groupRs groupQs hasSize countsAt
+  unfolding sizes valuesIn volumes rs qs groupRs groupQs hasSize
   size-back i w h = go (d .model) refl w h
     where
       go : (k : Model) → d .model ≡ k → (w : ℕ) → hasSize d i w ≡ true → sizes (dataOf d) i w ≡ d .size i w
-      go Wilson e zero h =
-          let b = below-is i n 0 1 (rw e at h) in
-          rw e (getD-after table (sizes0 n) (n * n) i nan (length-table n n (d .entry)) ∙ row-at n (λ i. d .size i 0) i nan (b .0))
+      go Wilson e zero h = let b = below-is i n 0 1 (rw e at h) in rw e (in-sizes i (b .0))
       go Wilson e (suc w) h = let b = below-is i n (suc w) 1 (rw e at h) in absurd (omega arith)
-      go Uniquac e zero h =
-          let b = below-is i n 0 2 (rw e at h) in
-          rw e
-          (getD-before (table ++ sizes0 n) (sizes1 n) (n * n + n) (n * n + i) nan length-two (omega arith)
-          ∙ getD-after table (sizes0 n) (n * n) i nan (length-table n n (d .entry)) ∙ row-at n (λ i. d .size i 0) i nan (b .0))
+      go Uniquac e zero h = let b = below-is i n 0 2 (rw e at h) in rw e (in-two (n * n + i) (omega arith) ∙ in-sizes i (b .0))
       go Uniquac e (suc zero) h =
           let b = below-is i n 1 2 (rw e at h) in
           rw e (getD-after (table ++ sizes0 n) (sizes1 n) (n * n + n) i nan length-two ∙ row-at n (λ i. d .size i 1) i nan (b .0))
@@ -131,16 +139,10 @@ module _ (d : Held) where
       go Nrtl e w h = never (sym (rw e at h))
       go Unifac e zero h =
           let b = below-is i ng 0 2 (rw e at h) in
-          rw e
-          (getD-before (sizes0 ng ++ sizes1 ng ++ tds ng) counts (ng + ng + ng * ng * 5) i nan length-front (omega arith)
-          ∙ getD-before (sizes0 ng ++ sizes1 ng) (tds ng) (ng + ng) i nan length-groups (omega arith)
-          ∙ getD-before (sizes0 ng) (sizes1 ng) ng i nan (length-row ng (λ i. d .size i 0)) (b .0) ∙ row-at ng (λ i. d .size i 0) i nan (b .0))
+          rw e (in-groups i (omega arith) ∙ getD-before (sizes0 ng) (sizes1 ng) ng i nan (length-row ng (λ i. d .size i 0)) (b .0) ∙ row-at ng (λ i. d .size i 0) i nan (b .0))
       go Unifac e (suc zero) h =
           let b = below-is i ng 1 2 (rw e at h) in
-          rw e
-          (getD-before (sizes0 ng ++ sizes1 ng ++ tds ng) counts (ng + ng + ng * ng * 5) (ng + i) nan length-front (omega arith)
-          ∙ getD-before (sizes0 ng ++ sizes1 ng) (tds ng) (ng + ng) (ng + i) nan length-groups (omega arith)
-          ∙ getD-after (sizes0 ng) (sizes1 ng) ng i nan (length-row ng (λ i. d .size i 0)) ∙ row-at ng (λ i. d .size i 1) i nan (b .0))
+          rw e (in-groups (ng + i) (omega arith) ∙ getD-after (sizes0 ng) (sizes1 ng) ng i nan (length-row ng (λ i. d .size i 0)) ∙ row-at ng (λ i. d .size i 1) i nan (b .0))
       go Unifac e (suc (suc w)) h = let b = below-is i ng (suc (suc w)) 2 (rw e at h) in absurd (omega arith)
 
   -- the counts, list after list
@@ -216,29 +218,23 @@ load-proper e s =
           };
     }
 
-set-proper : (s : Setting) (d : Held) → caseFault d s ≡ 0 → Proper d → Proper (setIn s d)
-unfolding setIn caseFault replaced
-set-proper (Temperature T) d f p = p
-set-proper (Entry i j v) d f p =
-    record { some = p .some; few = p .few; lists = λ q. let l = p .lists q in record { some = l .some; few = l .few; short = l .short; group = l .group; count = l .count } }
-set-proper (TdEntry i j v) d f p =
-    record { some = p .some; few = p .few; lists = λ q. let l = p .lists q in record { some = l .some; few = l .few; short = l .short; group = l .group; count = l .count } }
-set-proper (Size i w v) d f p =
-    record { some = p .some; few = p .few; lists = λ q. let l = p .lists q in record { some = l .some; few = l .few; short = l .short; group = l .group; count = l .count } }
-set-proper (Count i j v) d f p =
+-- other entries, td entries and sizes leave a proper model proper, and so do counts that aren't below 0
+values-proper : (d : Held) → Proper d → (e : ℕ → ℕ → Float) (t : ℕ → ℕ → TdParam) (s k : ℕ → ℕ → Float)
+    → ((i p : ℕ) → lt (d .lists .count i p) +0 ≡ false → lt (k i p) +0 ≡ false) → Proper (holding d e t s k)
+values-proper d p e t s k counts =
     record {
       some = p .some;
       few = p .few;
-      lists = λ q.
-          let l = p .lists q in
-          record {
-            some = l .some;
-            few = l .few;
-            short = l .short;
-            group = l .group;
-            count = λ r s h g. replaced-count r s (l .count r s h g) (passed (hasCount d i j) _ 10 (nought 9) f .1);
-          };
+      lists = λ q. let l = p .lists q in record { some = l .some; few = l .few; short = l .short; group = l .group; count = λ i r h g. counts i r (l .count i r h g) };
     }
+
+set-proper : (s : Setting) (d : Held) → caseFault d s ≡ 0 → Proper d → Proper (setIn s d)
+unfolding setIn caseFault replaced
+set-proper (Temperature T) d f p = p
+set-proper (Entry i j v) d f p = values-proper d p _ _ _ _ (λ r s h. h)
+set-proper (TdEntry i j v) d f p = values-proper d p _ _ _ _ (λ r s h. h)
+set-proper (Size i w v) d f p = values-proper d p _ _ _ _ (λ r s h. h)
+set-proper (Count i j v) d f p = values-proper d p _ _ _ _ (λ r s h. replaced-count r s h (passed (hasCount d i j) _ 10 (nought 9) f .1))
   where
     replaced-count : (r s : ℕ) → lt (d .lists .count r s) +0 ≡ false → _≡_ {A = ℕ} (cond (lt v +0) 4 0) 0 → lt (replaced (d .lists .count) i j v r s) +0 ≡ false
     replaced-count r s old new =
@@ -266,11 +262,6 @@ length-values d = go (d .model) refl
           before-start (d .n) (d .lists .length) (d .n) (omega arith),
         ))
 
-first-zero : (n : ℕ) (f : ℕ → ℕ) → ((i : ℕ) → i < n → f i ≡ 0) → firstTo n f ≡ 0
-unfolding firstTo
-first-zero zero f h = refl
-first-zero (suc n) f h = rw (first-zero n f (λ i b. h i (omega arith)), h n (omega arith))
-
 shape-passes : (n size : ℕ) (v : List Float) → 1 ≤ n → n ≤ 12 → length v ≡ size → shapeFault n size v ≡ 0
 unfolding shapeFault
 shape-passes n size v a b e = rw (le-leb 1 n a, le-leb n 12 b, eq-eqb (length v) size e)
@@ -293,7 +284,7 @@ unifac-passes d e p =
       eq-eqb _ _ places,
       eq-eqb (length (valuesIn d)) (unifacSize (d .ng) (start (row (d .n) len) (d .n))) (length-values d ∙ rw e),
     )
-    (first-zero (length (rows (d .n) len (d .lists .group))) _
+    (firstTo-none (length (rows (d .n) len (d .lists .group))) _
     (λ r h. place-passes r (in-row len (d .n) r (rw (length-rows len (d .lists .group) (d .n)) at h))))
   where
     place-passes : (r : ℕ) → InRow (d .lists .length) (d .n) r

@@ -1,5 +1,5 @@
 -- What a query declines, what one that passes has shown, and a model's refilled cells and value as the answer.
-use mathlib.Core.Path.{_≡_, refl, sym, _∙_}
+use mathlib.Core.Path.{_≡_, sym, _∙_}
 use mathlib.Core.Bool.{Bool, true, false, not, cond, and-assoc}
 use mathlib.Core.List.{List}
 use Prim.Native.Nat.{ℕ, _*_, _/_, _%_}
@@ -26,10 +26,10 @@ use Rattle.mixture.specs.Memory.{Memory, memory, after}
 use Rattle.mixture.specs.Layout.{modelOf, dataIn, cellAt}
 use Rattle.mixture.specs.Calls.{headFault, queryFault, exponential, valueBy, staleAt, worked, answered, afterQuery}
 use Rattle.mixture.specs.Refills.{staleCell, Ranged, Solved, Answered}
-use Rattle.mixture.proofs.ListLaws.{howMany-same}
+use Rattle.mixture.proofs.ListLaws.{written-same, howMany-same}
 use Rattle.mixture.proofs.RangeLaws.{first-is}
 use Rattle.mixture.proofs.CallLaws.{refused, done, Passed, head-passed}
-use Rattle.mixture.proofs.RefillLaws.{among, among-in, written-same}
+use Rattle.mixture.proofs.RefillLaws.{among, among-in}
 
 -- ---- what a query declines
 
@@ -63,26 +63,19 @@ module _ (m : Memory) (h : Head) (q : Quantity) where
 
 pub head-ranged : (m : Memory) (h : Head) → Passed m h → modelOf (h .model) ≡ Unifac → Ranged (h .n) (h .ng) (h .lens) (h .groups)
 head-ranged m h p e =
-    let l = p .lists e in
+    let l = p .range .lists e in
     record { some = p .range .some; few = p .range .few; someGroups = l .some; fewGroups = l .few; places = l .places; below = l .below }
 
 -- ---- a model's cells and value are the answer
 
-stale-place : (m : Memory) (h : Head) (c : ℕ) → let d = held (dataIn m h) in
-    among (width d * width d) (λ c. staleCell (modelOf (h .model)) (getD (m .marks) c 0) (c / width d) (c % width d)) c ≡ staleAt m d c
-unfolding staleAt cellAt staleCell isCell
-stale-place m h c =
-    let d = held (dataIn m h) in
-    sym (and-assoc (ltb c (width d * width d)) (isCell d (c / width d) (c % width d)) (not (eqb (getD (m .marks) c 0) 1)))
-
 module _ (m : Memory) (h : Head) (q : Quantity) {c : List Float} {l : List ℕ} {r : Worked} where
   answered-by : Solved (modelOf (h .model)) (width (held (dataIn m h))) (exponential (held (dataIn m h)) (h .t))
       (λ E. valueBy (held (dataIn m h)) (h .t) E (at (h .x)) q) (m .cells) (m .marks) c l r → Answered m h q c l r
-  unfolding worked
+  unfolding worked staleAt cellAt staleCell isCell
   answered-by s =
       record {
-        cells = s .refilled .worked ∙ written-same (among (w * w) p) (staleAt m d) f f (m .cells) (λ c b. stale-is c) (λ c b t. refl);
-        marks = s .refilled .marked ∙ written-same (among (w * w) p) (staleAt m d) (λ c. 1) (λ c. 1) (m .marks) (λ c b. stale-is c) (λ c b t. refl);
+        cells = s .refilled .worked ∙ written-same (among (w * w) p) (staleAt m d) f (m .cells) stale-is;
+        marks = s .refilled .marked ∙ written-same (among (w * w) p) (staleAt m d) (λ c. 1) (m .marks) stale-is;
         value = s .solved;
         count = s .refilled .counted ∙ howMany-same (w * w) p (staleAt m d) (λ c b. sym (among-in (w * w) p c b) ∙ stale-is c);
       }
@@ -100,7 +93,7 @@ module _ (m : Memory) (h : Head) (q : Quantity) {c : List Float} {l : List ℕ} 
       f c = exponential (held (dataIn m h)) (h .t) (c / w) (c % w)
 
       stale-is : (c : ℕ) → among (w * w) p c ≡ staleAt m d c
-      stale-is c = stale-place m h c
+      stale-is c = sym (and-assoc (ltb c (w * w)) (isCell d (c / w) (c % w)) (not (eqb (getD (m .marks) c 0) 1)))
 
   pub wilson-answered : modelOf (h .model) ≡ Wilson
       → Solved Wilson (h .n) (energy (energies (h .n) (m .values)) (h .t)) (λ E. wilson (h .n) (volumes (h .n) (m .values)) E (at (h .x)) q) (m .cells) (m .marks) c l r

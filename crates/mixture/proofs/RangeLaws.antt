@@ -28,7 +28,7 @@ use Rattle.mixture.proofs.PlaceLaws.{both, passed, spared, nought, size
 
 -- ---- tests
 
-pub between-is : (a b k : ℕ) → between a b k ≡ true → (a ≤ k) × (k ≤ b)
+between-is : (a b k : ℕ) → between a b k ≡ true → (a ≤ k) × (k ≤ b)
 between-is a b k h = let f = both (leb a k) (leb k b) h in (leb-true a k (f .0), leb-true k b (f .1))
 
 pub all-at : (n : ℕ) (p : ℕ → Bool) → allTo n p ≡ true → (i : ℕ) → i < n → p i ≡ true
@@ -53,7 +53,7 @@ first-is k m h =
       | inr e ↦ let z : k ≡ 0 = rw e at h in (z, never (sym (eq-eqb k 0 z) ∙ e))
     ]
 
-pub firstTo-is : (n : ℕ) (f : ℕ → ℕ) → firstTo n f ≡ 0 → (i : ℕ) → i < n → f i ≡ 0
+firstTo-is : (n : ℕ) (f : ℕ → ℕ) → firstTo n f ≡ 0 → (i : ℕ) → i < n → f i ≡ 0
 unfolding firstTo
 firstTo-is zero f h i b = absurd (omega arith)
 firstTo-is (suc n) f h i b =
@@ -62,6 +62,11 @@ firstTo-is (suc n) f h i b =
       | inl c ↦ let e : i ≡ n = omega arith in rw e (g .1)
       | inr c ↦ firstTo-is n f (g .0) i c
     ]
+
+pub firstTo-none : (n : ℕ) (f : ℕ → ℕ) → ((i : ℕ) → i < n → f i ≡ 0) → firstTo n f ≡ 0
+unfolding firstTo
+firstTo-none zero f h = refl
+firstTo-none (suc n) f h = rw (firstTo-none n f (λ i b. h i (omega arith)), h n (omega arith))
 
 -- ---- a load's data that pass
 
@@ -138,51 +143,60 @@ unfolding start
 start-bound lens zero h = omega arith
 start-bound lens (suc n) h = rw (mul-suc 12 n) (omega (arith, start-bound lens n (λ i b. h i (omega arith)), h n (omega arith)))
 
+-- UNIFAC's ng and lists
+pub record Lists (d : ModelData) : Type 0 where
+  pub some : 1 ≤ d .ng
+  pub few : d .ng ≤ 32
+  pub short : (i : ℕ) → i < d .n → getD (d .lens) i 0 ≤ 12
+  pub places : start (d .lens) (d .n) ≤ 144
+  pub below : (p : ℕ) → p < start (d .lens) (d .n) → getD (d .groups) p 0 < d .ng
+
 pub record Bounds (d : ModelData) : Type 0 where
   pub some : 1 ≤ d .n
   pub few : d .n ≤ 12
-  pub wide : 1 ≤ width (held d)
-  pub cells : width (held d) * width (held d) ≤ 1024
+  pub wide : (1 ≤ width (held d)) × (width (held d) ≤ 32)
   pub values : sizeOf d ≤ 5328
-  pub groups : d .model ≡ Unifac → (p : ℕ) → p < start (d .lens) (d .n) → getD (d .groups) p 0 < d .ng
+  pub lists : d .model ≡ Unifac → Lists d
+
+lists-in : (d : ModelData) → inRange d ≡ true → d .model ≡ Unifac → (1 ≤ d .n) × (d .n ≤ 12) × Lists d
+unfolding inRange
+lists-in d h e =
+    let known = both _ _ (rw e at h) in
+    let lens = both (between 1 12 (d .n) && between 1 32 (d .ng)) (allTo (d .n) (λ i. leb (getD (d .lens) i 0) 12)) (known .0) in
+    let ns = both (between 1 12 (d .n)) (between 1 32 (d .ng)) (lens .0) in
+    let n = between-is 1 12 (d .n) (ns .0) in
+    let ng = between-is 1 32 (d .ng) (ns .1) in
+    let short : (i : ℕ) → i < d .n → getD (d .lens) i 0 ≤ 12 = λ i b. leb-true _ _ (all-at (d .n) (λ i. leb (getD (d .lens) i 0) 12) (lens .1) i b) in (
+      n .0,
+      n .1,
+      record {
+        some = ng .0;
+        few = ng .1;
+        short = short;
+        places = omega (arith, start-bound (d .lens) (d .n) short);
+        below = λ p b. ltb-true _ _ (all-at (start (d .lens) (d .n)) (λ p. ltb (getD (d .groups) p 0) (d .ng)) (known .1) p b);
+      },
+    )
 
 pub bounds : (d : ModelData) → inRange d ≡ true → Bounds d
 unfolding inRange width wilsonSize uniquacSize nrtlSize unifacSize countsAt
 bounds d h = go (d .model) refl
   where
-    short : Bool
-    short = allTo (d .n) (λ i. leb (getD (d .lens) i 0) 12)
+    lists : d .model ≡ Unifac → Lists d
+    lists e = lists-in d h e .2
 
-    known : Bool
-    known = allTo (start (d .lens) (d .n)) (λ p. ltb (getD (d .groups) p 0) (d .ng))
-
-    unifac : d .model ≡ Unifac → ((between 1 12 (d .n) && between 1 32 (d .ng) && short) ≡ true) × (known ≡ true)
-    unifac e = both (between 1 12 (d .n) && between 1 32 (d .ng) && short) known (rw e at h)
-
-    groups : d .model ≡ Unifac → (p : ℕ) → p < start (d .lens) (d .n) → getD (d .groups) p 0 < d .ng
-    groups e p b = ltb-true _ _ (all-at (start (d .lens) (d .n)) (λ p. ltb (getD (d .groups) p 0) (d .ng)) (unifac e .1) p b)
+    square : d .n ≤ 12 → d .n * d .n ≤ 144
+    square b = mul-le-mul b b
 
     go : (k : Model) → d .model ≡ k → Bounds d
-    go Wilson e =
-        let n = between-is 1 12 (d .n) (rw e at h) in
-        let q : d .n * d .n ≤ 144 = mul-le-mul (n .1) (n .1) in
-        record { some = n .0; few = n .1; wide = rw e (n .0); cells = rw e (omega arith); values = rw e (omega arith); groups = groups }
-    go Uniquac e =
-        let n = between-is 1 12 (d .n) (rw e at h) in
-        let q : d .n * d .n ≤ 144 = mul-le-mul (n .1) (n .1) in
-        record { some = n .0; few = n .1; wide = rw e (n .0); cells = rw e (omega arith); values = rw e (omega arith); groups = groups }
-    go Nrtl e =
-        let n = between-is 1 12 (d .n) (rw e at h) in
-        let q : d .n * d .n ≤ 144 = mul-le-mul (n .1) (n .1) in
-        record { some = n .0; few = n .1; wide = rw e (n .0); cells = rw e (omega arith); values = rw e (omega arith); groups = groups }
+    go Wilson e = let n = between-is 1 12 (d .n) (rw e at h) in record { some = n .0; few = n .1; wide = rw e (n .0, omega arith); values = rw e (omega (arith, square (n .1))); lists = lists }
+    go Uniquac e = let n = between-is 1 12 (d .n) (rw e at h) in record { some = n .0; few = n .1; wide = rw e (n .0, omega arith); values = rw e (omega (arith, square (n .1))); lists = lists }
+    go Nrtl e = let n = between-is 1 12 (d .n) (rw e at h) in record { some = n .0; few = n .1; wide = rw e (n .0, omega arith); values = rw e (omega (arith, square (n .1))); lists = lists }
     go Unifac e =
-        let lens = both (between 1 12 (d .n) && between 1 32 (d .ng)) short (unifac e .0) in
-        let ns = both (between 1 12 (d .n)) (between 1 32 (d .ng)) (lens .0) in
-        let n = between-is 1 12 (d .n) (ns .0) in
-        let ng = between-is 1 32 (d .ng) (ns .1) in
-        let q : d .ng * d .ng ≤ 1024 = mul-le-mul (ng .1) (ng .1) in
-        let l = start-bound (d .lens) (d .n) (λ i b. leb-true (getD (d .lens) i 0) 12 (all-at (d .n) (λ i. leb (getD (d .lens) i 0) 12) (lens .1) i b)) in
-        record { some = n .0; few = n .1; wide = rw e (ng .0); cells = rw e q; values = rw e (omega arith); groups = groups }
+        let n = lists-in d h e in
+        let l = n .2 in
+        let q : d .ng * d .ng ≤ 1024 = mul-le-mul (l .few) (l .few) in
+        record { some = n .0; few = n .1; wide = rw e (l .some, l .few); values = rw e (omega (arith, l .places)); lists = lists }
 
 -- ---- slices that aren't short
 

@@ -1,7 +1,7 @@
 -- Stale cells worked out place by place, row by row through parts, are `written` and `howMany` over all of them.
 use mathlib.Core.Path.{_≡_, refl, sym, ap, _∙_, subst}
-use mathlib.Core.Bool.{Bool, true, false, _&&_, cond, and-false}
-use mathlib.Core.List.{List, [], _∷_, _++_, append-nil}
+use mathlib.Core.Bool.{Bool, true, false, _&&_, _||_, cond, and-false, or-true, or-false}
+use mathlib.Core.List.{List, _++_, append-nil}
 use mathlib.Core.Logic.{inl, inr}
 use Prim.Native.Nat.{ℕ, zero, suc, _+_, _*_, _-_, _/_, _%_, _<_, _≤_}
 use native.Mathlib.Nat.{ne-of-lt, ne-of-gt, add-zero, le-antisymm, mul-le-mul-right}
@@ -9,9 +9,9 @@ use native.Mathlib.Numerals.{add-one}
 use native.Mathlib.Omega.{arith}
 use borrow.Rule.Slice.PartMut.{putMid}
 use borrow.Author.Tests.{lt-ltb, le-ltb, eq-eqb, ne-eqb}
-use lib.Dec.{ltb}
-use lib.ListN.{length, getD, set, take, drop, length-set, length-append, length-drop, drop-of-length-le, List·getD-append}
-use lib.Seq.{getD-set-same, getD-set-other, getD-take, getD-drop, getD-append-add, length-take-le, ext-getD}
+use lib.Dec.{ltb, eqb}
+use lib.ListN.{length, getD, set, take, drop, length-append, length-drop, drop-of-length-le, List·getD-append}
+use lib.Seq.{getD-take, getD-drop, getD-append-add, length-take-le, ext-getD}
 use lib.Ieee.{Float, nan}
 use Rattle.arithmetic.specs.Tables.{from}
 use Rattle.arithmetic.proofs.Differences.{le-or}
@@ -21,13 +21,12 @@ use Rattle.mixture.specs.declared.head.Model.the-variants.{Wilson, Uniqu
 use Rattle.mixture.specs.Names.{byModel}
 use Rattle.mixture.specs.Lists.{written, howMany}
 use Rattle.mixture.specs.Refills.{rowCell, staleCell, Refilled}
-use Rattle.mixture.proofs.ListLaws.{never, length-written, getD-written, getD-kept, howMany-add, howMany-same}
+use Rattle.mixture.proofs.ListLaws.{never, length-written, length-as, getD-written, getD-kept, written-same, written-as, written-none, written-set, howMany-le, howMany-none, howMany-add, howMany-same}
 
 -- ---- a writable part, back
 
 -- what comes back of `&mut l[s..]` stands after the first s
 put-is : {A : Type 0} (l : List A) (s : ℕ) → s ≤ length l → (ys : List A) → putMid s (length l - s) l ys ≡ take s l ++ ys
-unfolding putMid
 put-is l s h ys = rw (drop-of-length-le (drop s l) {i = length l - s} (rw (length-drop s l) (omega arith)), append-nil)
 
 -- ---- the first n places
@@ -42,22 +41,6 @@ among-past n p c h = rw (le-ltb c n h)
 pub among-in : (n : ℕ) (p : ℕ → Bool) (c : ℕ) → c < n → among n p c ≡ p c
 among-in n p c h = rw (lt-ltb c n h)
 
-pub written-same : {A : Type 0} (p q : ℕ → Bool) (f g : ℕ → A) (l : List A) → ((c : ℕ) → c < length l → p c ≡ q c) → ((c : ℕ) → c < length l → q c ≡ true → f c ≡ g c)
-    → written p f l ≡ written q g l
-unfolding written
-written-same p q f g [] h e = refl
-written-same p q f g (a ∷ l) h e =
-    rw (h 0 (omega arith), head (q 0) (e 0 (omega arith)), written-same (λ c. p (suc c)) (λ c. q (suc c)) (λ c. f (suc c)) (λ c. g (suc c)) l (λ c b. h (suc c) (omega arith)) (λ c b. e (suc c) (omega arith)))
-  where
-    head : (t : Bool) → (t ≡ true → f 0 ≡ g 0) → cond t (f 0) a ≡ cond t (g 0) a
-    head true k = k refl
-    head false k = refl
-
-written-none : {A : Type 0} (p : ℕ → Bool) (f : ℕ → A) (l : List A) → ((c : ℕ) → p c ≡ false) → written p f l ≡ l
-unfolding written
-written-none p f [] h = refl
-written-none p f (a ∷ l) h = rw (h 0, written-none (λ c. p (suc c)) (λ c. f (suc c)) l (λ c. h (suc c)))
-
 -- a place that isn't j is among the first j where it is among the first j + 1
 among-other : (j : ℕ) (p : ℕ → Bool) (c : ℕ) → (j ≡ c → ⊥) → among j p c ≡ among (j + 1) p c
 among-other j p c ne =
@@ -65,33 +48,17 @@ among-other j p c ne =
 
 module _ {A : Type 0} (p : ℕ → Bool) (f : ℕ → A) (l : List A) (j : ℕ) where
   written-skip : p j ≡ false → written (among j p) f l ≡ written (among (j + 1) p) f l
-  written-skip t = written-same (among j p) (among (j + 1) p) f f l (λ c b. by-place c j (λ d. among-other j p c (λ q. omega arith)) (λ e. rw (← e, t, and-false, and-false)) (λ d. among-other j p c (λ q. omega arith))) (λ c b q. refl)
+  written-skip t = written-same (among j p) (among (j + 1) p) f l (λ c. by-place c j (λ d. among-other j p c (λ q. omega arith)) (λ e. rw (← e, t, and-false, and-false)) (λ d. among-other j p c (λ q. omega arith)))
 
-  written-more : (z v : A) → p j ≡ true → j < length l → v ≡ f j → set (written (among j p) f l) j v ≡ written (among (j + 1) p) f l
-  written-more z v t h e =
-      ext-getD z _ _ (length-set (written (among j p) f l) j v ∙ length-written (among j p) f l ∙ sym (length-written (among (j + 1) p) f l))
-      (λ c b.
-      let k : c < length l = rw (length-set (written (among j p) f l) j v, length-written (among j p) f l) at b in
-      by-place c j (λ d. other c k (ne-of-lt d) (λ q. omega arith))
-      (λ q.
-      rw (← q)
-      (getD-set-same (written (among j p) f l) j v z (rw (length-written (among j p) f l) h)
-      ∙ (e ∙ sym (getD-written (among (j + 1) p) f l j z h ∙ rw (among-in (j + 1) p j (omega arith), t)))))
-      (λ d. other c k (ne-of-gt d) (λ q. omega arith)))
+  written-more : {v : A} → p j ≡ true → v ≡ f j → set (written (among j p) f l) j v ≡ written (among (j + 1) p) f l
+  written-more t e = rw e (written-set (among j p) (among (j + 1) p) f l j more)
     where
-      other : (c : ℕ) → c < length l → (c ≡ j → ⊥) → (j ≡ c → ⊥) → getD (set (written (among j p) f l) j v) c z ≡ getD (written (among (j + 1) p) f l) c z
-      other c k ne en =
-          getD-set-other (written (among j p) f l) j c v z ne
-          ∙ (getD-written (among j p) f l c z k ∙ (ap (λ (t : Bool). cond t (f c) (getD l c z)) (among-other j p c en) ∙ sym (getD-written (among (j + 1) p) f l c z k)))
-
-one-le : (t : Bool) → cond t 1 0 ≤ 1
-one-le true = omega arith
-one-le false = omega arith
-
-howMany-le : (n : ℕ) (p : ℕ → Bool) → howMany n p ≤ n
-unfolding howMany
-howMany-le zero p = omega arith
-howMany-le (suc n) p = omega (arith, howMany-le n p, one-le (p n))
+      more : (c : ℕ) → among (j + 1) p c ≡ (among j p c || eqb c j)
+      more c =
+          by-place c j
+          (λ d. rw (ne-eqb c j (ne-of-lt d), or-false (among j p c)) (sym (among-other j p c (λ q. omega arith))))
+          (λ q. rw (← q) (among-in (j + 1) p j (omega arith) ∙ (t ∙ sym (rw (eq-eqb j j refl) (or-true (among j p j))))))
+          (λ d. rw (ne-eqb c j (ne-of-gt d), or-false (among j p c)) (sym (among-other j p c (λ q. omega arith))))
 
 -- ---- a stale cell
 
@@ -129,17 +96,17 @@ module _ (p : ℕ → Bool) (f : ℕ → Float) (cells : List Float) (marks : Li
   refilled-none n e =
       rw e
       record {
-        worked = sym (written-none (among 0 p) f cells (λ c. among-past 0 p c (omega arith)));
-        marked = sym (written-none (among 0 p) (λ c. 1) marks (λ c. among-past 0 p c (omega arith)));
+        worked = written-none (among 0 p) f cells (λ c. among-past 0 p c (omega arith));
+        marked = written-none (among 0 p) (λ c. 1) marks (λ c. among-past 0 p c (omega arith));
         counted = refl;
       }
 
   module _ (j : ℕ) {cells′ : List Float} {marks′ : List ℕ} {r : ℕ} (now : Refilled j p f cells marks cells′ marks′ r) where
     -- the mark that the loop reads next is still the old one
-    pub refilled-mark : getD marks′ j 0 ≡ getD marks j 0
+    refilled-mark : getD marks′ j 0 ≡ getD marks j 0
     refilled-mark = rw (now .marked) (getD-kept (among j p) (λ c. 1) marks j 0 (among-past j p j (omega arith)))
 
-    pub refilled-skip : p j ≡ false → Refilled (j + 1) p f cells marks cells′ marks′ r
+    refilled-skip : p j ≡ false → Refilled (j + 1) p f cells marks cells′ marks′ r
     unfolding howMany
     refilled-skip t =
         record {
@@ -148,20 +115,29 @@ module _ (p : ℕ → Bool) (f : ℕ → Float) (cells : List Float) (marks : Li
           counted = now .counted ∙ rw (add-one j, t, add-zero);
         }
 
-    pub refilled-more : {v : Float} → p j ≡ true → j < length cells → j < length marks → v ≡ f j → Refilled (j + 1) p f cells marks (set cells′ j v) (set marks′ j 1) (r + 1)
+    refilled-more : {v : Float} → p j ≡ true → v ≡ f j → Refilled (j + 1) p f cells marks (set cells′ j v) (set marks′ j 1) (r + 1)
     unfolding howMany
-    refilled-more {v} t h k e =
+    refilled-more t e =
         record {
-          worked = rw (now .worked) (written-more p f cells j nan v t h e);
-          marked = rw (now .marked) (written-more p (λ c. 1) marks j 0 1 t k refl);
+          worked = rw (now .worked) (written-more p f cells j t e);
+          marked = rw (now .marked) (written-more p (λ c. 1) marks j t refl);
           counted = rw (add-one j, t, now .counted);
         }
 
-    pub refilled-length : (length cells′ ≡ length cells) × (length marks′ ≡ length marks)
-    refilled-length = (ap length (now .worked) ∙ length-written (among j p) f cells, ap length (now .marked) ∙ length-written (among j p) (λ c. 1) marks)
+-- what a loop over places keeps: those passed are refilled, no slice is longer or shorter, and the count is within the places
+pub record Refilling (j : ℕ) (p : ℕ → Bool) (f : ℕ → Float) (cells : List Float) (marks : List ℕ) (cells′ : List Float) (marks′ : List ℕ) (r : ℕ) : Type 0 where
+  pub all : Refilled j p f cells marks cells′ marks′ r
+  pub long : (length cells′ ≡ length cells) × (length marks′ ≡ length marks)
+  pub few : r ≤ j
 
-    pub refilled-count : r ≤ j
-    refilled-count = rw (now .counted) (howMany-le j p)
+pub refilling : {j : ℕ} {p : ℕ → Bool} {f : ℕ → Float} {cells : List Float} {marks : List ℕ} {cells′ : List Float} {marks′ : List ℕ} {r : ℕ}
+    → Refilled j p f cells marks cells′ marks′ r → Refilling j p f cells marks cells′ marks′ r
+refilling {j} {p} {f} {cells} {marks} now =
+    record {
+      all = now;
+      long = (length-as (among j p) f cells (now .worked), length-as (among j p) (λ c. 1) marks (now .marked));
+      few = rw (now .counted) (howMany-le j p);
+    }
 
 -- ---- a turn of the loop over a row, which goes by what the mark says
 
@@ -169,17 +145,17 @@ refilled-is : {n : ℕ} {p : ℕ → Bool} {f : ℕ → Float} {cells : List Flo
     → d ≡ c → m ≡ k → s ≡ r → Refilled n p f cells marks c k r → Refilled n p f cells marks d m s
 refilled-is e g h all = record { worked = e ∙ all .worked; marked = g ∙ all .marked; counted = h ∙ all .counted }
 
-module _ (k : Model) (i : ℕ) (f : ℕ → Float) (cells : List Float) (marks : List ℕ) (j : ℕ) {c : List Float} {l : List ℕ} {r : ℕ} {b : Bool}
-    (now : Refilled j (λ c. staleCell k (getD marks c 0) i c) f cells marks c l r) (told : b ≡ staleCell k (getD l j 0) i j) where
+module _ (k : Model) (i : ℕ) {f : ℕ → Float} {cells : List Float} {marks : List ℕ} {j : ℕ} {c : List Float} {l : List ℕ} {r : ℕ} {b : Bool}
+    (now : Refilling j (λ c. staleCell k (getD marks c 0) i c) f cells marks c l r) (told : b ≡ staleCell k (getD l j 0) i j) where
   stale-told : b ≡ staleCell k (getD marks j 0) i j
-  stale-told = told ∙ ap (λ (mark : ℕ). staleCell k mark i j) (refilled-mark _ f cells marks j now)
+  stale-told = told ∙ ap (λ (mark : ℕ). staleCell k mark i j) (refilled-mark _ f cells marks j (now .all))
 
-  pub row-more : {d : List Float} {m : List ℕ} {s : ℕ} {v : Float} → b ≡ true → j < length cells → j < length marks → v ≡ f j → d ≡ set c j v → m ≡ set l j 1 → s ≡ r + 1
-      → Refilled (j + 1) (λ c. staleCell k (getD marks c 0) i c) f cells marks d m s
-  row-more t h g e x y z = refilled-is x y z (refilled-more _ f cells marks j now (sym stale-told ∙ t) h g e)
+  pub row-more : {d : List Float} {m : List ℕ} {s : ℕ} {v : Float} → b ≡ true → v ≡ f j → d ≡ set c j v → m ≡ set l j 1 → s ≡ r + 1
+      → Refilling (j + 1) (λ c. staleCell k (getD marks c 0) i c) f cells marks d m s
+  row-more t e x y z = refilling (refilled-is x y z (refilled-more _ f cells marks j (now .all) (sym stale-told ∙ t) e))
 
-  pub row-skip : {d : List Float} {m : List ℕ} {s : ℕ} → b ≡ false → d ≡ c → m ≡ l → s ≡ r → Refilled (j + 1) (λ c. staleCell k (getD marks c 0) i c) f cells marks d m s
-  row-skip t x y z = refilled-is x y z (refilled-skip _ f cells marks j now (sym stale-told ∙ t))
+  pub row-skip : {d : List Float} {m : List ℕ} {s : ℕ} → b ≡ false → d ≡ c → m ≡ l → s ≡ r → Refilling (j + 1) (λ c. staleCell k (getD marks c 0) i c) f cells marks d m s
+  row-skip t x y z = refilling (refilled-is x y z (refilled-skip _ f cells marks j (now .all) (sym stale-told ∙ t)))
 
 -- ---- a row that comes back in the middle
 
@@ -187,7 +163,7 @@ module _ (k : Model) (i : ℕ) (f : ℕ → Float) (cells : List Float) (marks :
 lent : {A : Type 0} (s : ℕ) (p : ℕ → Bool) (f : ℕ → A) (old : List A) (z : A) {l : List A} → l ≡ written (among s p) f old → (j : ℕ) → s + j < length old
     → getD (from s l) j z ≡ getD old (s + j) z
 lent {A} s p f old z {l} above j b =
-    getD-take (length l - s) (drop s l) j z (omega (arith, ap length above, length-written (among s p) f old))
+    getD-take (length l - s) (drop s l) j z (omega (arith, length-as (among s p) f old above))
     ∙ (getD-drop s l j z ∙ (ap (λ (m : List A). getD m (s + j) z) above ∙ getD-kept (among s p) f old (s + j) z (among-past s p (s + j) (omega arith))))
 
 module _ {A : Type 0} (s w : ℕ) (p q : ℕ → Bool) (f g : ℕ → A) (old : List A) (z : A) (h : s + w ≤ length old)
@@ -205,10 +181,10 @@ module _ {A : Type 0} (s w : ℕ) (p q : ℕ → Bool) (f g : ℕ → A) (old : 
 
   module _ {l ys : List A} (above : l ≡ written (among s p) f old) (row : ys ≡ written (among w q) g (from s l)) where
     long : length l ≡ length old
-    long = ap length above ∙ length-written (among s p) f old
+    long = length-as (among s p) f old above
 
     row-long : length ys ≡ length old - s
-    row-long = ap length row ∙ (length-written (among w q) g (from s l) ∙ (from-length s l ∙ rw long))
+    row-long = length-as (among w q) g (from s l) row ∙ (from-length s l ∙ rw long)
 
     lower : (c : ℕ) → c < s → getD (take s l ++ ys) c z ≡ getD (written (among (s + w) p) f old) c z
     lower c b =
@@ -240,7 +216,7 @@ module _ {A : Type 0} (s w : ℕ) (p q : ℕ → Bool) (f g : ℕ → A) (old : 
 
 module _ (k : Model) (w i : ℕ) (f : ℕ → Float) (cells : List Float) (marks : List ℕ) (hc : i * w + w ≤ length cells) (hm : i * w + w ≤ length marks) where
   -- the rows above i, and row i
-  pub refilled-row : {c ys : List Float} {l zs : List ℕ} {r s : ℕ} (g : ℕ → Float)
+  refilled-row : {c ys : List Float} {l zs : List ℕ} {r s : ℕ} (g : ℕ → Float)
       → Refilled (i * w) (λ c. staleCell k (getD marks c 0) (c / w) (c % w)) f cells marks c l r
       → Refilled w (λ j. staleCell k (getD (from (i * w) l) j 0) i j) g (from (i * w) c) (from (i * w) l) ys zs s
       → ((j : ℕ) → j < w → g j ≡ f (i * w + j))
@@ -263,7 +239,7 @@ module _ (k : Model) (w i : ℕ) (f : ℕ → Float) (cells : List Float) (marks
       ps j b = rw (cell-row w i j b, cell-column w i j b) (ap (λ (mark : ℕ). staleCell k mark i j) (lent (i * w) p (λ c. 1) marks 0 (above .marked) j (omega arith)))
 
 -- entry j of row i, by its place
-pub row-cells : (k : Model) (w stride : ℕ) (table tau : List Float) (T L : Float) (i j : ℕ) → j < w → rowCell k (from (i * stride) table) (from (i * stride) tau) T L i j
+row-cells : (k : Model) (w stride : ℕ) (table tau : List Float) (T L : Float) (i j : ℕ) → j < w → rowCell k (from (i * stride) table) (from (i * stride) tau) T L i j
     ≡ rowCell k (from ((i * w + j) / w * stride) table) (from ((i * w + j) / w * stride) tau) T L ((i * w + j) / w) ((i * w + j) % w)
 row-cells k w stride table tau T L i j b = rw (cell-row w i j b, cell-column w i j b)
 
@@ -275,18 +251,19 @@ module _ (k : Model) (w stride i : ℕ) (table tau : List Float) (T L : Float) (
   pub turn-lent : (w - 1) * stride + w * 5 ≤ length table → (w - 1) * stride + w ≤ length tau
       → (i < w) × (w * 5 ≤ length (from (i * stride) table)) × (w ≤ length (from (i * stride) tau)) × (w ≤ length (from (i * w) c)) × (w ≤ length (from (i * w) l))
   turn-lent ht hu =
-      let kept = refilled-length _ _ cells marks (i * w) above in
+      let kept = refilling above .long in
       let e : i * stride ≤ (w - 1) * stride = mul-le-mul-right stride (omega arith) in
       let d = row-end w w i b in
       (b, omega (arith, from-length (i * stride) table), omega (arith, from-length (i * stride) tau), omega (arith, from-length (i * w) c), omega (arith, from-length (i * w) l))
 
   pub turn-more : {ys : List Float} {zs : List ℕ} {s : ℕ}
       → Refilled w (λ j. staleCell k (getD (from (i * w) l) j 0) i j) (rowCell k (from (i * stride) table) (from (i * stride) tau) T L i) (from (i * w) c) (from (i * w) l) ys zs s
-      → (i + 1 ≤ w) × Refilled ((i + 1) * w) (λ c. staleCell k (getD marks c 0) (c / w) (c % w))
+      → (i + 1 ≤ w) × Refilling ((i + 1) * w) (λ c. staleCell k (getD marks c 0) (c / w) (c % w))
       (λ c. rowCell k (from (c / w * stride) table) (from (c / w * stride) tau) T L (c / w) (c % w)) cells marks
       (putMid (i * w) (length c - i * w) c ys) (putMid (i * w) (length l - i * w) l zs) (r + s)
   turn-more row =
-      let d = row-end w w i b in (omega arith, refilled-row k w i _ cells marks (omega arith) (omega arith) _ above row (λ j b. row-cells k w stride table tau T L i j b))
+      let d = row-end w w i b in
+      (omega arith, refilling (refilled-row k w i _ cells marks (omega arith) (omega arith) _ above row (λ j b. row-cells k w stride table tau T L i j b)))
 
 -- a loop that counts i to w has all of them at its end
 pub refilled-done : (i w : ℕ) {p : ℕ → Bool} {f : ℕ → Float} {cells : List Float} {marks : List ℕ} {c : List Float} {l : List ℕ} {r : ℕ}
@@ -300,14 +277,9 @@ last-row (suc n) = row-end (suc n) (suc n) (suc n - 1) (omega arith)
 
 -- ---- a row with nothing stale
 
-none-many : (n : ℕ) (p : ℕ → Bool) → ((c : ℕ) → c < n → p c ≡ false) → howMany n p ≡ 0
-unfolding howMany
-none-many zero p h = refl
-none-many (suc n) p h = rw (h n (omega arith), none-many n p (λ c b. h c (omega arith)))
-
 pub refilled-fresh : (n : ℕ) (p : ℕ → Bool) (f : ℕ → Float) (cells : List Float) (marks : List ℕ) → ((c : ℕ) → c < n → p c ≡ false) → Refilled n p f cells marks cells marks 0
 refilled-fresh n p f cells marks h =
-    record { worked = sym (written-none _ _ cells nowhere); marked = sym (written-none _ _ marks nowhere); counted = sym (none-many n p h) }
+    record { worked = written-none _ _ cells nowhere; marked = written-none _ _ marks nowhere; counted = sym (howMany-none n p h) }
   where
     nowhere : (c : ℕ) → among n p c ≡ false
     nowhere c = elim (le-or n c) [ inl b ↦ among-past n p c b | inr b ↦ among-in n p c b ∙ h c b ]
@@ -321,7 +293,7 @@ pub refilled-as : (n : ℕ) (p : ℕ → Bool) (f g : ℕ → Float) (cells : Li
     → Refilled n p f cells marks cells′ marks′ r → Refilled n p g cells marks cells′ marks′ r
 refilled-as n p f g cells marks e r =
     record {
-      worked = r .worked ∙ written-same (among n p) (among n p) f g cells (λ c b. refl) (λ c b t. e c (among-below n p c t));
+      worked = r .worked ∙ written-as (among n p) f g cells (λ c t. e c (among-below n p c t));
       marked = r .marked;
       counted = r .counted;
     }

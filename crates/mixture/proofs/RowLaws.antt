@@ -50,7 +50,7 @@ unfoldable pub before : (ℕ → ℕ) → ℕ → ℕ
 before len zero = 0
 before len (suc i) = before len i + len i
 
-pub before-le : (len : ℕ → ℕ) (i n : ℕ) → i ≤ n → before len i ≤ before len n
+before-le : (len : ℕ → ℕ) (i n : ℕ) → i ≤ n → before len i ≤ before len n
 unfolding before
 before-le len i zero h = let e : i ≡ 0 = omega arith in rw e (omega arith)
 before-le len i (suc n) h =
@@ -64,7 +64,7 @@ unfolding before
 before-in len i n j h g = omega (arith, before-le len (suc i) n h)
 
 -- rows of w each
-pub before-table : (w i : ℕ) → before (λ _. w) i ≡ i * w
+before-table : (w i : ℕ) → before (λ _. w) i ≡ i * w
 unfolding before
 before-table w zero = rw (zero-mul w)
 before-table w (suc i) = rw (before-table w i, suc-mul i w)
@@ -73,6 +73,11 @@ pub before-start : (n : ℕ) (len : ℕ → ℕ) (i : ℕ) → i ≤ n → start
 unfolding before start
 before-start n len zero h = refl
 before-start n len (suc i) h = rw (before-start n len i (omega arith), row-at n len i 0 h)
+
+pub before-lens : (lens : List ℕ) (i : ℕ) → before (λ k. getD lens k 0) i ≡ start lens i
+unfolding before start
+before-lens lens zero = refl
+before-lens lens (suc i) = rw (before-lens lens i)
 
 -- each place is one of a row
 pub record InRow (len : ℕ → ℕ) (n p : ℕ) : Type 0 where
@@ -119,7 +124,7 @@ module _ {A : Type 0} (n w : ℕ) (f : ℕ → ℕ → A) where
 
 -- ---- fives
 
-pub length-fives : (l : List TdParam) → length (fives l) ≡ length l * 5
+length-fives : (l : List TdParam) → length (fives l) ≡ length l * 5
 unfolding fives
 length-fives [] = refl
 length-fives (p ∷ l) = rw (length-fives l, suc-mul (length l) 5) (omega arith)
@@ -127,7 +132,7 @@ length-fives (p ∷ l) = rw (length-fives l, suc-mul (length l) 5) (omega arith)
 five-past : (p : TdParam) (l : List Float) (q r : ℕ) → q ≡ 5 + r → at (p .a ∷ p .b ∷ p .c ∷ p .d ∷ p .e ∷ l) q ≡ at l r
 five-past p l q r e = rw e (getD-append-add (p .a ∷ p .b ∷ p .c ∷ p .d ∷ p .e ∷ []) l r nan)
 
-pub fives-at : (l : List TdParam) (k : ℕ) (z : TdParam) → k < length l → fiveAt (fives l) (k * 5) ≡ getD l k z
+fives-at : (l : List TdParam) (k : ℕ) (z : TdParam) → k < length l → fiveAt (fives l) (k * 5) ≡ getD l k z
 unfolding fives fiveAt
 fives-at [] k z h = absurd (omega arith)
 fives-at (p ∷ l) zero z h = refl

@@ -1,9 +1,10 @@
--- A setting by model: what it is declined for, where its numbers stand, and that both look at the head alone.
+-- A setting by model: what it is declined for, where its numbers stand, and that both look at the head alone; the cells that it makes stale, and its reply.
 use mathlib.Core.Path.{_≡_, refl, sym, ap, _∙_}
 use mathlib.Core.Bool.{Bool, true, false, _&&_, _||_, cond, or-false, or-true, and-false}
-use mathlib.Core.List.{List, [], _∷_}
-use Prim.Native.Nat.{ℕ, suc, _+_, _*_, _/_, _%_, _<_, _≤_}
-use native.Mathlib.Nat.{zero-add, zero-mul}
+use mathlib.Core.List.{List}
+use Prim.Native.Nat.{ℕ, _+_, _*_, _/_, _%_, _<_, _≤_}
+use native.Mathlib.Nat.{zero-add, zero-mul, mul-le-mul}
+use native.Mathlib.Numerals.{add-one, add-two, add-three, add-four}
 use native.Mathlib.Omega.{arith}
 use lib.Dec.{ltb, eqb}
 use lib.Seq.{sets}
@@ -29,60 +30,60 @@ use Rattle.mixture.specs.Memory.{Memory, memory, leastValues, leastMarks
 use Rattle.mixture.specs.Layout.{modelOf, dataIn, place, numbers, cellAt}
 use Rattle.mixture.specs.Calls.{inRange, headWith, headFault, settingFault, stales, stalesAt, setMemory, setHead, afterSetting}
 use Rattle.mixture.specs.Blocks.{inBlock, block, blockOf, headOnly, Settable}
-use Rattle.mixture.proofs.ListLaws.{never}
-use Rattle.mixture.proofs.PlaceLaws.{below-is, passed, nought, store-in}
-use Rattle.mixture.proofs.RangeLaws.{first-is, Bounds, bounds}
-use Rattle.mixture.proofs.CallLaws.{refused, lists-in, in-range, head-passed}
+use Rattle.mixture.proofs.ListLaws.{never, written-same}
+use Rattle.mixture.proofs.PlaceLaws.{below-is, had, fiveOf, store-in}
+use Rattle.mixture.proofs.RangeLaws.{first-is, bounds}
+use Rattle.mixture.proofs.CallLaws.{refused, in-range, head-passed}
 use Rattle.mixture.proofs.BlockLaws.{one-cell, one-row, no-cells, every-cell}
-use Rattle.mixture.proofs.StaleLaws.{written-same}
+
+-- how many rows and columns a model's tables have
+abbrev wide : ℕ → ℕ → Model → ℕ
+wide n ng t = byModel t n n n ng
 
 -- ---- what a setting is declined for
 
-module _ (m : Memory) (h : Head) {model : Model} (e : model ≡ modelOf (h .model)) {w : ℕ} (f : w ≡ byModel model (h .n) (h .n) (h .n) (h .ng)) where
-  pub temperature-case : (T : Float) {s : Setting} → s ≡ Temperature T → 0 ≡ caseFault (held (dataIn m h)) s
+module _ (m : Memory) (h : Head) {model : Model} (e : model ≡ modelOf (h .model)) {w : ℕ} (f : w ≡ wide (h .n) (h .ng) model) {s : Setting} where
+  pub temperature-case : {T : Float} → s ≡ Temperature T → 0 ≡ caseFault (held (dataIn m h)) s
   unfolding caseFault
-  temperature-case T g = rw g
+  temperature-case g = rw g
 
-  pub entry-case : (i j : ℕ) (v : Float) {s : Setting} {k r : ℕ} → s ≡ Entry i j v → k ≡ byModel model w w w 0 → r ≡ cond (below i k j k) 0 10
-      → r ≡ caseFault (held (dataIn m h)) s
+  pub entry-case : {i j k r : ℕ} {v : Float} → s ≡ Entry i j v → k ≡ byModel model w w w 0 → r ≡ cond (below i k j k) 0 10 → r ≡ caseFault (held (dataIn m h)) s
   unfolding caseFault hasEntry
-  entry-case i j v {s} {k} {r} g p q = q ∙ rw (g, p, f, ← e) (go model)
+  entry-case {i} {j} g p q = q ∙ rw (g, p, f, ← e) (go model)
     where
-      go : (t : Model) → cond {A = ℕ} (below i (byModel t (byModel t (h .n) (h .n) (h .n) (h .ng)) (byModel t (h .n) (h .n) (h .n) (h .ng)) (byModel t (h .n) (h .n) (h .n) (h .ng)) 0) j (byModel t (byModel t (h .n) (h .n) (h .n) (h .ng)) (byModel t (h .n) (h .n) (h .n) (h .ng)) (byModel t (h .n) (h .n) (h .n) (h .ng)) 0)) 0 10
-          ≡ cond (byModel t (below i (h .n) j (h .n)) (below i (h .n) j (h .n)) (below i (h .n) j (h .n)) false) 0 10
+      go : (t : Model) → let v = wide (h .n) (h .ng) t in
+          cond {A = ℕ} (below i (byModel t v v v 0) j (byModel t v v v 0)) 0 10 ≡ cond (byModel t (below i (h .n) j (h .n)) (below i (h .n) j (h .n)) (below i (h .n) j (h .n)) false) 0 10
       go Wilson = refl
       go Uniquac = refl
       go Nrtl = refl
       go Unifac = rw (le-ltb i 0 (omega arith))
 
-  pub td-case : (i j : ℕ) (v : TdParam) {s : Setting} {k r : ℕ} → s ≡ TdEntry i j v → k ≡ byModel model 0 0 w w → r ≡ cond (below i k j k) 0 10
-      → r ≡ caseFault (held (dataIn m h)) s
+  pub td-case : {i j k r : ℕ} {v : TdParam} → s ≡ TdEntry i j v → k ≡ byModel model 0 0 w w → r ≡ cond (below i k j k) 0 10 → r ≡ caseFault (held (dataIn m h)) s
   unfolding caseFault hasTdEntry
-  td-case i j v {s} {k} {r} g p q = q ∙ rw (g, p, f, ← e) (go model)
+  td-case {i} {j} g p q = q ∙ rw (g, p, f, ← e) (go model)
     where
-      go : (t : Model) → cond {A = ℕ} (below i (byModel t 0 0 (byModel t (h .n) (h .n) (h .n) (h .ng)) (byModel t (h .n) (h .n) (h .n) (h .ng))) j (byModel t 0 0 (byModel t (h .n) (h .n) (h .n) (h .ng)) (byModel t (h .n) (h .n) (h .n) (h .ng)))) 0 10
-          ≡ cond (byModel t false false (below i (h .n) j (h .n)) (below i (h .ng) j (h .ng))) 0 10
+      go : (t : Model) → let v = wide (h .n) (h .ng) t in
+          cond {A = ℕ} (below i (byModel t 0 0 v v) j (byModel t 0 0 v v)) 0 10 ≡ cond (byModel t false false (below i (h .n) j (h .n)) (below i (h .ng) j (h .ng))) 0 10
       go Wilson = rw (le-ltb i 0 (omega arith))
       go Uniquac = rw (le-ltb i 0 (omega arith))
       go Nrtl = refl
       go Unifac = refl
 
-  pub size-case : (i which : ℕ) (v : Float) {s : Setting} {k r : ℕ} → s ≡ Size i which v → k ≡ byModel model 1 2 0 2 → r ≡ cond (below i w which k) 0 10
-      → r ≡ caseFault (held (dataIn m h)) s
+  pub size-case : {i which k r : ℕ} {v : Float} → s ≡ Size i which v → k ≡ byModel model 1 2 0 2 → r ≡ cond (below i w which k) 0 10 → r ≡ caseFault (held (dataIn m h)) s
   unfolding caseFault hasSize
-  size-case i which v {s} {k} {r} g p q = q ∙ rw (g, p, f, ← e) (go model)
+  size-case {i} {which} g p q = q ∙ rw (g, p, f, ← e) (go model)
     where
-      go : (t : Model) → cond {A = ℕ} (below i (byModel t (h .n) (h .n) (h .n) (h .ng)) which (byModel t 1 2 0 2)) 0 10
+      go : (t : Model) → cond {A = ℕ} (below i (wide (h .n) (h .ng) t) which (byModel t 1 2 0 2)) 0 10
           ≡ cond (byModel t (below i (h .n) which 1) (below i (h .n) which 2) false (below i (h .ng) which 2)) 0 10
       go Wilson = refl
       go Uniquac = refl
       go Nrtl = rw (le-ltb which 0 (omega arith), and-false (ltb i (h .n)))
       go Unifac = refl
 
-  pub count-case : (i j : ℕ) (v : Float) {s : Setting} {r : ℕ} → s ≡ Count i j v
+  pub count-case : {i j r : ℕ} {v : Float} → s ≡ Count i j v
       → r ≡ cond (below i (byModel model 0 0 0 (h .n)) j (getD (h .lens) i 0)) (cond (lt v +0) 4 0) 10 → r ≡ caseFault (held (dataIn m h)) s
   unfolding caseFault hasCount lists
-  count-case i j v {s} {r} g q = q ∙ rw (g, ← e) (go model)
+  count-case {i} {j} {r} {v} g q = q ∙ rw (g, ← e) (go model)
     where
       go : (t : Model) → cond {A = ℕ} (below i (byModel t 0 0 0 (h .n)) j (getD (h .lens) i 0)) (cond (lt v +0) 4 0) 10
           ≡ cond (byModel t false false false (below i (h .n) j (getD (h .lens) i 0))) (cond (lt v +0) 4 0) 10
@@ -94,40 +95,40 @@ module _ (m : Memory) (h : Head) {model : Model} (e : model ≡ modelOf (h .mode
 -- ---- by model
 
 module _ (n ng i j : ℕ) where
-  entry-below : (t : Model) → byModel t (below i n j n) (below i n j n) (below i n j n) false ≡ true → (i < byModel t n n n ng) × (j < byModel t n n n ng)
+  entry-below : (t : Model) → byModel t (below i n j n) (below i n j n) (below i n j n) false ≡ true → (i < wide n ng t) × (j < wide n ng t)
   entry-below Wilson h = below-is i n j n h
   entry-below Uniquac h = below-is i n j n h
   entry-below Nrtl h = below-is i n j n h
   entry-below Unifac h = never (sym h)
 
-  td-below : (t : Model) → byModel t false false (below i n j n) (below i ng j ng) ≡ true → (i < byModel t n n n ng) × (j < byModel t n n n ng)
+  td-below : (t : Model) → byModel t false false (below i n j n) (below i ng j ng) ≡ true → (i < wide n ng t) × (j < wide n ng t)
   td-below Wilson h = never (sym h)
   td-below Uniquac h = never (sym h)
   td-below Nrtl h = below-is i n j n h
   td-below Unifac h = below-is i ng j ng h
 
-  size-below : (t : Model) → byModel t (below i n j 1) (below i n j 2) false (below i ng j 2) ≡ true → (i < byModel t n n n ng) × (j < 2)
+  size-below : (t : Model) → byModel t (below i n j 1) (below i n j 2) false (below i ng j 2) ≡ true → (i < wide n ng t) × (j < 2)
   size-below Wilson h = let b = below-is i n j 1 h in (b .0, omega arith)
   size-below Uniquac h = below-is i n j 2 h
   size-below Nrtl h = never (sym h)
   size-below Unifac h = below-is i ng j 2 h
 
-  entry-where : (t : Model) → byModel t (below i n j n) (below i n j n) (below i n j n) false ≡ true
-      → byModel t 0 0 (byModel t n n n ng * byModel t n n n ng * 5) 0 + (i * byModel t n n n ng + j) ≡ byModel t (i * n + j) (i * n + j) (n * n * 5 + (i * n + j)) 0
+  entry-where : (t : Model) → byModel t (below i n j n) (below i n j n) (below i n j n) false ≡ true → let w = wide n ng t in
+      byModel t 0 0 (w * w * 5) 0 + (i * w + j) ≡ byModel t (i * n + j) (i * n + j) (n * n * 5 + (i * n + j)) 0
   entry-where Wilson h = zero-add (i * n + j)
   entry-where Uniquac h = zero-add (i * n + j)
   entry-where Nrtl h = refl
   entry-where Unifac h = never (sym h)
 
-  td-where : (t : Model) → byModel t false false (below i n j n) (below i ng j ng) ≡ true
-      → byModel t 0 0 0 (byModel t n n n ng + byModel t n n n ng) + (i * byModel t n n n ng + j) * 5 ≡ byModel t 0 0 ((i * n + j) * 5) (ng + ng + (i * ng + j) * 5)
+  td-where : (t : Model) → byModel t false false (below i n j n) (below i ng j ng) ≡ true → let w = wide n ng t in
+      byModel t 0 0 0 (w + w) + (i * w + j) * 5 ≡ byModel t 0 0 ((i * n + j) * 5) (ng + ng + (i * ng + j) * 5)
   td-where Wilson h = never (sym h)
   td-where Uniquac h = never (sym h)
   td-where Nrtl h = zero-add ((i * n + j) * 5)
   td-where Unifac h = refl
 
-  size-where : (t : Model) → byModel t (below i n j 1) (below i n j 2) false (below i ng j 2) ≡ true
-      → byModel t (byModel t n n n ng * byModel t n n n ng) (byModel t n n n ng * byModel t n n n ng) 0 0 + (j * byModel t n n n ng + i) ≡ byModel t (n * n + i) (n * n + (j * n + i)) 0 (j * ng + i)
+  size-where : (t : Model) → byModel t (below i n j 1) (below i n j 2) false (below i ng j 2) ≡ true → let w = wide n ng t in
+      byModel t (w * w) (w * w) 0 0 + (j * w + i) ≡ byModel t (n * n + i) (n * n + (j * n + i)) 0 (j * ng + i)
   size-where Wilson h = let z : j ≡ 0 = omega (arith, below-is i n j 1 h .1) in rw (z, zero-mul n, zero-add i)
   size-where Uniquac h = refl
   size-where Nrtl h = never (sym h)
@@ -141,74 +142,69 @@ unifac-alone Unifac a h = (refl, h)
 
 -- ---- where its numbers stand
 
-module _ (h : Head) {s : Setting} (ok : Settable h s) {model : Model} (e : model ≡ modelOf (h .model)) {w : ℕ} (f : w ≡ byModel model (h .n) (h .n) (h .n) (h .ng)) where
-  pub width-in : (1 ≤ w) × (w ≤ 32)
-  width-in = rw f (go model e)
-    where
-      range : Bounds (headOnly h)
-      range = bounds (headOnly h) (ok .range)
+module _ (h : Head) {s : Setting} (ok : Settable h s) {model : Model} (e : model ≡ modelOf (h .model)) {w : ℕ} (f : w ≡ wide (h .n) (h .ng) model) where
+  width-in : (1 ≤ w) × (w ≤ 32)
+  unfolding width
+  width-in = rw (f, e) (bounds (headOnly h) (ok .range) .wide)
 
-      go : (t : Model) → t ≡ modelOf (h .model) → (1 ≤ byModel t (h .n) (h .n) (h .n) (h .ng)) × (byModel t (h .n) (h .n) (h .n) (h .ng) ≤ 32)
-      go Wilson q = (range .some, omega (arith, range .few))
-      go Uniquac q = (range .some, omega (arith, range .few))
-      go Nrtl q = (range .some, omega (arith, range .few))
-      go Unifac q = let l = lists-in (memory [] [] []) h (ok .range) (sym q) in (l .some, l .few)
+  module _ {i j : ℕ} {v : Float} (g : s ≡ Entry i j v) where
+    has-entry : hasEntry (held (headOnly h)) i j ≡ true
+    unfolding caseFault
+    has-entry = had (hasEntry (held (headOnly h)) i j) 0 (rw g at (ok .case))
 
-  has-entry : (i j : ℕ) (v : Float) → s ≡ Entry i j v → hasEntry (held (headOnly h)) i j ≡ true
-  unfolding caseFault
-  has-entry i j v g = passed (hasEntry (held (headOnly h)) i j) 0 10 (nought 9) (rw g at (ok .case)) .0
+    pub entry-within : (w ≤ 32) × (i < w) × (j < w)
+    unfolding hasEntry
+    entry-within = let b = entry-below (h .n) (h .ng) i j (modelOf (h .model)) has-entry in (width-in .1, rw (f, e) (b .0), rw (f, e) (b .1))
 
-  pub entry-within : (i j : ℕ) (v : Float) → s ≡ Entry i j v → (i < w) × (j < w)
-  unfolding hasEntry
-  entry-within i j v g = rw (f, e) (entry-below (h .n) (h .ng) i j (modelOf (h .model)) (has-entry i j v g))
+    pub entry-place : {r : ℕ} → r ≡ byModel model 0 0 (w * w * 5) 0 + (i * w + j) → r ≡ place (headOnly h) s
+    unfolding hasEntry place
+    entry-place p = p ∙ rw (g, f, e) (entry-where (h .n) (h .ng) i j (modelOf (h .model)) has-entry)
 
-  pub entry-place : (i j : ℕ) (v : Float) {r : ℕ} → s ≡ Entry i j v → r ≡ byModel model 0 0 (w * w * 5) 0 + (i * w + j) → r ≡ place (headOnly h) s
-  unfolding hasEntry place
-  entry-place i j v g p = p ∙ rw (g, f, e) (entry-where (h .n) (h .ng) i j (modelOf (h .model)) (has-entry i j v g))
+  module _ {i j : ℕ} {v : TdParam} (g : s ≡ TdEntry i j v) where
+    has-td : hasTdEntry (held (headOnly h)) i j ≡ true
+    unfolding caseFault
+    has-td = had (hasTdEntry (held (headOnly h)) i j) 0 (rw g at (ok .case))
 
-  has-td : (i j : ℕ) (v : TdParam) → s ≡ TdEntry i j v → hasTdEntry (held (headOnly h)) i j ≡ true
-  unfolding caseFault
-  has-td i j v g = passed (hasTdEntry (held (headOnly h)) i j) 0 10 (nought 9) (rw g at (ok .case)) .0
+    pub td-within : (w ≤ 32) × (i < w) × (j < w)
+    unfolding hasTdEntry
+    td-within = let b = td-below (h .n) (h .ng) i j (modelOf (h .model)) has-td in (width-in .1, rw (f, e) (b .0), rw (f, e) (b .1))
 
-  pub td-within : (i j : ℕ) (v : TdParam) → s ≡ TdEntry i j v → (i < w) × (j < w)
-  unfolding hasTdEntry
-  td-within i j v g = rw (f, e) (td-below (h .n) (h .ng) i j (modelOf (h .model)) (has-td i j v g))
+    pub td-place : {r : ℕ} → r ≡ byModel model 0 0 0 (w + w) + (i * w + j) * 5 → r ≡ place (headOnly h) s
+    unfolding hasTdEntry place
+    td-place p = p ∙ rw (g, f, e) (td-where (h .n) (h .ng) i j (modelOf (h .model)) has-td)
 
-  pub td-place : (i j : ℕ) (v : TdParam) {r : ℕ} → s ≡ TdEntry i j v → r ≡ byModel model 0 0 0 (w + w) + (i * w + j) * 5 → r ≡ place (headOnly h) s
-  unfolding hasTdEntry place
-  td-place i j v g p = p ∙ rw (g, f, e) (td-where (h .n) (h .ng) i j (modelOf (h .model)) (has-td i j v g))
+  module _ {i which : ℕ} {v : Float} (g : s ≡ Size i which v) where
+    has-size : hasSize (held (headOnly h)) i which ≡ true
+    unfolding caseFault
+    has-size = had (hasSize (held (headOnly h)) i which) 0 (rw g at (ok .case))
 
-  has-size : (i j : ℕ) (v : Float) → s ≡ Size i j v → hasSize (held (headOnly h)) i j ≡ true
-  unfolding caseFault
-  has-size i j v g = passed (hasSize (held (headOnly h)) i j) 0 10 (nought 9) (rw g at (ok .case)) .0
+    pub size-within : (w ≤ 32) × (i < w) × (which < 2)
+    unfolding hasSize
+    size-within = let b = size-below (h .n) (h .ng) i which (modelOf (h .model)) has-size in (width-in .1, rw (f, e) (b .0), b .1)
 
-  pub size-within : (i which : ℕ) (v : Float) → s ≡ Size i which v → (i < w) × (which < 2)
-  unfolding hasSize
-  size-within i j v g = rw (f, e) (size-below (h .n) (h .ng) i j (modelOf (h .model)) (has-size i j v g))
+    pub size-place : {r : ℕ} → r ≡ byModel model (w * w) (w * w) 0 0 + (which * w + i) → r ≡ place (headOnly h) s
+    unfolding hasSize place
+    size-place p = p ∙ rw (g, f, e) (size-where (h .n) (h .ng) i which (modelOf (h .model)) has-size)
 
-  pub size-place : (i which : ℕ) (v : Float) {r : ℕ} → s ≡ Size i which v → r ≡ byModel model (w * w) (w * w) 0 0 + (which * w + i) → r ≡ place (headOnly h) s
-  unfolding hasSize place
-  size-place i j v g p = p ∙ rw (g, f, e) (size-where (h .n) (h .ng) i j (modelOf (h .model)) (has-size i j v g))
-
-module _ (h : Head) {s : Setting} (ok : Settable h s) (i j : ℕ) (v : Float) (g : s ≡ Count i j v) where
+module _ (h : Head) {s : Setting} (ok : Settable h s) {i j : ℕ} {v : Float} (g : s ≡ Count i j v) where
   has-count : (modelOf (h .model) ≡ Unifac) × (below i (h .n) j (getD (h .lens) i 0) ≡ true)
   unfolding caseFault hasCount lists
-  has-count = unifac-alone (modelOf (h .model)) _ (passed (hasCount (held (headOnly h)) i j) _ 10 (nought 9) (rw g at (ok .case)) .0)
+  has-count = unifac-alone (modelOf (h .model)) _ (had (hasCount (held (headOnly h)) i j) _ (rw g at (ok .case)))
 
   pub count-within : (h .ng ≤ 32) × (i ≤ 12) × (j ≤ 12) × (start (h .lens) i ≤ 144)
   count-within =
-      let l = lists-in (memory [] [] []) h (ok .range) (has-count .0) in
+      let r = bounds (headOnly h) (ok .range) in
+      let l = r .lists (has-count .0) in
       let b = below-is i (h .n) j (getD (h .lens) i 0) (has-count .1) in
-      let few = bounds (headOnly h) (ok .range) .few in
-      (l .few, omega arith, omega (arith, l .short i (b .0)), omega (arith, l .places, start-up (h .lens) i (h .n) (omega arith)))
+      (l .few, omega (arith, r .few), omega (arith, l .short i (b .0)), omega (arith, l .places, start-up (h .lens) i (h .n) (omega arith)))
 
   pub count-place : {r : ℕ} → r ≡ countsAt (h .ng) + (start (h .lens) i + j) → r ≡ place (headOnly h) s
   unfolding place
   count-place p = p ∙ rw (g, has-count .0)
 
-pub temperature-place : (h : Head) (T : Float) {s : Setting} → s ≡ Temperature T → 0 ≡ place (headOnly h) s
+pub temperature-place : (h : Head) {T : Float} {s : Setting} → s ≡ Temperature T → 0 ≡ place (headOnly h) s
 unfolding place
-temperature-place h T g = rw g
+temperature-place h g = rw g
 
 -- ---- the head alone
 
@@ -243,24 +239,22 @@ module _ (m : Memory) (h : Head) where
 
 -- ---- the cells that it makes stale
 
-module _ (h : Head) {model : Model} (e : model ≡ modelOf (h .model)) {w : ℕ} (f : w ≡ byModel model (h .n) (h .n) (h .n) (h .ng)) where
-  pub block-fits : (s : Setting) → Settable h s → (blockOf model w s .top + blockOf model w s .rows ≤ w) × (blockOf model w s .left + blockOf model w s .columns ≤ w)
+module _ (h : Head) {model : Model} (e : model ≡ modelOf (h .model)) {w : ℕ} (f : w ≡ wide (h .n) (h .ng) model) where
+  block-fits : (s : Setting) → Settable h s → (blockOf model w s .top + blockOf model w s .rows ≤ w) × (blockOf model w s .left + blockOf model w s .columns ≤ w)
   unfolding blockOf
   block-fits (Temperature T) ok = (omega arith, omega arith)
   block-fits (Entry i j v) ok = go (eqb i j) model
     where
-      b : (i < w) × (j < w)
-      b = entry-within h ok e f i j v refl
+      b : (w ≤ 32) × (i < w) × (j < w)
+      b = entry-within h ok e f refl
 
-      go : (q : Bool) (t : Model)
-          → (cond q (block i 1 (byModel t 0 0 j j) (byModel t w w 1 1)) (block i 1 j 1) .top + cond q (block i 1 (byModel t 0 0 j j) (byModel t w w 1 1)) (block i 1 j 1) .rows ≤ w)
-          × (cond q (block i 1 (byModel t 0 0 j j) (byModel t w w 1 1)) (block i 1 j 1) .left + cond q (block i 1 (byModel t 0 0 j j) (byModel t w w 1 1)) (block i 1 j 1) .columns ≤ w)
-      go true Wilson = (omega (arith, b .0), omega arith)
-      go true Uniquac = (omega (arith, b .0), omega arith)
-      go true Nrtl = (omega (arith, b .0), omega (arith, b .1))
-      go true Unifac = (omega (arith, b .0), omega (arith, b .1))
-      go false t = (omega (arith, b .0), omega (arith, b .1))
-  block-fits (TdEntry i j p) ok = let b = td-within h ok e f i j p refl in (omega (arith, b .0), omega (arith, b .1))
+      go : (q : Bool) (t : Model) → let z = cond q (block i 1 (byModel t 0 0 j j) (byModel t w w 1 1)) (block i 1 j 1) in (z .top + z .rows ≤ w) × (z .left + z .columns ≤ w)
+      go true Wilson = (omega (arith, b), omega arith)
+      go true Uniquac = (omega (arith, b), omega arith)
+      go true Nrtl = (omega (arith, b), omega (arith, b))
+      go true Unifac = (omega (arith, b), omega (arith, b))
+      go false t = (omega (arith, b), omega (arith, b))
+  block-fits (TdEntry i j p) ok = let b = td-within h ok e f refl in (omega arith, omega arith)
   block-fits (Size i which v) ok = (omega arith, omega arith)
   block-fits (Count i j v) ok = (omega arith, omega arith)
 
@@ -272,19 +266,19 @@ module _ (h : Head) {model : Model} (e : model ≡ modelOf (h .model)) {w : ℕ}
     at-diagonal : diagonal ≡ byModel (modelOf (h .model)) false false false true
     at-diagonal = g ∙ rw e
 
-    pub block-stales : (s : Setting) → Settable h s → (c : ℕ) → inBlock w diagonal (blockOf model w s) c ≡ stalesAt (held (headOnly h)) s c
+    block-stales : (s : Setting) → Settable h s → (c : ℕ) → inBlock w diagonal (blockOf model w s) c ≡ stalesAt (held (headOnly h)) s c
     unfolding blockOf stalesAt stales hasEntry
     block-stales (Temperature T) ok c = every-cell (held (headOnly h)) w diagonal at-width at-diagonal (width-in h ok e f .0) c
-    block-stales (Entry i j v) ok c = rw (← at-width) (go (eqb i j) (modelOf (h .model)) e (has-entry h ok e f i j v refl))
+    block-stales (Entry i j v) ok c = rw (← at-width) (go (eqb i j) (modelOf (h .model)) e (has-entry h ok e f refl))
       where
         D : Held
         D = held (headOnly h)
 
         cell : inBlock w diagonal (block i 1 j 1) c ≡ (cellAt D c && (eqb (c / w) i && eqb (c % w) j))
-        cell = one-cell D w diagonal at-width at-diagonal (width-in h ok e f .0) i (entry-within h ok e f i j v refl .0) c j
+        cell = one-cell D w diagonal at-width at-diagonal (width-in h ok e f .0) i (entry-within h ok e f refl .1) c j
 
         line : inBlock w diagonal (block i 1 0 w) c ≡ (cellAt D c && (eqb (c / w) i && true))
-        line = one-row D w diagonal at-width at-diagonal (width-in h ok e f .0) i (entry-within h ok e f i j v refl .0) c
+        line = one-row D w diagonal at-width at-diagonal (width-in h ok e f .0) i (entry-within h ok e f refl .1) c
 
         go : (q : Bool) (t : Model) → model ≡ t → byModel t (below i (h .n) j (h .n)) (below i (h .n) j (h .n)) (below i (h .n) j (h .n)) false ≡ true
             → inBlock w diagonal (cond q (block i 1 (byModel model 0 0 j j) (byModel model w w 1 1)) (block i 1 j 1)) c
@@ -297,7 +291,7 @@ module _ (h : Head) {model : Model} (e : model ≡ modelOf (h .model)) {w : ℕ}
         go false Uniquac z k = rw (or-false (eqb (c % w) j)) cell
         go false Nrtl z k = cell
         go false Unifac z k = never (sym k)
-    block-stales (TdEntry i j p) ok c = rw (← at-width) (one-cell (held (headOnly h)) w diagonal at-width at-diagonal (width-in h ok e f .0) i (td-within h ok e f i j p refl .0) c j)
+    block-stales (TdEntry i j p) ok c = rw (← at-width) (one-cell (held (headOnly h)) w diagonal at-width at-diagonal (width-in h ok e f .0) i (td-within h ok e f refl .1) c j)
     block-stales (Size i which v) ok c = no-cells (held (headOnly h)) w diagonal at-width at-diagonal (width-in h ok e f .0) c
     block-stales (Count i j v) ok c = no-cells (held (headOnly h)) w diagonal at-width at-diagonal (width-in h ok e f .0) c
 
@@ -305,8 +299,14 @@ module _ (h : Head) {model : Model} (e : model ≡ modelOf (h .model)) {w : ℕ}
         → r ≡ written (stalesAt (held (headOnly h)) s) (λ c. 0) l
     stale-is s ok l {b} {r} q t = t ∙ rw q (written-same _ _ (λ c. 0) l (block-stales s ok))
 
-  pub fits-by : (s : Setting) → Settable h s → {b : Block} → b ≡ blockOf model w s → (b .top + b .rows ≤ w) × (b .left + b .columns ≤ w)
-  fits-by s ok {b} q = rw q (block-fits s ok)
+  -- what making a block stale asks for
+  pub fits-by : (s : Setting) → Settable h s → {b : Block} {lm : ℕ} → b ≡ blockOf model w s → 1024 ≤ lm
+      → (1 ≤ w) × (w ≤ 32) × (b .top + b .rows ≤ w) × (b .left + b .columns ≤ w) × (w * w ≤ lm)
+  fits-by s ok q long =
+      let v = width-in h ok e f in
+      let z = block-fits s ok in
+      let square : w * w ≤ 1024 = mul-le-mul (v .1) (v .1) in
+      (v .0, v .1, rw q (z .0), rw q (z .1), omega arith)
 
 module _ (model : Model) (w i j : ℕ) where
   pub row-entry : {l k : ℕ} → i ≡ j → l ≡ byModel model 0 0 j j → k ≡ byModel model w w 1 1
@@ -318,13 +318,8 @@ module _ (model : Model) (w i j : ℕ) where
 
 -- ---- numbers in turn
 
-pub put-five : (l : List Float) (p : ℕ) (a b c d e : Float) → set (set (set (set (set l p a) (p + 1) b) (p + 2) c) (p + 3) d) (p + 4) e ≡ sets l p (a ∷ b ∷ c ∷ d ∷ e ∷ [])
-put-five l p a b c d e =
-    let one : p + 1 ≡ suc p = omega arith in
-    let two : p + 2 ≡ suc (suc p) = omega arith in
-    let three : p + 3 ≡ suc (suc (suc p)) = omega arith in
-    let four : p + 4 ≡ suc (suc (suc (suc p))) = omega arith in
-    rw (one, two, three, four)
+pub put-five : (l : List Float) (at : ℕ) (p : TdParam) → set (set (set (set (set l at (p .a)) (at + 1) (p .b)) (at + 2) (p .c)) (at + 3) (p .d)) (at + 4) (p .e) ≡ sets l at (fiveOf p)
+put-five l at p = rw (add-one at, add-two at, add-three at, add-four at)
 
 -- ---- a base by model
 
@@ -360,7 +355,7 @@ set-fits m h s e =
     let f = first-is (headFault m h) _ e in
     let p = head-passed m h (f .0) in
     record {
-      ok = record { range = sym (range-only m h) ∙ in-range m h (f .0) .2; case = sym (case-only m h s) ∙ f .1 };
+      ok = record { range = sym (range-only m h) ∙ in-range m h (f .0); case = sym (case-only m h s) ∙ f .1 };
       values = omega (arith, place-only m h s, store-in (dataIn m h) s (f .1), p .range .values, p .long .values);
       marks = p .long .marks;
     }
@@ -382,7 +377,7 @@ module _ (m : Memory) (h : Head) (s : Setting) where
   set-refused {k} e n = rw (ne-eqb k 0 n) (refused m h _ e n)
 
 -- a setting changes T alone of the head, and whether it is set
-head-same : (h : Head) (s : Setting) → headWith h (setHead h s .t) (setHead h s .«has_t») (h .x) (h .«has_x») ≡ setHead h s
+pub head-same : (h : Head) (s : Setting) → headWith h (setHead h s .t) (setHead h s .«has_t») (h .x) (h .«has_x») ≡ setHead h s
 unfolding setHead
 head-same h (Temperature T) = refl
 head-same h (Entry i j v) = refl

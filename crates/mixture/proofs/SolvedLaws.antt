@@ -1,12 +1,10 @@
--- Each model's refilled cells hold its exponentials, and its value is that over the cells.
+-- What a model needs of memory; its refilled cells hold its exponentials, and its value is that over the cells.
 use mathlib.Core.Path.{_≡_, refl, sym, ap, _∙_}
 use mathlib.Core.Bool.{Bool}
 use mathlib.Core.List.{List}
 use Prim.Native.Nat.{ℕ, zero, suc, _+_, _*_, _-_, _/_, _%_, _<_, _≤_}
-use native.Mathlib.Nat.{mod-lt, div-lt-iff-lt-mul, mul-assoc, mul-le-mul, mul-le-mul-right}
+use native.Mathlib.Nat.{mod-lt, div-lt-iff-lt-mul, mul-assoc, mul-le-mul}
 use native.Mathlib.Omega.{arith}
-use borrow.Author.Tests.{ltb-true}
-use lib.Dec.{ltb}
 use lib.ListN.{length, getD}
 use lib.Ieee.{Float}
 use Rattle.arithmetic.specs.Logarithm.{logOf}
@@ -30,40 +28,40 @@ use Rattle.models.proofs.UnifacLaws.{psi-same, psi-at}
 use Rattle.mixture.specs.declared.head.Model.the-variants.{Wilson, Uniquac, Nrtl, Unifac}
 use Rattle.mixture.specs.Memory.{leastValues, leastCells, leastMarks}
 use Rattle.mixture.specs.Refills.{rowCell, staleCell, Refilled, Solved}
-use Rattle.mixture.proofs.PlaceLaws.{both}
-use Rattle.mixture.proofs.RefillLaws.{among, written-same}
+use Rattle.mixture.proofs.RefillLaws.{last-row, refilled-as}
 
--- a table of n·n energies, n few, is within memory of the least lengths, and so are its cells and marks
-pub energies-within : (n lv lc lm : ℕ) → n ≤ 12 → leastValues ≤ lv → leastCells ≤ lc → leastMarks ≤ lm
-    → (n ≤ 32) × ((n - 1) * n + n * 5 ≤ lv) × ((n - 1) * n + n ≤ lv) × (n * n ≤ lc) × (n * n ≤ lm)
+-- ---- room
+
+-- what n components, at most 12, need of memory of the least lengths: a table of n·n, whose last row ends within it
+pub record Room (n lv lc lm : ℕ) : Type 0 where
+  pub few : n ≤ 12
+  pub square : n * n ≤ 144
+  pub last : (n - 1) * n + n ≤ n * n
+  pub values : 5328 ≤ lv
+  pub cells : 1024 ≤ lc
+  pub marks : 1024 ≤ lm
+
+pub few-room : {n lv lc lm : ℕ} → n ≤ 12 → leastValues ≤ lv → leastCells ≤ lc → leastMarks ≤ lm → Room n lv lc lm
 unfolding leastValues leastCells leastMarks
-energies-within n lv lc lm few v c m =
-    let s : n * n ≤ 144 = mul-le-mul few few in
-    let r : (n - 1) * n ≤ n * n = mul-le-mul-right n (omega arith) in
-    (omega arith, omega arith, omega arith, omega arith, omega arith)
+few-room {n} few v c m = record { few = few; square = mul-le-mul few few; last = last-row n; values = v; cells = c; marks = m }
+
+-- the table of energies as a refill asks for it, with its cells and marks
+pub energies-lent : {n lv lc lm : ℕ} → Room n lv lc lm → (n ≤ 32) × ((n - 1) * n + n * 5 ≤ lv) × ((n - 1) * n + n ≤ lv) × (n * n ≤ lc) × (n * n ≤ lm)
+energies-lent r = (omega arith, omega arith, omega arith, omega arith, omega arith)
 
 -- ---- equal entries
 
 -- the row and column of a place
-pub place-in : (w c : ℕ) → c < w * w → (c / w < w) × (c % w < w)
+place-in : (w c : ℕ) → c < w * w → (c / w < w) × (c % w < w)
 place-in w c h = by-width w h
   where
     by-width : (w : ℕ) → c < w * w → (c / w < w) × (c % w < w)
     by-width zero h = absurd (omega arith)
     by-width (suc w) h = (div-lt-iff-lt-mul {k = suc w} (omega arith) .1 h, mod-lt c (omega arith))
 
-module _ (w : ℕ) {p : ℕ → Bool} (F E : ℕ → ℕ → Float) {cells c : List Float} {marks m : List ℕ} {r : ℕ}
-    (same : (i j : ℕ) → i < w → j < w → F i j ≡ E i j) where
-  refilled-by : Refilled (w * w) p (λ c. F (c / w) (c % w)) cells marks c m r → Refilled (w * w) p (λ c. E (c / w) (c % w)) cells marks c m r
-  refilled-by all =
-      record {
-        worked =
-            all .worked
-            ∙ written-same (among (w * w) p) (among (w * w) p) (λ c. F (c / w) (c % w)) (λ c. E (c / w) (c % w)) cells (λ c b. refl)
-            (λ c b t. let i = place-in w c (ltb-true c (w * w) (both (ltb c (w * w)) (p c) t .0)) in same (c / w) (c % w) (i .0) (i .1));
-        marked = all .marked;
-        counted = all .counted;
-      }
+refilled-by : (w : ℕ) {p : ℕ → Bool} (F E : ℕ → ℕ → Float) {cells c : List Float} {marks m : List ℕ} {r : ℕ} → ((i j : ℕ) → i < w → j < w → F i j ≡ E i j)
+    → Refilled (w * w) p (λ c. F (c / w) (c % w)) cells marks c m r → Refilled (w * w) p (λ c. E (c / w) (c % w)) cells marks c m r
+refilled-by w F E same all = refilled-as (w * w) _ _ _ _ _ (λ c b. let i = place-in w c b in same (c / w) (c % w) (i .0) (i .1)) all
 
 -- ---- Wilson and UNIQUAC
 

@@ -1,65 +1,21 @@
 -- Marks written 0 place after place and row after row, as a list written at the places that pass.
 use mathlib.Core.Path.{_≡_, refl, sym, ap, _∙_}
 use mathlib.Core.Bool.{Bool, true, false, not, _&&_, _||_, cond, or-false, or-true, and-false}
-use mathlib.Core.List.{List, [], _∷_}
+use mathlib.Core.List.{List}
 use Prim.Native.Nat.{ℕ, zero, suc, _+_, _*_, _/_, _%_, _<_, _≤_}
 use mathlib.Core.Logic.{inl, inr}
-use native.Mathlib.Nat.{div-add-mod', mod-lt}
+use native.Mathlib.Nat.{zero-add, suc-add, add-suc, div-add-mod', mod-lt}
 use native.Mathlib.Omega.{arith}
-use lib.Dec.{leb, ltb, eqb}
+use lib.Dec.{leb, ltb, eqb, leb·suc-suc}
 use lib.ListN.{set}
 use borrow.Author.Tests.{lt-ltb, le-ltb, le-leb, lt-leb, eq-eqb, ne-eqb}
+use Rattle.arithmetic.proofs.Differences.{le-or}
 use Rattle.arithmetic.proofs.TableLaws.{by-place, row-end}
 use Rattle.mixture.specs.declared.stale.Block.{Block}
 use Rattle.mixture.specs.Lists.{written}
 use Rattle.mixture.specs.Blocks.{inBlock}
+use Rattle.mixture.proofs.ListLaws.{written-same, written-none, written-set, written-both}
 use Rattle.mixture.proofs.PlaceLaws.{eq-cases}
-
--- ---- tests
-
-eqb-suc : (a b : ℕ) → eqb (suc a) (suc b) ≡ eqb a b
-eqb-suc a b =
-    elim (eq-cases a b) [
-      | inl e ↦ eq-eqb (suc a) (suc b) (omega arith) ∙ sym (eq-eqb a b e)
-      | inr n ↦ ne-eqb (suc a) (suc b) (λ (e : suc a ≡ suc b). n (omega arith)) ∙ sym (ne-eqb a b n)
-    ]
-
--- ---- a list written at places
-
-module _ {A : Type 0} where
-  pub written-same : (p q : ℕ → Bool) (f : ℕ → A) (l : List A) → ((c : ℕ) → p c ≡ q c) → written p f l ≡ written q f l
-  unfolding written
-  written-same p q f [] h = refl
-  written-same p q f (a ∷ l) h = rw (h 0, written-same (λ k. p (suc k)) (λ k. q (suc k)) (λ k. f (suc k)) l (λ c. h (suc c)))
-
-  pub written-none : (p : ℕ → Bool) (f : ℕ → A) (l : List A) → ((c : ℕ) → p c ≡ false) → l ≡ written p f l
-  unfolding written
-  written-none p f [] h = refl
-  written-none p f (a ∷ l) h = rw (h 0, ← written-none (λ k. p (suc k)) (λ k. f (suc k)) l (λ c. h (suc c)))
-
-  -- one place more
-  pub written-set : (p q : ℕ → Bool) (f : ℕ → A) (l : List A) (k : ℕ) → ((c : ℕ) → q c ≡ (p c || eqb c k)) → set (written p f l) k (f k) ≡ written q f l
-  unfolding written
-  written-set p q f [] k h = refl
-  written-set p q f (a ∷ l) zero h =
-      rw (h 0, or-true (p 0))
-      (ap (λ (r : List A). f 0 ∷ r) (written-same (λ k. p (suc k)) (λ k. q (suc k)) (λ k. f (suc k)) l (λ c. sym (h (suc c) ∙ rw (ne-eqb (suc c) 0 (λ (e : suc c ≡ 0). omega arith)) (or-false (p (suc c)))))))
-  written-set p q f (a ∷ l) (suc k) h =
-      rw (h 0, ne-eqb 0 (suc k) (λ (e : 0 ≡ suc k). omega arith), or-false (p 0), written-set (λ k. p (suc k)) (λ k. q (suc k)) (λ k. f (suc k)) l k (λ c. h (suc c) ∙ rw (eqb-suc c k)))
-
-  -- the places of one, then those of another
-  pub written-both : (p q r : ℕ → Bool) (f : ℕ → A) (l : List A) → ((c : ℕ) → r c ≡ (p c || q c)) → written q f (written p f l) ≡ written r f l
-  unfolding written
-  written-both p q r f [] h = refl
-  written-both p q r f (a ∷ l) h =
-      rw (h 0, written-both (λ k. p (suc k)) (λ k. q (suc k)) (λ k. r (suc k)) (λ k. f (suc k)) l (λ c. h (suc c)))
-      (ap (λ (b : A). b ∷ written (λ k. r (suc k)) (λ k. f (suc k)) l) (twice (p 0) (q 0)))
-    where
-      twice : (s t : Bool) → cond t (f 0) (cond s (f 0) a) ≡ cond (s || t) (f 0) a
-      twice true true = refl
-      twice true false = refl
-      twice false true = refl
-      twice false false = refl
 
 -- ---- a row
 
@@ -71,7 +27,7 @@ module _ (start left j skip : ℕ) where
   row-out c e l = rw (l, e) (sym (or-false (inRow start left j skip c)))
 
   -- the place start + j, which isn't the one to skip
-  pub row-more : left ≤ j → (j ≡ skip → ⊥) → (c : ℕ) → inRow start left (j + 1) skip c ≡ (inRow start left j skip c || eqb c (start + j))
+  row-more : left ≤ j → (j ≡ skip → ⊥) → (c : ℕ) → inRow start left (j + 1) skip c ≡ (inRow start left j skip c || eqb c (start + j))
   row-more h n c =
       by-place c (start + j)
       (λ (b : c < start + j). row-out c (ne-eqb c (start + j) (λ (e : c ≡ start + j). omega arith)) (lt-ltb c (start + (j + 1)) (omega arith) ∙ sym (lt-ltb _ _ b)))
@@ -81,35 +37,36 @@ module _ (start left j skip : ℕ) where
       (sym (or-true (true && ltb (start + j) (start + j) && true)))))
       (λ (b : start + j < c). row-out c (ne-eqb c (start + j) (λ (e : c ≡ start + j). omega arith)) (le-ltb c (start + (j + 1)) (omega arith) ∙ sym (le-ltb c (start + j) (omega arith))))
 
-  pub row-skips : j ≡ skip → (c : ℕ) → inRow start left j skip c ≡ inRow start left (j + 1) skip c
+  row-skips : j ≡ skip → (c : ℕ) → inRow start left j skip c ≡ inRow start left (j + 1) skip c
   row-skips h c =
       by-place c (start + j)
       (λ (b : c < start + j). rw (lt-ltb _ _ b, lt-ltb c (start + (j + 1)) (omega arith)))
       (λ (e : start + j ≡ c). rw (eq-eqb c (start + skip) (omega arith)) (and-false (leb (start + left) c && ltb c (start + j)) ∙ sym (and-false (leb (start + left) c && ltb c (start + (j + 1))))))
       (λ (b : start + j < c). rw (le-ltb c (start + j) (omega arith), le-ltb c (start + (j + 1)) (omega arith)))
 
+  -- a turn writes the place, or skips it
+  module _ (l : List ℕ) {m r : List ℕ} (so : m ≡ written (inRow start left j skip) (λ c. 0) l) where
+    pub row-write : left ≤ j → (j ≡ skip → ⊥) → r ≡ set m (start + j) 0 → r ≡ written (inRow start left (j + 1) skip) (λ c. 0) l
+    row-write h n e = e ∙ rw so (written-set _ _ (λ c. 0) l (start + j) (row-more h n))
+
+    pub row-keep : j ≡ skip → r ≡ m → r ≡ written (inRow start left (j + 1) skip) (λ c. 0) l
+    row-keep h e = e ∙ (so ∙ written-same _ _ (λ c. 0) l (row-skips h))
+
 pub row-none : (start left right skip : ℕ) → right ≤ left → (c : ℕ) → inRow start left right skip c ≡ false
 row-none start left right skip h c =
-    by-place c (start + left)
-    (λ (b : c < start + left). rw (lt-leb _ _ b))
-    (λ (e : start + left ≡ c). rw (le-ltb c (start + right) (omega arith), and-false (leb (start + left) c)))
-    (λ (b : start + left < c). rw (le-ltb c (start + right) (omega arith), and-false (leb (start + left) c)))
+    elim (le-or (start + left) c) [
+      | inl b ↦ rw (le-ltb c (start + right) (omega arith), and-false (leb (start + left) c))
+      | inr b ↦ rw (lt-leb _ _ b)
+    ]
 
 -- ---- rows of w
 
 same-leb : (a b c : ℕ) → leb (c + a) (c + b) ≡ leb a b
-same-leb a b c =
-    by-place b a
-    (λ (h : b < a). lt-leb (c + a) (c + b) (omega arith) ∙ sym (lt-leb a b h))
-    (λ (h : a ≡ b). le-leb (c + a) (c + b) (omega arith) ∙ sym (le-leb a b (omega arith)))
-    (λ (h : a < b). le-leb (c + a) (c + b) (omega arith) ∙ sym (le-leb a b (omega arith)))
+same-leb a b zero = rw (zero-add a, zero-add b)
+same-leb a b (suc c) = rw (suc-add c a, suc-add c b, leb·suc-suc (c + a) (c + b)) (same-leb a b c)
 
 same-ltb : (a b c : ℕ) → ltb (c + a) (c + b) ≡ ltb a b
-same-ltb a b c =
-    by-place a b
-    (λ (h : a < b). lt-ltb (c + a) (c + b) (omega arith) ∙ sym (lt-ltb a b h))
-    (λ (h : b ≡ a). le-ltb (c + a) (c + b) (omega arith) ∙ sym (le-ltb a b (omega arith)))
-    (λ (h : b < a). le-ltb (c + a) (c + b) (omega arith) ∙ sym (le-ltb a b (omega arith)))
+same-ltb a b c = rw (← add-suc c a) (same-leb (suc a) b c)
 
 same-eqb : (a b c : ℕ) → eqb (c + a) (c + b) ≡ eqb b a
 same-eqb a b c =
@@ -119,7 +76,7 @@ same-eqb a b c =
     ]
 
 -- a column of the block, in row k
-abbrev pub inColumns : Bool → ℕ → ℕ → ℕ → ℕ → Bool
+abbrev inColumns : Bool → ℕ → ℕ → ℕ → ℕ → Bool
 inColumns diagonal left right k r = leb left r && ltb r right && (diagonal || not (eqb k r))
 
 module _ (w : ℕ) (i left right : ℕ) (cols : right ≤ w) where
@@ -149,10 +106,10 @@ toRow w diagonal top left right i c = leb top (c / w) && ltb (c / w) i && inColu
 module _ (w : ℕ) (diagonal : Bool) (top left right : ℕ) where
   block-none : (c : ℕ) → toRow w diagonal top left right top c ≡ false
   block-none c =
-      by-place (c / w) top
-      (λ (h : c / w < top). rw (lt-leb top (c / w) h))
-      (λ (h : top ≡ c / w). rw (le-ltb (c / w) top (omega arith), and-false (leb top (c / w))))
-      (λ (h : top < c / w). rw (le-ltb (c / w) top (omega arith), and-false (leb top (c / w))))
+      elim (le-or top (c / w)) [
+        | inl h ↦ rw (le-ltb (c / w) top h, and-false (leb top (c / w)))
+        | inr h ↦ rw (lt-leb top (c / w) h)
+      ]
 
   block-row : (i : ℕ) → 1 ≤ w → right ≤ w → top ≤ i → (c : ℕ)
       → toRow w diagonal top left right (i + 1) c ≡ (toRow w diagonal top left right i c || inRow (i * w) left right (cond diagonal w i) c)

@@ -1,9 +1,9 @@
 -- Demand 1, on any memory and with any head: each call is a refusal that leaves all, or writes by place.
 use mathlib.Core.Path.{_≡_, refl, sym, _∙_, subst}
-use mathlib.Core.Bool.{Bool, false, _&&_, and-true}
-use mathlib.Core.List.{List, [], _++_}
+use mathlib.Core.Bool.{Bool, false, not, _&&_, and-true}
+use mathlib.Core.List.{List, _++_}
 use mathlib.Core.Logic.{_⊎_, inl, inr}
-use Prim.Native.Nat.{ℕ, _+_, _*_, _-_, _<_, _≤_}
+use Prim.Native.Nat.{ℕ, _+_, _*_, _-_, _/_, _%_, _<_, _≤_}
 use native.Mathlib.Omega.{arith}
 use lib.Dec.{leb, ltb, eqb}
 use lib.ListN.{length, drop, length-append, length-drop}
@@ -16,20 +16,19 @@ use Rattle.arithmetic.proofs.TableLaws.{cell-lt, cell-row, cell-column}
 use Rattle.mixture.specs.declared.head.Head.{Head}
 use Rattle.mixture.specs.declared.head.Model.{Model}
 use Rattle.mixture.specs.declared.head.Model.the-variants.{Wilson, Uniquac, Nrtl, Unifac}
-use Rattle.mixture.specs.declared.answers.Answer.the-variants.{Done}
 use Rattle.mixture.specs.Answers.{numberOf}
-use Rattle.mixture.specs.Names.{ModelData, Held, held, width, isCell}
+use Rattle.mixture.specs.Names.{Held, held, width, isCell}
 use Rattle.mixture.specs.Faults.{dataFault}
-use Rattle.mixture.specs.Memory.{Memory, leastValues, short, isShort, After, after}
+use Rattle.mixture.specs.Memory.{Memory, After}
 use Rattle.mixture.specs.Layout.{dataIn, place, numbers, cellAt}
-use Rattle.mixture.specs.Calls.{memoryFault, outcome, freshHead, afterOpen, loadFault, loadedHead, loadedMemory, afterLoad, settingFault, stalesAt, setMemory, setHead, afterSetting, fractionsFault, withFractions, afterFractions, queryFault, staleAt, worked, answered, afterQuery}
+use Rattle.mixture.specs.Calls.{memoryFault, outcome, afterOpen, loadFault, loadedMemory, afterLoad, settingFault, stalesAt, setMemory, afterSetting, fractionsFault, afterFractions, queryFault, staleAt, worked, answered, afterQuery}
 use Rattle.mixture.specs.Book.{Open, Load, Set, Fractions, Query}
 use Rattle.mixture.specs.History.{afterCall}
 use Rattle.mixture.specs.Writes.{callFault, Numbers, Declined, heldBy, valuePlaces, cellPlaces, markPlaces, Writes, OnlyThere, DiagonalKept}
 use Rattle.mixture.proofs.ListLaws.{length-written, getD-kept}
-use Rattle.mixture.proofs.PlaceLaws.{spared, nought, at-away}
-use Rattle.mixture.proofs.RangeLaws.{long-is, first-is, sound, bounds}
-use Rattle.mixture.proofs.LoadLaws.{left, left-size, left-inRange}
+use Rattle.mixture.proofs.PlaceLaws.{at-away}
+use Rattle.mixture.proofs.RangeLaws.{first-is}
+use Rattle.mixture.proofs.CallLaws.{load-fits}
 
 -- ---- declined calls
 
@@ -43,11 +42,11 @@ number-is k m h a z =
 
 pub numbers-are : Numbers
 unfolding afterCall afterOpen afterLoad afterSetting afterFractions afterQuery answered callFault numberOf
-numbers-are m h Open = number-is (memoryFault m) m h (after m (freshHead 0 0 0 [] []) Done) refl
-numbers-are m h (Load d) = number-is (loadFault m d) m h (after (loadedMemory m d) (loadedHead d) Done) refl
-numbers-are m h (Set s) = number-is (settingFault m h s) m h (after (setMemory m (dataIn m h) s) (setHead h s) Done) refl
-numbers-are m h (Fractions x) = number-is (fractionsFault m h x) m h (after m (withFractions h x) Done) refl
-numbers-are m h (Query q) = number-is (queryFault m h q) m h (answered m (held (dataIn m h)) h q) refl
+numbers-are m h Open = number-is (memoryFault m) m h _ refl
+numbers-are m h (Load d) = number-is (loadFault m d) m h _ refl
+numbers-are m h (Set s) = number-is (settingFault m h s) m h _ refl
+numbers-are m h (Fractions x) = number-is (fractionsFault m h x) m h _ refl
+numbers-are m h (Query q) = number-is (queryFault m h q) m h _ refl
 
 -- a number other than 0 leaves memory and head
 declines : (k : ℕ) (m : Memory) (h : Head) (a : After) → (k ≡ 0 → ⊥) → (outcome k m h a .memory ≡ m) × (outcome k m h a .reply .head ≡ h)
@@ -81,15 +80,6 @@ past v l k h =
     let e : length v + (k - length v) ≡ k = omega arith in
     subst (λ (p : ℕ). at (v ++ drop (length v) l) p ≡ at l p) e (getD-append-add v (drop (length v) l) (k - length v) nan ∙ getD-drop (length v) l (k - length v) nan)
 
--- a load that is accepted fits
-fits : (m : Memory) (d : ModelData) → loadFault m d ≡ 0 → length (d .values) ≤ length (m .values)
-unfolding loadFault memoryFault leastValues short
-fits m d z =
-    let f = first-is (memoryFault m) (dataFault d) z in
-    let s = sound d (f .1) in
-    let b = bounds (left m (d .n) (d .ng) (d .lens) (d .groups) (d .values) (d .model)) (left-inRange m (d .n) (d .ng) (d .lens) (d .groups) (d .values) (d .model) s) .values in
-    omega (arith, s .size, left-size m (d .n) (d .ng) (d .lens) (d .groups) (d .values) (d .model), long-is m (spared (isShort m) 0 1 (nought 0) (f .0) .0) .values)
-
 outside : (p n k : ℕ) → (leb p k && ltb k (p + n)) ≡ false → (k < p) ⊎ (p + n ≤ k)
 outside p n k h =
     elim (le-or p k) [
@@ -98,23 +88,23 @@ outside p n k h =
     ]
 
 pub only-there : OnlyThere
-unfolding afterCall afterOpen afterLoad loadedMemory afterSetting setMemory stalesAt afterFractions afterQuery answered worked staleAt valuePlaces cellPlaces markPlaces
-only-there m h Open = writes-by _ _ _ m h (memoryFault m) (after m (freshHead 0 0 0 [] []) Done) (λ z. still _ _ _ m h)
+unfolding loadFault afterCall afterOpen afterLoad loadedMemory afterSetting setMemory stalesAt afterFractions afterQuery answered worked staleAt valuePlaces cellPlaces markPlaces
+only-there m h Open = writes-by _ _ _ m h (memoryFault m) _ (λ z. still _ _ _ m h)
 only-there m h (Load d) =
-    writes-by _ _ _ m h (loadFault m d) (after (loadedMemory m d) (loadedHead d) Done)
+    writes-by _ _ _ m h (loadFault m d) _
     (λ z.
     record {
       values = λ k p. past (d .values) (m .values) k (ltb-false k (length (d .values)) p);
       cells = λ c p. refl;
       marks = λ c p. getD-kept (cellAt (held d)) (λ c. 0) (m .marks) c 0 (sym (and-true (cellAt (held d) c)) ∙ p);
       lengths = (
-        rw (length-append (d .values) (drop (length (d .values)) (m .values)), length-drop (length (d .values)) (m .values)) (omega (arith, fits m d z)),
+        rw (length-append (d .values) (drop (length (d .values)) (m .values)), length-drop (length (d .values)) (m .values)) (omega (arith, let f = first-is (memoryFault m) (dataFault d) z in load-fits m d (f .0) (f .1) .values)),
         refl,
         length-written (cellAt (held d)) (λ c. 0) (m .marks),
       );
     })
 only-there m h (Set s) =
-    writes-by _ _ _ m h (settingFault m h s) (after (setMemory m (dataIn m h) s) (setHead h s) Done)
+    writes-by _ _ _ m h (settingFault m h s) _
     (λ z.
     record {
       values = λ k p. at-away (m .values) (place (dataIn m h) s) (numbers s) k (outside (place (dataIn m h) s) (length (numbers s)) k p);
@@ -122,9 +112,9 @@ only-there m h (Set s) =
       marks = λ c p. getD-kept (stalesAt (held (dataIn m h)) s) (λ c. 0) (m .marks) c 0 p;
       lengths = (length-sets (m .values) (place (dataIn m h) s) (numbers s), refl, length-written (stalesAt (held (dataIn m h)) s) (λ c. 0) (m .marks));
     })
-only-there m h (Fractions x) = writes-by _ _ _ m h (fractionsFault m h x) (after m (withFractions h x) Done) (λ z. still _ _ _ m h)
+only-there m h (Fractions x) = writes-by _ _ _ m h (fractionsFault m h x) _ (λ z. still _ _ _ m h)
 only-there m h (Query q) =
-    writes-by _ _ _ m h (queryFault m h q) (answered m (held (dataIn m h)) h q)
+    writes-by _ _ _ m h (queryFault m h q) _
     (λ z.
     record {
       values = λ k p. refl;
@@ -140,10 +130,13 @@ no-cell : (d : Held) (i : ℕ) → (d .model ≡ Unifac → ⊥) → i < d .n �
 unfolding cellAt width isCell
 no-cell d i u h = go (d .model) refl
   where
+    own : (ltb (i * d .n + i) (d .n * d .n) && not (eqb ((i * d .n + i) / d .n) ((i * d .n + i) % d .n))) ≡ false
+    own = rw (lt-ltb _ _ (cell-lt (d .n) (d .n) i i h h), cell-row (d .n) i i h, cell-column (d .n) i i h, eq-eqb i i refl)
+
     go : (k : Model) → d .model ≡ k → cellAt d (i * d .n + i) ≡ false
-    go Wilson e = rw (e, lt-ltb _ _ (cell-lt (d .n) (d .n) i i h h), cell-row (d .n) i i h, cell-column (d .n) i i h, eq-eqb i i refl)
-    go Uniquac e = rw (e, lt-ltb _ _ (cell-lt (d .n) (d .n) i i h h), cell-row (d .n) i i h, cell-column (d .n) i i h, eq-eqb i i refl)
-    go Nrtl e = rw (e, lt-ltb _ _ (cell-lt (d .n) (d .n) i i h h), cell-row (d .n) i i h, cell-column (d .n) i i h, eq-eqb i i refl)
+    go Wilson e = rw e own
+    go Uniquac e = rw e own
+    go Nrtl e = rw e own
     go Unifac e = absurd (u e)
 
 pub diagonal-kept : DiagonalKept

@@ -2,7 +2,7 @@
 -- order.
 use mathlib.Core.Path.{_≡_, refl, _∙_}
 use mathlib.Core.List.{List}
-use Prim.Native.Nat.{ℕ, zero, suc, _+_, _*_, _≤_}
+use Prim.Native.Nat.{ℕ, _+_, _*_, _≤_}
 use native.Mathlib.Nat.{zero-add}
 use native.Mathlib.Omega.{arith}
 use lib.ListN.{length, getD, take}
@@ -15,16 +15,11 @@ use Rattle.models.proofs.ListLaws.{list-place}
 use Rattle.mixture.specs.declared.head.Model.{Model}
 use Rattle.mixture.specs.declared.head.Model.the-variants.{Wilson, Uniquac, Nrtl, Unifac}
 use Rattle.mixture.specs.Lists.{row, rows}
-use Rattle.mixture.specs.Names.{held, entries, tdEntries, sizes}
+use Rattle.mixture.specs.Names.{ModelData, held, entries, tdEntries, sizes}
 use Rattle.mixture.specs.Plain.{valuesIn, WrittenBack}
 use Rattle.mixture.proofs.PlaceLaws.{sizeOf, D}
 use Rattle.mixture.proofs.RangeLaws.{sound}
-use Rattle.mixture.proofs.RowLaws.{before, row-is, rows-is, table-is, tds-is}
-
-before-lens : (lens : List ℕ) (i : ℕ) → before (λ k. getD lens k 0) i ≡ start lens i
-unfolding before start
-before-lens lens zero = refl
-before-lens lens (suc i) = rw (before-lens lens i)
+use Rattle.mixture.proofs.RowLaws.{before, before-lens, row-is, rows-is, table-is, tds-is}
 
 -- ---- lists
 
@@ -39,13 +34,25 @@ groups-back lens groups n e =
 
 -- ---- values
 
-module _ (n ng : ℕ) (lens groups : List ℕ) (v : List Float) where
+module _ (d : ModelData) where
+  abbrev n : ℕ
+  n = d .n
+
+  abbrev ng : ℕ
+  ng = d .ng
+
+  abbrev lens : List ℕ
+  lens = d .lens
+
+  abbrev v : List Float
+  v = d .values
+
   -- the energies of Wilson and UNIQUAC
   energies-back : n * n ≤ length v → rows n (λ _. n) (energies n v) ≡ take (n * n) v
   unfolding energies
   energies-back h = table-is v 0 nan n n (energies n v) (λ i j b c. rw (zero-add (i * n + j))) (omega arith)
 
-  values-back : (k : Model) → length v ≡ sizeOf (D n ng lens groups v k) → valuesIn (held (D n ng lens groups v k)) ≡ v
+  values-back : (k : Model) → length v ≡ sizeOf (D d k) → valuesIn (held (D d k)) ≡ v
   unfolding valuesIn entries tdEntries sizes volumes wilsonSize rs qs uniquacSize taus tdGrid alphas nrtlSize groupRs groupQs groupAs countsAt unifacSize lists
   values-back Wilson e =
       rw (energies-back (omega arith), row-is v (n * n) nan n (volumes n v) (λ i b. refl) (omega arith), ← (take-add (n * n) n v))
@@ -83,6 +90,6 @@ pub written-back : WrittenBack
 unfolding lists
 written-back d f =
     let s = sound d f in (
-      values-back (d .n) (d .ng) (d .lens) (d .groups) (d .values) (d .model) (s .size),
+      values-back d (d .model) (s .size),
       λ e. let l = s .lists e in (lens-back (d .lens) (d .n) (l .lens), groups-back (d .lens) (d .groups) (d .n) (l .places)),
     )

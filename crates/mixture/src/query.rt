@@ -29,6 +29,7 @@ pub struct Worked {
     pub count: usize,
 }
 
+// Wilson's value and count.
 fn wilson(
     n: usize,
     t: f64,
@@ -47,6 +48,7 @@ fn wilson(
     Worked { value, count }
 }
 
+// UNIQUAC's value and count.
 fn uniquac(
     n: usize,
     t: f64,
@@ -125,6 +127,7 @@ fn nrtl(
     nrtl_over(n, t, &x[..], q, values, &mut tau[..], cells, marks)
 }
 
+// UNIFAC's value and count. log(T) is worked out once for all cells.
 fn unifac(
     n: usize,
     ng: usize,

@@ -1,4 +1,4 @@
--- All of them in turn: those passed are fine, and the first that isn't ends the search.
+-- Whether the first groups are below ng: those passed are, and the first that isn't ends the search.
 use mathlib.Core.Bool.{true}
 use lib.Dec.{ltb}
 use native.Mathlib.Nat.{le-antisymm}

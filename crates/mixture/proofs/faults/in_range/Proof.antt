@@ -1,44 +1,43 @@
--- n first; then UNIFAC's lists, and nothing more for the other three.
-use borrow.Author.Tests.{le-leb, lt-leb}
-use Rattle.mixture.specs.Layout.{dataIn}
-use Rattle.mixture.specs.declared.head.Model.the-variants.{Wilson, Uniquac, Nrtl}
-use Rattle.mixture.proofs.CallLaws.{range-not, range-plain, range-lists}
-use mathlib.Core.Path.{refl, sym, _∙_}
+-- Whether the head is in range: n first; then UNIFAC's lists, and nothing more for the other three.
+use mathlib.Core.Path.{_≡_, refl, sym, _∙_}
+use mathlib.Core.Bool.{true, false}
 use borrow.Author.Needs.{needs}
+use borrow.Author.Tests.{le-leb, lt-leb}
+use Rattle.models.specs.Plain.{between}
+use Rattle.mixture.specs.declared.head.Model.{Model}
+use Rattle.mixture.specs.declared.head.Model.the-variants.{Wilson, Uniquac, Nrtl}
+use Rattle.mixture.specs.Names.{byModel}
+use Rattle.mixture.specs.Memory.{Memory}
+use Rattle.mixture.specs.Layout.{dataIn}
+use Rattle.mixture.specs.Calls.{inRange}
+use Rattle.mixture.proofs.CallLaws.{range-not, range-plain, range-lists}
 use Rattle.mixture.proofs.faults.in_range.Statement.{statement}
 use Rattle.mixture.proofs.faults.in_range.Tie as tie
 
-returns : tie.Need-returns
-returns c = λ m. range-not (dataIn m (c .before .args .head)) (simp (lt-leb _ _ (c .if1 .taken)))
+few : (c : tie.Else2) → between 1 12 (c .before .before .args .head .n) ≡ true
+few c = simp (le-leb 1 _ (c .before .if1 .left), le-leb _ 12 (c .if2 .left))
 
-returns-2 : tie.Need-returns-2
-returns-2 c = λ m. range-not (dataIn m (c .before .before .args .head)) (simp (le-leb 1 _ (c .before .if1 .left), lt-leb _ 12 (c .if2 .taken)))
-
-returns-3 : tie.Need-returns-3
-returns-3 c = λ m. range-plain (dataIn m (c .before .before .before .before .before .args .head)) Wilson (sym (c .before .before .model-of .ensures) ∙ c .enum-told .given .1) refl (simp (le-leb 1 _ (c .before .before .before .before .if1 .left), le-leb _ 12 (c .before .before .before .if2 .left)))
-
-returns-4 : tie.Need-returns-4
-returns-4 c = λ m. range-plain (dataIn m (c .before .before .before .before .before .args .head)) Uniquac (sym (c .before .before .model-of .ensures) ∙ c .enum-told2 .given .1) refl (simp (le-leb 1 _ (c .before .before .before .before .if1 .left), le-leb _ 12 (c .before .before .before .if2 .left)))
-
-returns-5 : tie.Need-returns-5
-returns-5 c = λ m. range-plain (dataIn m (c .before .before .before .before .before .args .head)) Nrtl (sym (c .before .before .model-of .ensures) ∙ c .enum-told3 .given .1) refl (simp (le-leb 1 _ (c .before .before .before .before .if1 .left), le-leb _ 12 (c .before .before .before .if2 .left)))
+plain : (c : tie.After-model-of) (k : Model) → byModel k true true true false ≡ true → c .model-of .result ≡ k → (m : Memory) → true ≡ inRange (dataIn m (c .before .before .before .args .head))
+plain c k u e m = range-plain (dataIn m (c .before .before .before .args .head)) k (sym (c .model-of .ensures) ∙ e) u (few (c .before))
 
 returns-6 : tie.Need-returns-6
-returns-6 c = λ m. range-lists (dataIn m (c .before .before .before .before .before .before .before .before .args .head)) (sym (c .before .before .before .before .before .model-of .ensures) ∙ c .before .before .before .enum-told4 .given .1) (simp (le-leb 1 _ (c .before .before .before .before .before .before .before .if1 .left), le-leb _ 12 (c .before .before .before .before .before .before .if2 .left))) (c .lists-in-range .ensures)
+returns-6 c m =
+    let top = c .before .before .before .before .before in
+    range-lists (dataIn m (top .before .before .before .args .head)) (sym (top .model-of .ensures) ∙ c .before .before .before .enum-told4 .given .1) (few (top .before)) (c .lists-in-range .ensures)
 
 pub in-range-spec : {M : Type 1} → statement M
 in-range-spec =
     tie.close
     (tie.spec
-    returns
-    returns-2
+    (λ c m. range-not (dataIn m (c .before .args .head)) (simp (lt-leb _ _ (c .if1 .taken))))
+    (λ c m. range-not (dataIn m (c .before .before .args .head)) (simp (le-leb 1 _ (c .before .if1 .left), lt-leb _ 12 (c .if2 .taken))))
     (λ c κs. tt)
     (λ c. search needs)
     (λ c. search needs)
     (λ c. search needs)
     (λ c. search needs)
     (λ c κs. search needs)
-    returns-3
-    returns-4
-    returns-5
+    (λ c. plain (c .before .before) Wilson refl (c .enum-told .given .1))
+    (λ c. plain (c .before .before) Uniquac refl (c .enum-told2 .given .1))
+    (λ c. plain (c .before .before) Nrtl refl (c .enum-told3 .given .1))
     returns-6)

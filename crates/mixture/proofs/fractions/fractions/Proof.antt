@@ -1,4 +1,4 @@
--- The fault's number where there is one; else the head with the padded fractions.
+-- Refuses with the fault's number where there is one; else gives the head with the padded fractions back.
 use mathlib.Core.Path.{_≡_, refl, sym, _∙_}
 use denote.Ref.{now}
 use Rattle.mixture.specs.Memory.{Memory, memory}
@@ -7,22 +7,25 @@ use Rattle.mixture.proofs.CallLaws.{refused, done, fractions-fit}
 use Rattle.mixture.proofs.fractions.fractions.Statement.{statement}
 use Rattle.mixture.proofs.fractions.fractions.Tie as tie
 
+abbrev entry : tie.After-fractions-fault → tie.Start
+entry c = c .before .before .before .before .before
+
 abbrev memOf : tie.Start → Memory
 memOf s = memory (now (s .args .values)) (now (s .args .cells)) (now (s .args .marks))
 
-fault-none : (c : tie.Else1) → fractionsFault (memOf (c .before .before .before .before .before .before)) (c .before .before .before .before .before .before .args .head) (now (c .before .before .before .before .before .before .args .x)) ≡ 0
-fault-none c = sym (c .before .fractions-fault .ensures (memOf (c .before .before .before .before .before .before)) (refl, refl, refl)) ∙ c .if1 .left
+fault : (c : tie.After-fractions-fault) → let s = entry c in c .fractions-fault .result ≡ fractionsFault (memOf s) (s .args .head) (now (s .args .x))
+fault c = c .fractions-fault .ensures (memOf (entry c)) (refl, refl, refl)
+
+none : (c : tie.Else1) → let s = entry (c .before) in fractionsFault (memOf s) (s .args .head) (now (s .args .x)) ≡ 0
+none c = sym (fault (c .before)) ∙ c .if1 .left
 
 returns : tie.Need-returns
 unfolding afterFractions
-returns c = refused _ _ _ (c .before .fractions-fault .ensures (memOf (c .before .before .before .before .before .before)) (refl, refl, refl)) (c .if1 .taken)
-
-pad-fractions-requires : tie.Need-pad-fractions-requires
-pad-fractions-requires c κs = fractions-fit _ _ _ (fault-none c)
+returns c = refused _ _ _ (fault (c .before)) (c .if1 .taken)
 
 returns-2 : tie.Need-returns-2
 unfolding afterFractions
-returns-2 c = done _ _ (fault-none (c .before .before)) (rw (c .head-with .ensures, c .before .pad-fractions .ensures))
+returns-2 c = done _ _ (none (c .before .before)) (rw (c .head-with .ensures, c .before .pad-fractions .ensures))
 
 pub fractions-spec : {M : Type 1} → statement M
 fractions-spec =
@@ -30,6 +33,6 @@ fractions-spec =
     (tie.spec
     (λ c κs. tt)
     returns
-    pad-fractions-requires
+    (λ c κs. fractions-fit _ _ _ (none c))
     (λ c κs. tt)
     returns-2)

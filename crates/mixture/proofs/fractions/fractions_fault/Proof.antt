@@ -1,4 +1,4 @@
--- 1 and 8 of the head first; then those of the fractions.
+-- What fractions are declined for: 1 and 8 of the head first; then their own.
 use Rattle.models.proofs.AnswerLaws.{first-left, first-right}
 use Rattle.mixture.specs.Calls.{fractionsFault}
 use Rattle.mixture.proofs.fractions.fractions_fault.Statement.{statement}
@@ -6,11 +6,11 @@ use Rattle.mixture.proofs.fractions.fractions_fault.Tie as tie
 
 returns : tie.Need-returns
 unfolding fractionsFault
-returns c = λ m e. first-left _ (c .before .head-fault .ensures m e) (c .if1 .taken)
+returns c m e = first-left _ (c .before .head-fault .ensures m e) (c .if1 .taken)
 
 returns-2 : tie.Need-returns-2
 unfolding fractionsFault
-returns-2 c = λ m e. first-right (c .before .before .head-fault .ensures m e) (c .before .if1 .left) (c .mix-fault .ensures .0)
+returns-2 c m e = first-right (c .before .before .head-fault .ensures m e) (c .before .if1 .left) (c .mix-fault .ensures .0)
 
 pub fractions-fault-spec : {M : Type 1} → statement M
 fractions-fault-spec =

@@ -1,13 +1,12 @@
--- Before each turn the places passed are copied, and the rest are as they were.
-use mathlib.Core.List.{_++_}
-use lib.ListN.{take, drop, length-set}
-use denote.Ref.{now}
-use Rattle.mixture.proofs.CopyLaws.{copy-turn, copy-done}
+-- Copies bytes into the first places: the loop has copied those passed, and the rest are as they were.
 use mathlib.Core.Path.{_≡_, refl, _∙_}
+use mathlib.Core.List.{_++_}
 use Prim.Native.Nat.{_-_, _≤_}
 use native.Mathlib.Omega.{arith}
 use borrow.Author.Needs.{needs}
-use lib.ListN.{length}
+use denote.Ref.{now}
+use lib.ListN.{length, take, drop, length-set}
+use Rattle.mixture.proofs.CopyLaws.{copy-turn, copy-done}
 use Rattle.mixture.proofs.head.copy_bytes.Statement.{statement}
 use Rattle.mixture.proofs.head.copy_bytes.Tie as tie
 
@@ -17,11 +16,10 @@ Inv-loop r₀ s k₀ k-end r k = (k ≤ length s) × (length r ≡ length r₀) 
 abbrev μ-loop : tie.MeasureT-loop
 μ-loop r₀ s k₀ k-end r k = length s - k
 
-loop-holds : tie.Need-loop-holds Inv-loop μ-loop
-loop-holds c = (omega arith, refl, refl)
-
 loop-again : tie.Need-loop-again Inv-loop μ-loop
-loop-again c = let top = c .before .before in (omega arith, length-set (top .loop .r) (top .loop .k) _ ∙ top .loop .inv .1, copy-turn 0 _ (top .before .args .r .now) _ _ (top .loop .inv .2) (top .before .pre) (c .before .loop-test .taken))
+loop-again c =
+    let top = c .before .before in
+    (omega arith, length-set (top .loop .r) (top .loop .k) _ ∙ top .loop .inv .1, copy-turn 0 _ (top .before .args .r .now) _ _ (top .loop .inv .2) (top .before .pre) (c .before .loop-test .taken))
 
 returns : tie.Need-returns Inv-loop μ-loop
 returns c = copy-done 0 (now (c .before .before .args .s)) _ _ (c .before .loop .k) (c .before .loop .inv .2) (c .before .before .pre) (omega arith)
@@ -32,7 +30,7 @@ copy-bytes-spec =
     (tie.spec
     Inv-loop
     μ-loop
-    loop-holds
+    (λ c. (omega arith, refl, refl))
     (λ c. omega arith)
     (λ c. omega arith)
     (λ c. omega arith)

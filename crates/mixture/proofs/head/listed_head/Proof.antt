@@ -1,4 +1,4 @@
--- The lists copied into zeros, in a head with T and fractions unset.
+-- UNIFAC's head with T and fractions unset: the lists are copied into zeros.
 use mathlib.Core.Path.{_∙_}
 use borrow.Author.Needs.{needs}
 use denote.Ref.{now}

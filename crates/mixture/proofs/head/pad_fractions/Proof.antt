@@ -1,4 +1,4 @@
--- The fractions copied into zeros: before each turn the places passed are copied, and the rest are still 0.
+-- The fractions, padded with 0: the loop has copied those passed into zeros, and the rest are still 0.
 use mathlib.Core.Path.{_≡_, refl}
 use mathlib.Core.List.{_++_}
 use Prim.Native.Nat.{_-_, _≤_}

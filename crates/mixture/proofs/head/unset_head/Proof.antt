@@ -1,4 +1,4 @@
--- The fields as given; T and the fractions are zeros, by the bits of 0.
+-- A head with T and fractions unset: the fields as given; T and the fractions are zeros, by the bits of 0.
 use mathlib.Core.Path.{refl}
 use lib.Ieee.{ofBits}
 use Rattle.mixture.proofs.head.unset_head.Statement.{statement}

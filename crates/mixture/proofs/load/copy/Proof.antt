@@ -1,14 +1,13 @@
--- Before each turn the places passed are copied, and the rest are as they were.
-use mathlib.Core.List.{_++_}
-use lib.ListN.{take, drop, length-set}
-use lib.Ieee.{nan}
-use denote.Ref.{now}
-use Rattle.mixture.proofs.CopyLaws.{copy-turn, copy-done}
+-- Copies the given values into the first places: the loop has copied those passed, and the rest are as they were.
 use mathlib.Core.Path.{_≡_, refl, _∙_}
+use mathlib.Core.List.{_++_}
 use Prim.Native.Nat.{_-_, _≤_}
 use native.Mathlib.Omega.{arith}
 use borrow.Author.Needs.{needs}
-use lib.ListN.{length}
+use denote.Ref.{now}
+use lib.ListN.{length, take, drop, length-set}
+use lib.Ieee.{nan}
+use Rattle.mixture.proofs.CopyLaws.{copy-turn, copy-done}
 use Rattle.mixture.proofs.load.copy.Statement.{statement}
 use Rattle.mixture.proofs.load.copy.Tie as tie
 
@@ -18,11 +17,10 @@ Inv-loop values₀ given k₀ k-end values k = (k ≤ length given) × (length v
 abbrev μ-loop : tie.MeasureT-loop
 μ-loop values₀ given k₀ k-end values k = length given - k
 
-loop-holds : tie.Need-loop-holds Inv-loop μ-loop
-loop-holds c = (omega arith, refl, refl)
-
 loop-again : tie.Need-loop-again Inv-loop μ-loop
-loop-again c = let top = c .before .before in (omega arith, length-set (top .loop .values) (top .loop .k) _ ∙ top .loop .inv .1, copy-turn nan _ (top .before .args .values .now) _ _ (top .loop .inv .2) (top .before .pre) (c .before .loop-test .taken))
+loop-again c =
+    let top = c .before .before in
+    (omega arith, length-set (top .loop .values) (top .loop .k) _ ∙ top .loop .inv .1, copy-turn nan _ (top .before .args .values .now) _ _ (top .loop .inv .2) (top .before .pre) (c .before .loop-test .taken))
 
 returns : tie.Need-returns Inv-loop μ-loop
 returns c = copy-done nan (now (c .before .before .args .given)) _ _ (c .before .loop .k) (c .before .loop .inv .2) (c .before .before .pre) (omega arith)
@@ -33,7 +31,7 @@ copy-spec =
     (tie.spec
     Inv-loop
     μ-loop
-    loop-holds
+    (λ c. (omega arith, refl, refl))
     (λ c. omega arith)
     (λ c. omega arith)
     (λ c. omega arith)

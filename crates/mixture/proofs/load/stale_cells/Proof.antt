@@ -1,21 +1,25 @@
--- The block of all rows and columns is that of the model's cells.
-use native.Mathlib.Nat.{mul-le-mul}
-use Rattle.mixture.proofs.BlockLaws.{cells-stale}
+-- Makes all the model's cells stale: they are the block of all rows and columns.
 use Prim.Native.Nat.{_≤_}
+use native.Mathlib.Nat.{mul-le-mul}
 use native.Mathlib.Omega.{arith}
 use borrow.Author.Needs.{needs}
+use Rattle.mixture.proofs.BlockLaws.{cells-stale}
 use Rattle.mixture.proofs.load.stale_cells.Statement.{statement}
 use Rattle.mixture.proofs.load.stale_cells.Tie as tie
 
+wide : (c : tie.After-by-model) → (1 ≤ c .by-model .result) × (c .by-model .result ≤ 32)
+wide c = let p = c .before .before .pre in (omega (arith, c .by-model .ensures, p), omega (arith, c .by-model .ensures, p))
+
 stale-requires : tie.Need-stale-requires
-stale-requires c κs = let s = c .before .before .before in
-    let w = c .before .before .by-model in
-    let some : 1 ≤ w .result = omega (arith, w .ensures, s .before .pre) in
-    let few : w .result ≤ 32 = omega (arith, w .ensures, s .before .pre) in
-    (some, few, omega arith, omega arith, omega (arith, mul-le-mul few few, s .before .pre))
+stale-requires c κs =
+    let top = c .before .before in
+    let w = wide top in
+    (w .0, w .1, omega arith, omega arith, omega (arith, mul-le-mul (w .1) (w .1), top .before .before .pre))
 
 returns : tie.Need-returns
-returns c = λ d so. cells-stale d so (c .before .before .before .before .before .by-model .ensures) (c .before .before .before .before .has-diagonal .ensures) (omega (arith, c .before .before .before .before .before .by-model .ensures, c .before .before .before .before .before .before .before .pre)) _ (c .before .before .stale .ensures)
+returns c d so =
+    let top = c .before .before .before .before .before in
+    cells-stale d so (top .by-model .ensures) (c .before .before .before .before .has-diagonal .ensures) (wide top .0) _ (c .before .before .stale .ensures)
 
 pub stale-cells-spec : {M : Type 1} → statement M
 stale-cells-spec =

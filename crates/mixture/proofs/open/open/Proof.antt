@@ -1,4 +1,4 @@
--- 1 where a slice is short, by the three lengths; else the fresh head without a model.
+-- Refuses with 1 where a slice is short, by the three lengths; else gives the fresh head without a model back.
 use mathlib.Core.Path.{sym, _∙_}
 use Rattle.mixture.specs.Calls.{memoryFault, afterOpen}
 use Rattle.mixture.proofs.CallLaws.{refused, done}

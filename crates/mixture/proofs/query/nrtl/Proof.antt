@@ -1,4 +1,4 @@
--- Either table has a place for each τ.
+-- NRTL's value and count with a table of τ of its own: either table has a place for each τ.
 use Prim.Native.Nat.{_≤_}
 use native.Mathlib.Nat.{mul-le-mul}
 use native.Mathlib.Omega.{arith}

@@ -1,10 +1,11 @@
--- The refilled cells hold Ψ, and the value is UNIFAC's over them; log(T) is worked out once.
+-- Works out the stale cells and gives UNIFAC's value: the refilled cells hold Ψ, and the value is over them; log(T) is worked out once.
 use mathlib.Core.Path.{_≡_, sym}
 use Prim.Native.Nat.{_+_, _*_, _-_, _≤_}
+use native.Mathlib.Nat.{mul-le-mul, mul-assoc}
 use native.Mathlib.Omega.{arith}
 use borrow.Author.Needs.{needs}
-use native.Mathlib.Nat.{mul-le-mul, mul-assoc}
 use denote.Ref.{now}
+use lib.ListN.{length}
 use Rattle.arithmetic.proofs.TableLaws.{row-end, from-length}
 use Rattle.models.specs.Values.{countsAt}
 use Rattle.mixture.specs.Memory.{leastValues, leastCells, leastMarks}
@@ -12,55 +13,51 @@ use Rattle.mixture.proofs.SolvedLaws.{unifac-solved}
 use Rattle.mixture.proofs.query.unifac.Statement.{statement}
 use Rattle.mixture.proofs.query.unifac.Tie as tie
 
+abbrev entry : tie.After-refill → tie.Start
+entry c = c .before .before .before .before .before .before .before .before
+
 -- the table of ng·ng is within the cells, and its td entries within the values
-small : (c : tie.Start) → let ng = c .args .ng in (ng * ng ≤ 1024) × (ng * (ng * 5) ≡ ng * ng * 5) × ((ng - 1) * (ng * 5) + ng * 5 ≤ ng * (ng * 5)) × (ng ≤ 32)
-small c =
-    let r = c .pre .0 in
-    (mul-le-mul (r .fewGroups) (r .fewGroups), sym (mul-assoc _ _ 5), row-end (c .args .ng) (c .args .ng * 5) (c .args .ng - 1) (omega (arith, r .someGroups)), r .fewGroups)
-
-sub-table : tie.Need-sub-table
+room : (s : tie.Start) → let ng = s .args .ng in
+    (ng * ng ≤ 1024) × (ng * (ng * 5) ≡ ng * ng * 5) × ((ng - 1) * (ng * 5) + ng * 5 ≤ ng * (ng * 5)) × (ng ≤ 32)
+    × (5328 ≤ length (now (s .args .values))) × (1024 ≤ length (now (s .args .cells))) × (1024 ≤ length (now (s .args .marks)))
 unfolding leastValues leastCells leastMarks
-sub-table c = let start = c .before .before .before .before in omega (arith, small start, start .pre .2)
-
-part-table-start : tie.Need-part-table-start
-unfolding leastValues leastCells leastMarks
-part-table-start c = let start = c .before .before .before .before in omega (arith, small start, start .pre .2)
+room s =
+    let ng = s .args .ng in
+    let r = s .pre .0 in
+    (mul-le-mul (r .fewGroups) (r .fewGroups), sym (mul-assoc _ _ 5), row-end ng (ng * 5) (ng - 1) (omega (arith, r .someGroups)), r .fewGroups, s .pre .2, s .pre .3, s .pre .4)
 
 refill-requires : tie.Need-refill-requires
-unfolding leastValues leastCells leastMarks
 refill-requires c κs =
-    let start = c .before .before .before .before .before .before .before in
-    let w = small start in
-    let ng = start .args .ng in
-    let l = from-length (ng + ng) (now (start .args .values)) in
-    (w .3, omega (arith, l, w, start .pre .2), omega (arith, l, w, start .pre .2), omega (arith, w, start .pre .3), omega (arith, w, start .pre .4))
+    let s = c .before .before .before .before .before .before .before in
+    let r = room s in
+    let l = from-length (s .args .ng + s .args .ng) (now (s .args .values)) in
+    (r .3, omega (arith, r, l), omega (arith, r, l), omega (arith, r), omega (arith, r))
 
 value-over-requires : tie.Need-value-over-requires
-unfolding leastValues leastCells leastMarks countsAt
+unfolding countsAt
 value-over-requires c κs =
-    let start = c .before .before .before .before .before .before .before .before .before .before .before .before .before .before .before .before in
-    let w = small start in
-    let r = start .pre .0 in
-    let l = from-length (countsAt (start .args .ng)) (now (start .args .values)) in (
+    let worked = c .before .before .before .before .before .before .before .before in
+    let s = entry worked in
+    let r = room s in
+    let p = s .pre .0 in (
       record {
-        some = r .some;
-        few = r .few;
-        someGroups = r .someGroups;
-        fewGroups = r .fewGroups;
-        tables = omega (arith, w, start .pre .2);
-        listed = record { many = omega (arith, r .few); within = omega (arith, r .places); counted = omega (arith, l, w, r .places, start .pre .2); below = r .below };
+        some = p .some;
+        few = p .few;
+        someGroups = p .someGroups;
+        fewGroups = p .fewGroups;
+        tables = omega (arith, r);
+        listed = record { many = omega (arith, p .few); within = omega (arith, p .places); counted = omega (arith, r, from-length (countsAt (s .args .ng)) (now (s .args .values)), p .places); below = p .below };
       },
-      omega (arith, c .before .before .before .before .before .before .before .before .refill .kept, w, start .pre .3),
-      omega (arith, r .few),
-      start .pre .1,
+      omega (arith, worked .refill .kept, r),
+      omega (arith, p .few),
+      s .pre .1,
     )
 
 returns : tie.Need-returns
-unfolding leastValues leastCells leastMarks
 returns c =
-    let start = c .before .before .before .before .before .before .before .before .before .before .before .before .before .before .before .before .before in
-    let w = small start in
-    unifac-solved (start .args .ng) (now (start .args .values)) (start .args .t) _ (omega (arith, w, start .pre .2)) (c .before .before .before .before .before .before .before .before .before .before .before .before .before .log .ensures) _ (c .before .before .before .before .before .before .before .before .before .refill .ensures) (c .value-over .ensures)
+    let worked = c .before .before .before .before .before .before .before .before .before in
+    let s = entry worked in
+    unifac-solved (s .args .ng) (now (s .args .values)) (s .args .t) _ (omega (arith, room s)) (worked .before .before .before .before .log .ensures) _ (worked .refill .ensures) (c .value-over .ensures)
 
 pub unifac-spec : {M : Type 1} → statement M
 unifac-spec =
@@ -69,8 +66,8 @@ unifac-spec =
     (λ c κs. tt)
     (λ c. search needs)
     (λ c. search needs)
-    sub-table
-    part-table-start
+    (λ c. omega (arith, room (c .before .before .before .before)))
+    (λ c. omega (arith, room (c .before .before .before .before)))
     (λ c. search needs)
     (λ c. search needs)
     refill-requires

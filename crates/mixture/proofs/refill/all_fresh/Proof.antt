@@ -1,5 +1,4 @@
--- Of short rows nothing is said. With cells on the diagonal no mark may be other than 1; without, as many as on the diagonal, so
--- none off it.
+-- Whether counting the marks shows that no cell is stale: none is other than 1, or, without cells on the diagonal, no more than on it.
 use mathlib.Core.Path.{sym, _∙_}
 use mathlib.Core.Bool.{false≢true}
 use Prim.Native.Nat.{_*_, _/_, _%_}
@@ -12,22 +11,10 @@ use Rattle.mixture.proofs.FreshLaws.{none-of, fresh-off, stale-none, st
 use Rattle.mixture.proofs.refill.all_fresh.Statement.{statement}
 use Rattle.mixture.proofs.refill.all_fresh.Tie as tie
 
-returns : tie.Need-returns
-returns c e k h = absurd (false≢true e)
-
-mul-count-unmarked : tie.Need-mul-count-unmarked
-mul-count-unmarked c = let s = c .before .before in omega (arith, mul-le-mul (s .pre .0) (s .pre .0))
-
-count-unmarked-requires : tie.Need-count-unmarked-requires
-count-unmarked-requires c κs = let s = c .before .before in (omega (arith, mul-le-mul (s .pre .0) (s .pre .0)), s .pre .1)
-
 returns-2 : tie.Need-returns-2
 returns-2 c e k h =
     let a = c .before .before .before .before .before .args in
     stale-none (a .model) (now (a .marks)) k (k / a .w) (k % a .w) (none-of (a .w * a .w) (unmarked (now (a .marks))) (sym (c .before .before .count-unmarked .ensures) ∙ eqb-true _ _ e) k h)
-
-count-diagonal-requires : tie.Need-count-diagonal-requires
-count-diagonal-requires c κs = c .before .before .before .before .before .pre
 
 returns-3 : tie.Need-returns-3
 returns-3 c e k h =
@@ -40,10 +27,10 @@ pub all-fresh-spec : {M : Type 1} → statement M
 all-fresh-spec =
     tie.close
     (tie.spec
-    returns
-    mul-count-unmarked
-    count-unmarked-requires
+    (λ c e k h. absurd (false≢true e))
+    (λ c. let p = c .before .before .pre in omega (arith, mul-le-mul (p .0) (p .0)))
+    (λ c κs. let p = c .before .before .pre in (omega (arith, mul-le-mul (p .0) (p .0)), p .1))
     (λ c κs. tt)
     returns-2
-    count-diagonal-requires
+    (λ c κs. c .before .before .before .before .before .pre)
     returns-3)

@@ -1,4 +1,4 @@
--- The row's exponentials are worked out; those of the stale cells are taken over.
+-- Works out a row's stale cells: all its exponentials are worked out, and those of the stale cells are taken over.
 use borrow.Author.Needs.{needs}
 use Rattle.mixture.proofs.RefillLaws.{refilled-as}
 use Rattle.mixture.proofs.refill.refill_at_once.Statement.{statement}

@@ -1,11 +1,8 @@
--- A short row cell by cell; nothing to do in one with nothing stale; any other is worked out at once.
+-- Works out a row's stale cells: a short row one by one; nothing where none is stale; else the row at once.
 use borrow.Author.Needs.{needs}
 use Rattle.mixture.proofs.RefillLaws.{refilled-fresh}
 use Rattle.mixture.proofs.refill.refill_row.Statement.{statement}
 use Rattle.mixture.proofs.refill.refill_row.Tie as tie
-
-returns-2 : tie.Need-returns-2
-returns-2 c = refilled-fresh _ _ _ _ _ (c .before .row-fresh .ensures (c .if2 .taken))
 
 pub refill-row-spec : {M : Type 1} → statement M
 refill-row-spec =
@@ -17,7 +14,7 @@ refill-row-spec =
     (λ c. search needs)
     (λ c κs. search needs)
     (λ c. search needs)
-    returns-2
+    (λ c. refilled-fresh _ _ _ _ _ (c .before .row-fresh .ensures (c .if2 .taken)))
     (λ c κs. search needs)
     (λ c. search needs)
     (λ c. search needs)

@@ -1,4 +1,4 @@
--- No mark is other than 1; or one is, and it is the diagonal's, which has no cell there.
+-- Whether counting the marks shows that no cell of a row is stale: no mark is other than 1; or one is, the diagonal's, which has no cell there.
 use mathlib.Core.Path.{sym, _∙_}
 use mathlib.Core.Bool.{false≢true}
 use native.Mathlib.Omega.{arith}
@@ -10,19 +10,10 @@ use Rattle.mixture.proofs.FreshLaws.{is-unmarked, none-of, only-own, st
 use Rattle.mixture.proofs.refill.row_fresh.Statement.{statement}
 use Rattle.mixture.proofs.refill.row_fresh.Tie as tie
 
-count-unmarked-requires : tie.Need-count-unmarked-requires
-count-unmarked-requires c κs = let s = c .before in (omega (arith, s .pre .1), s .pre .2)
-
 returns : tie.Need-returns
 returns c e k h =
     let a = c .before .before .before .args in
     stale-none (a .model) (now (a .marks)) k (a .i) k (none-of (a .w) (unmarked (now (a .marks))) (sym (c .before .count-unmarked .ensures) ∙ c .if1 .taken) k h)
-
-returns-2 : tie.Need-returns-2
-returns-2 c e k h = absurd (false≢true e)
-
-returns-3 : tie.Need-returns-3
-returns-3 c e k h = absurd (false≢true e)
 
 returns-4 : tie.Need-returns-4
 returns-4 c e k h =
@@ -36,10 +27,10 @@ pub row-fresh-spec : {M : Type 1} → statement M
 row-fresh-spec =
     tie.close
     (tie.spec
-    count-unmarked-requires
+    (λ c κs. (omega (arith, c .before .pre .1), c .before .pre .2))
     returns
     (λ c κs. tt)
-    returns-2
+    (λ c e k h. absurd (false≢true e))
     (λ c. search needs)
-    returns-3
+    (λ c e k h. absurd (false≢true e))
     returns-4)

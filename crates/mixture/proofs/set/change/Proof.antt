@@ -1,4 +1,4 @@
--- The fault's number where there is one; else values and marks as the callees leave them.
+-- Gives the fault's number where there is one; else 0, with values and marks as the callees leave them.
 use mathlib.Core.Path.{_≡_, refl, sym, _∙_}
 use native.Mathlib.Omega.{arith}
 use denote.Ref.{now}
@@ -9,31 +9,35 @@ use Rattle.mixture.proofs.SetLaws.{SetFits, set-fits, set-done, set-ref
 use Rattle.mixture.proofs.set.change.Statement.{statement}
 use Rattle.mixture.proofs.set.change.Tie as tie
 
+abbrev entry : tie.After-setting-fault → tie.Start
+entry c = c .before .before .before .before
+
 abbrev memOf : tie.Start → Memory
 memOf s = memory (s .args .values .now) (now (s .args .cells)) (s .args .marks .now)
 
-fault-none : (c : tie.Else1) → settingFault (memOf (c .before .before .before .before .before)) (c .before .before .before .before .before .args .head) (c .before .before .before .before .before .args .s) ≡ 0
-fault-none c = sym (c .before .setting-fault .ensures (memOf (c .before .before .before .before .before)) (refl, refl, refl)) ∙ c .if1 .left
+fault : (c : tie.After-setting-fault) → let s = entry c in c .setting-fault .result ≡ settingFault (memOf s) (s .args .head) (s .args .s)
+fault c = c .setting-fault .ensures (memOf (entry c)) (refl, refl, refl)
 
-pass : (c : tie.Else1) → SetFits (memOf (c .before .before .before .before .before)) (c .before .before .before .before .before .args .head) (c .before .before .before .before .before .args .s)
-pass c = set-fits _ _ _ (fault-none c)
+none : (c : tie.Else1) → let s = entry (c .before) in settingFault (memOf s) (s .args .head) (s .args .s) ≡ 0
+none c = sym (fault (c .before)) ∙ c .if1 .left
+
+fits : (c : tie.Else1) → let s = entry (c .before) in SetFits (memOf s) (s .args .head) (s .args .s)
+fits c = set-fits _ _ _ (none c)
 
 returns : tie.Need-returns
-returns c = set-refused (memOf (c .before .before .before .before .before)) _ _ (c .before .setting-fault .ensures (memOf (c .before .before .before .before .before)) (refl, refl, refl)) (c .if1 .taken)
-
-store-at-requires : tie.Need-store-at-requires
-store-at-requires c κs = pass c .ok
+returns c = set-refused (memOf (entry (c .before))) _ _ (fault (c .before)) (c .if1 .taken)
 
 put-requires : tie.Need-put-requires
-put-requires c κs = omega (arith, pass (c .before .before) .values, c .before .store-at .ensures)
+put-requires c κs = omega (arith, fits (c .before .before) .values, c .before .store-at .ensures)
 
 stale-by-requires : tie.Need-stale-by-requires
-stale-by-requires c κs = let p = pass (c .before .before .before .before .before .before) in (p .ok, p .marks)
+stale-by-requires c κs = let f = fits (c .before .before .before .before .before .before) in (f .ok, f .marks)
 
 returns-2 : tie.Need-returns-2
 returns-2 c =
-    let s = c .before .before .before .before .before .before .before .before .before .before .before .before .before .before in
-    set-done (memOf s) (s .args .head) (s .args .s) (fault-none (c .before .before .before .before .before .before .before .before .before)) (c .before .before .before .before .before .before .before .before .store-at .ensures) (c .before .before .before .before .before .before .put .ensures) (c .before .before .stale-by .ensures) refl
+    let stored = c .before .before .before .before .before .before in
+    let placed = stored .before .before in
+    set-done (memOf (entry (placed .before .before))) _ _ (none (placed .before)) (placed .store-at .ensures) (stored .put .ensures) (c .before .before .stale-by .ensures) refl
 
 pub change-spec : {M : Type 1} → statement M
 change-spec =
@@ -41,7 +45,7 @@ change-spec =
     (tie.spec
     (λ c κs. tt)
     returns
-    store-at-requires
+    (λ c κs. fits c .ok)
     put-requires
     stale-by-requires
     (λ c. search needs)

@@ -1,30 +1,19 @@
--- The tests in the definition's order.
-use borrow.Author.Tests.{lt-ltb, le-ltb}
-use lib.Ieee.{ofBits}
+-- 10 where an index isn't below its limit, 4 for a count below 0: the tests in the definition's order.
 use native.Mathlib.Omega.{arith}
 use borrow.Author.Needs.{needs}
+use borrow.Author.Tests.{lt-ltb, le-ltb}
+use lib.Ieee.{ofBits}
 use Rattle.mixture.proofs.set.count_fault.Statement.{statement}
 use Rattle.mixture.proofs.set.count_fault.Tie as tie
 
-cast-if2 : tie.Need-cast-if2
-cast-if2 c = omega (arith, c .shared-slice-known .given (c .before .before .args .i))
-
-returns : tie.Need-returns
-unfolding ofBits
-returns c = rw (lt-ltb _ _ (c .before .before .before .if1 .taken), lt-ltb _ _ (c .before .if2 .taken), c .if3 .taken)
-
-returns-2 : tie.Need-returns-2
-unfolding ofBits
-returns-2 c = rw (lt-ltb _ _ (c .before .before .before .if1 .taken), lt-ltb _ _ (c .before .if2 .taken), c .if3 .left)
-
-returns-3 : tie.Need-returns-3
-unfolding ofBits
-returns-3 c = rw (lt-ltb _ _ (c .before .before .if1 .taken), le-ltb _ _ (c .if2 .left))
-
-returns-4 : tie.Need-returns-4
-unfolding ofBits
-returns-4 c = rw (le-ltb _ _ (c .if1 .left))
-
 pub count-fault-spec : {M : Type 1} → statement M
+unfolding ofBits
 count-fault-spec =
-    tie.close (tie.spec (λ c. search needs) cast-if2 returns returns-2 returns-3 returns-4)
+    tie.close
+    (tie.spec
+    (λ c. search needs)
+    (λ c. omega (arith, c .shared-slice-known .given (c .before .before .args .i)))
+    (λ c. rw (lt-ltb _ _ (c .before .before .before .if1 .taken), lt-ltb _ _ (c .before .if2 .taken), c .if3 .taken))
+    (λ c. rw (lt-ltb _ _ (c .before .before .before .if1 .taken), lt-ltb _ _ (c .before .if2 .taken), c .if3 .left))
+    (λ c. rw (lt-ltb _ _ (c .before .before .if1 .taken), le-ltb _ _ (c .if2 .left)))
+    (λ c. rw (le-ltb _ _ (c .if1 .left))))

@@ -1,4 +1,4 @@
--- Of the head T alone is changed, and whether it is set; the answer is by the number.
+-- The reply to a setting: of the head T alone is changed, and whether it is set; the answer is by the number.
 use borrow.Author.Needs.{needs}
 use Rattle.mixture.proofs.SetLaws.{head-changed}
 use Rattle.mixture.proofs.set.reply_by.Statement.{statement}

@@ -1,4 +1,4 @@
--- What `change` says of memory, with the reply that its number makes.
+-- Replaces what the setting names: what `change` says of memory, with the reply that its number makes.
 use borrow.Author.Needs.{needs}
 use Rattle.mixture.proofs.SetLaws.{replied}
 use Rattle.mixture.proofs.set.set.Statement.{statement}
