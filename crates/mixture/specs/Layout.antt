@@ -13,7 +13,7 @@ use Rattle.mixture.specs.declared.setting.Setting.the-variants.{Temperat
 use Rattle.mixture.specs.Names.{byModel, ModelData, Held, width, isCell}
 use Rattle.mixture.specs.Memory.{Memory}
 
--- the model of a head's number from 1 to 4
+-- the model of a number from 1 to 4, a head's or a kind's
 unfoldable pub modelOf : ℕ → Model
 modelOf k = cond (eqb k 1) Wilson (cond (eqb k 2) Uniquac (cond (eqb k 3) Nrtl Unifac))
 

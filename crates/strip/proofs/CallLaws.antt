@@ -9,8 +9,6 @@ use lib.ListN.{length, take}
 use lib.Seq.{sets, getD-take, length-sets}
 use lib.Ieee.{Float, nan}
 use borrow.Author.Tests.{lt-ltb, le-ltb, eq-eqb, ne-eqb, eqb-true}
-use Rattle.arithmetic.specs.Bytes.{floatAt, floatsAt}
-use Rattle.arithmetic.specs.Tables.{at}
 use Rattle.arithmetic.specs.declared.parameters.TdParam.{TdParam}
 use Rattle.models.specs.Values.{fiveAt}
 use Rattle.models.specs.declared.answers.Quantity.{Quantity}
@@ -31,7 +29,6 @@ use Rattle.strip.specs.Words.{mostBytes}
 use Rattle.strip.specs.Records.{readAt}
 use Rattle.strip.specs.Calls.{floatsOf, listsOf, dataOf, settingOf, quantityOf, callOf}
 use Rattle.strip.specs.Inner.{Stored, fits, made}
-use Rattle.arithmetic.proofs.ByteLaws.{floats-at}
 use Rattle.strip.proofs.TextLaws.{sets-whole, put-whole}
 use Rattle.strip.proofs.ListLaws.{lists-few}
 use Rattle.strip.proofs.RecordLaws.{found-fits, Fitting}
