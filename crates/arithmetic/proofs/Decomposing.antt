@@ -1,5 +1,4 @@
 -- A positive f64 as 53 digits and a place, read from its bits: what the code works out from them is the last line of `logOf`.
---
 use mathlib.Core.Path.{_≡_, refl, sym, ap, _∙_, subst}
 use mathlib.Core.Logic.{inl, inr}
 use mathlib.Core.Bool.{Bool, true, false, cond, _&&_, true≢false}

@@ -1,13 +1,14 @@
 -- Which line of `logOf` holds, by the tests that led there.
-use mathlib.Core.Path.{_≡_, refl, sym, _∙_, subst}
+use mathlib.Core.Path.{_≡_, refl, sym, _∙_}
 use mathlib.Core.Bool.{Bool, true, false, _&&_, true≢false}
 use Prim.Native.Nat.{_+_, _*_, _/_, _^_}
 use native.Mathlib.Omega.{arith}
-use lib.Dec.{T, eqb, ltb→lt}
+use lib.Dec.{eqb, ltb→lt}
 use lib.IntN.{pos}
 use lib.Ieee.{Float, nan, inf, fin, binary64, up, down, lt, eq, isNan, toBits}
 use borrow.Author.Tests.{lt-ltb, le-ltb, ltb-false, eq-eqb, ne-eqb, eqb-false}
 use Rattle.arithmetic.specs.Floats.{one}
+use Rattle.arithmetic.proofs.Tests.{passed}
 use Rattle.arithmetic.specs.Digits.{Normal}
 use Rattle.arithmetic.specs.Logarithm.{logOf, logBy, significand, binade}
 
@@ -74,7 +75,7 @@ normal-of (fin true m e) n h z i f =
     absurd (true≢false (sym (rw (a, b) refl) ∙ z))
 normal-of (fin false m e) n h z i f =
     let l = eqb-false (m * up e * 1) (0 * 1 * down e) (and-l-false _ z) in
-    record { above = subst T (sym (lt-ltb (0 * 1 * down e) (m * up e * 1) (omega arith))) tt; below = tt; field = f }
+    record { above = passed (lt-ltb (0 * 1 * down e) (m * up e * 1) (omega arith)); below = tt; field = f }
   where
     and-l-false : (b : Bool) → b && true ≡ false → b ≡ false
     and-l-false true q = q

@@ -1,14 +1,14 @@
 -- Each return is the line of `logOf` that the tests on the way pick.
-use mathlib.Core.Path.{_≡_, sym, _∙_, subst}
-use mathlib.Core.Bool.{Bool, false, not}
+use mathlib.Core.Path.{_≡_, _∙_}
+use mathlib.Core.Bool.{false}
 use Prim.Native.Nat.{ℕ, suc, _+_, _-_, _*_, _%_, _^_, _<_}
 use native.Mathlib.Omega.{arith}
-use lib.Dec.{T}
 use lib.IntN.{pos}
 use lib.Count.{leadingZeros, leading-le}
 use lib.Ieee.{Float, fin, inf, binary64, ofBits, toBits, lt, eq, isNan, nanBits, div, fits, round}
 use Rattle.arithmetic.specs.Floats.{dec, one}
 use Rattle.arithmetic.specs.Logarithm.{logOf}
+use Rattle.arithmetic.proofs.Tests.{passed, failed}
 use Rattle.arithmetic.proofs.ExpBranches.{a-nan}
 use Rattle.arithmetic.proofs.ByteLaws.{no-nan}
 use Rattle.arithmetic.proofs.LogBranches.{normal-of, rest, log-nan, is-inf, log-negative, log-zero, log-inf, log-one, log-rest}
@@ -42,7 +42,7 @@ arg c = c .before .before .before .before .before .args .v
 parts : (c : tie.Else5) → Parts (arg c)
 parts c =
     parts-of (arg c) (is-no-nan (c .before .before .before .before)) (not-negative (c .before .before .before)) (not-zero (c .before .before)) (not-inf (c .before))
-    (subst T (sym (c .before .before .before .before .before .good .0 .1)) tt)
+    (passed (c .before .before .before .before .before .good .0 .1))
 
 is-rest : (c : tie.Else5) → rest (arg c) ≡ logOf (arg c)
 is-rest c = log-rest (arg c) (is-no-nan (c .before .before .before .before)) (not-negative (c .before .before .before)) (not-zero (c .before .before)) (not-inf (c .before)) (not-one c)
@@ -79,16 +79,13 @@ returns-5 c =
     log-one (c .before .before .before .before .before .args .v) (is-no-nan (c .before .before .before .before)) (not-negative (c .before .before .before)) (not-zero (c .before .before)) (not-inf (c .before)) (c .if5 .taken)
 
 float-to-bits-b : tie.Need-float-to-bits-b
-float-to-bits-b c = subst (λ (b : Bool). T (not b)) (sym (is-no-nan (c .before .before .before .before))) tt
+float-to-bits-b c = failed (is-no-nan (c .before .before .before .before))
 
 -- ---- from 2 ^ -1022 up
 easy-log-requires : tie.Need-easy-log-requires
 easy-log-requires c κs =
     let e = c .before in
     normal-of (arg e) (is-no-nan (e .before .before .before .before)) (not-negative (e .before .before .before)) (not-zero (e .before .before)) (not-inf (e .before)) (c .if6 .taken)
-
-returns-6 : tie.Need-returns-6
-returns-6 c = c .easy-log .ensures
 
 -- ---- below 2 ^ -1022
 module _ (c : tie.Else6) where
@@ -152,7 +149,7 @@ careful-log-spec =
     returns-5
     float-to-bits-b
     easy-log-requires
-    returns-6
+    (λ c. c .easy-log .ensures)
     cast-z
     sub-from-digits
     shl-from-digits

@@ -1,19 +1,18 @@
 -- The digits and the exponent's field make the last line of `logOf`; 1 has its own.
 use borrow.Author.Needs.{needs}
-use mathlib.Core.Path.{_≡_, sym, _∙_, subst}
-use mathlib.Core.Bool.{Bool, not}
+use mathlib.Core.Path.{_≡_, _∙_}
 use Prim.Native.Nat.{suc, _+_, _*_, _-_, _/_, _%_, _^_}
 use native.Mathlib.Omega.{arith}
-use lib.Dec.{T}
 use lib.Ieee.{Float, binary64, ofBits, toBits, round}
 use Rattle.arithmetic.specs.Floats.{dec, one}
+use Rattle.arithmetic.proofs.Tests.{passed, failed}
 use Rattle.arithmetic.proofs.LogBranches.{normal-plain, log-one, log-rest}
 use Rattle.arithmetic.proofs.Decomposing.{Parts, parts-of, Q-low, Q-high, normal-q, normal-x, rest-is}
 use Rattle.arithmetic.proofs.logarithm.easy_log.Statement.{statement}
 use Rattle.arithmetic.proofs.logarithm.easy_log.Tie as tie
 
 float-to-bits-b : tie.Need-float-to-bits-b
-float-to-bits-b c = subst (λ (b : Bool). T (not b)) (sym (normal-plain (c .args .v) (c .pre) .0)) tt
+float-to-bits-b c = failed (normal-plain (c .args .v) (c .pre) .0)
 
 module _ (c : tie.Start) where
   v : Float
@@ -21,7 +20,7 @@ module _ (c : tie.Start) where
 
   parts : Parts v
   unfolding v
-  parts = let n = normal-plain (c .args .v) (c .pre) in parts-of (c .args .v) (n .0) (n .1) (n .2) (n .3) (subst T (sym (c .good .0 .1)) tt)
+  parts = let n = normal-plain (c .args .v) (c .pre) in parts-of (c .args .v) (n .0) (n .1) (n .2) (n .3) (passed (c .good .0 .1))
 
   q-is : toBits binary64 (c .args .v) % 4503599627370496 + 4503599627370496 ≡ parts .m * 2 ^ (52 - parts .z)
   unfolding v
