@@ -145,6 +145,9 @@ module _ {new : ℕ → Float} {n : ℕ} {l : List Float} where
   pub rewriting-done : {k : ℕ} {g : List Float} → n ≤ k → Rewriting new n l k g → Filled (upTo n new (at l)) (length l) g
   rewriting-done h f = rw (← le-antisymm (f .within) h) (f .filled)
 
+  pub rewriting-filled : {k : ℕ} {g : List Float} → n ≤ k → Rewriting new n l k g → Filled new n g
+  rewriting-filled h f = record { each = λ j b. rewriting-done h f .each j (omega (arith, f .room)) ∙ upto-below n new (at l) j b }
+
 -- ---- parts
 
 pub part-length : {A : Type 0} (s e : ℕ) (l : List A) → e ≤ length l → length (part s e l) ≡ e - s

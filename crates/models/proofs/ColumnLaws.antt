@@ -14,7 +14,7 @@ use Rattle.arithmetic.specs.Floats.{_⊕_, _⊗_, +0, one}
 use Rattle.arithmetic.specs.Sums.{fold, sum, total}
 use Rattle.arithmetic.specs.Tables.{at, grid, from, Filled, upTo}
 use Rattle.arithmetic.proofs.SumLaws.{sum-more, sum-same}
-use Rattle.arithmetic.proofs.TableLaws.{upto-below, from-at, by-place, filled-less}
+use Rattle.arithmetic.proofs.TableLaws.{upto-below, from-at, by-place, Filling, filling-done}
 use Rattle.arithmetic.proofs.Differences.{either}
 use Rattle.models.specs.Columns.{unitAt, unitDiagonal, columnSum}
 
@@ -46,17 +46,25 @@ filled-put {F} {G} {g} n i {v} h e w all = record {
       (λ d. getD-set-other g i k v nan (ne-of-gt d) ∙ all .each k b ∙ e k b (λ q. absurd (omega arith)));
 }
 
--- the sum of an array's first n places, once a loop has filled them
-pub terms-sum : (n p : ℕ) (F : ℕ → Float) (g : List Float) {r : Float} → n ≤ length g → n ≤ p → Filled F p g → r ≡ total (take n g) → r ≡ sum n F
+-- the sum of an array's first n places
+total-sum : (n : ℕ) (F : ℕ → Float) (g : List Float) {r : Float} → n ≤ length g → Filled F n g → r ≡ total (take n g) → r ≡ sum n F
 unfolding total
-terms-sum n p F g h le all e =
-    e ∙ (ap (λ (m : ℕ). sum m (at (take n g))) (length-take-le n g h) ∙ sum-same n _ _ (λ k b. getD-take n g k nan b ∙ all .each k (omega arith)))
+total-sum n F g h all e =
+    e ∙ (ap (λ (m : ℕ). sum m (at (take n g))) (length-take-le n g h) ∙ sum-same n _ _ (λ k b. getD-take n g k nan b ∙ all .each k b))
 
--- the same with place i put right, where alone F and G may differ
-pub terms-put : (n p i : ℕ) (F G : ℕ → Float) (g : List Float) {v r : Float} → i < n → n ≤ length g → n ≤ p → ((k : ℕ) → k < n → (i ≡ k → ⊥) → F k ≡ G k) → v ≡ G i →
-    Filled F p g → r ≡ total (take n (set g i v)) → r ≡ sum n G
-terms-put n p i F G g {v} b h le off own all e =
-    terms-sum n n G (set g i v) (simp length-set h) (omega arith) (filled-put n i (omega arith) off own (filled-less le all)) e
+module _ {F : ℕ → Float} {n m p : ℕ} {g : List Float} (terms : Filling F n m p g) where
+  -- a loop that has filled an array's first n places leaves room for them, a store at i too
+  pub terms-room : (i : ℕ) (v : Float) → n ≤ length (set g i v)
+  terms-room i v = simp length-set (omega (arith, terms .room, terms .long))
+
+  module _ (done : n ≤ p) where
+    pub terms-sum : {r : Float} → r ≡ total (take n g) → r ≡ sum n F
+    terms-sum e = total-sum n F g (omega (arith, terms .room, terms .long)) (filling-done done terms) e
+
+    -- the same with place i put right, where alone F and G may differ
+    pub terms-put : (i : ℕ) (G : ℕ → Float) {v r : Float} → i < n → ((k : ℕ) → k < n → (i ≡ k → ⊥) → F k ≡ G k) → v ≡ G i → r ≡ total (take n (set g i v)) → r ≡ sum n G
+    terms-put i G {v} b off own e =
+        total-sum n G (set g i v) (terms-room i v) (filled-put n i (omega (arith, terms .room, terms .long)) off own (filling-done done terms)) e
 
 pub unit-on : (i : ℕ) (row : ℕ → Float) → unitAt i row i ≡ one
 unfolding unitAt

@@ -77,48 +77,48 @@ module _ (n : ℕ) (x : List ℕ) (q : Quantity) (R : ℕ) where
 
 module _ (m n ng : ℕ) (lens groups : List ℕ) (values : List Float) where
   module _ (e : m ≡ 1) where
-    pub load-wilson : {k : ℕ} → k ≡ shapeFault n (wilsonSize n) values → k ≡ loadFault m n ng lens groups values
+    pub load-wilson : {k : ℕ} → (k ≡ shapeFault n (wilsonSize n) values) × (k ≡ 0 → (n ≤ 12) × (wilsonSize n ≤ length values)) → (k ≡ loadFault m n ng lens groups values) × (k ≡ 0 → Ready m n ng lens groups values)
     unfolding loadFault
-    load-wilson p = rw (eq-eqb m 1 e) p
-
-    pub ready-wilson : n ≤ 12 → wilsonSize n ≤ length values → Ready m n ng lens groups values
-    ready-wilson h s = record { few = h; wilson = λ _. s; uniquac = λ d. absurd (omega arith); nrtl = λ d. absurd (omega arith); unifac = λ a b c. absurd (a e) }
+    load-wilson p = (
+      rw (eq-eqb m 1 e) (p .0),
+      λ z. record { few = p .1 z .0; wilson = λ _. p .1 z .1; uniquac = λ d. absurd (omega arith); nrtl = λ d. absurd (omega arith); unifac = λ a b c. absurd (a e) },
+    )
 
     pub value-wilson : (T : Float) (x : ℕ → Float) (q : Quantity) {v : Float} → v ≡ wilsonAt n (volumes n values) (energies n values) T x q → v ≡ valueAt m n ng lens groups values T x q
     unfolding valueAt
     value-wilson T x q p = rw (eq-eqb m 1 e) p
 
   module _ (e : m ≡ 2) where
-    pub load-uniquac : {k : ℕ} → k ≡ shapeFault n (uniquacSize n) values → k ≡ loadFault m n ng lens groups values
+    pub load-uniquac : {k : ℕ} → (k ≡ shapeFault n (uniquacSize n) values) × (k ≡ 0 → (n ≤ 12) × (uniquacSize n ≤ length values)) → (k ≡ loadFault m n ng lens groups values) × (k ≡ 0 → Ready m n ng lens groups values)
     unfolding loadFault
-    load-uniquac p = rw (e) p
-
-    pub ready-uniquac : n ≤ 12 → uniquacSize n ≤ length values → Ready m n ng lens groups values
-    ready-uniquac h s = record { few = h; wilson = λ d. absurd (omega arith); uniquac = λ _. s; nrtl = λ d. absurd (omega arith); unifac = λ a b c. absurd (b e) }
+    load-uniquac p = (
+      rw e (p .0),
+      λ z. record { few = p .1 z .0; wilson = λ d. absurd (omega arith); uniquac = λ _. p .1 z .1; nrtl = λ d. absurd (omega arith); unifac = λ a b c. absurd (b e) },
+    )
 
     pub value-uniquac : (T : Float) (x : ℕ → Float) (q : Quantity) {v : Float} → v ≡ uniquacAt n (rs n values) (qs n values) (energies n values) T x q → v ≡ valueAt m n ng lens groups values T x q
     unfolding valueAt
     value-uniquac T x q p = rw e p
 
   module _ (e : m ≡ 3) where
-    pub load-nrtl : {k : ℕ} → k ≡ shapeFault n (nrtlSize n) values → k ≡ loadFault m n ng lens groups values
+    pub load-nrtl : {k : ℕ} → (k ≡ shapeFault n (nrtlSize n) values) × (k ≡ 0 → (n ≤ 12) × (nrtlSize n ≤ length values)) → (k ≡ loadFault m n ng lens groups values) × (k ≡ 0 → Ready m n ng lens groups values)
     unfolding loadFault
-    load-nrtl p = rw e p
-
-    pub ready-nrtl : n ≤ 12 → nrtlSize n ≤ length values → Ready m n ng lens groups values
-    ready-nrtl h s = record { few = h; wilson = λ d. absurd (omega arith); uniquac = λ d. absurd (omega arith); nrtl = λ _. s; unifac = λ a b c. absurd (c e) }
+    load-nrtl p = (
+      rw e (p .0),
+      λ z. record { few = p .1 z .0; wilson = λ d. absurd (omega arith); uniquac = λ d. absurd (omega arith); nrtl = λ _. p .1 z .1; unifac = λ a b c. absurd (c e) },
+    )
 
     pub value-nrtl : (T : Float) (x : ℕ → Float) (q : Quantity) {v : Float} → v ≡ nrtlAt n (taus n values) (alphas n values) T x q → v ≡ valueAt m n ng lens groups values T x q
     unfolding valueAt
     value-nrtl T x q p = rw e p
 
   module _ (e : m ≡ 4) where
-    pub load-unifac : {k : ℕ} → k ≡ unifacFault n ng lens groups values → k ≡ loadFault m n ng lens groups values
+    pub load-unifac : {k : ℕ} → (k ≡ unifacFault n ng lens groups values) × (k ≡ 0 → Loaded n ng lens groups values) → (k ≡ loadFault m n ng lens groups values) × (k ≡ 0 → Ready m n ng lens groups values)
     unfolding loadFault
-    load-unifac p = rw e p
-
-    pub ready-unifac : Loaded n ng lens groups values → Ready m n ng lens groups values
-    ready-unifac l = record { few = l .few; wilson = λ d. absurd (omega arith); uniquac = λ d. absurd (omega arith); nrtl = λ d. absurd (omega arith); unifac = λ a b c. (e, l) }
+    load-unifac p = (
+      rw e (p .0),
+      λ z. record { few = p .1 z .few; wilson = λ d. absurd (omega arith); uniquac = λ d. absurd (omega arith); nrtl = λ d. absurd (omega arith); unifac = λ a b c. (e, p .1 z) },
+    )
 
     pub value-unifac : (T : Float) (x : ℕ → Float) (q : Quantity) {v : Float} →
         v ≡ unifacAt n ng (lists lens groups (from (countsAt ng) values)) (groupRs ng values) (groupQs ng values) (groupAs ng values) T x q → v ≡ valueAt m n ng lens groups values T x q

@@ -1,18 +1,18 @@
 -- The loop has filled the sums of the rows above i.
-use mathlib.Core.Path.{_≡_, refl, _∙_}
+use mathlib.Core.Path.{refl, _∙_}
 use Prim.Native.Nat.{_+_, _*_, _-_, _≤_}
 use native.Mathlib.Omega.{arith}
 use denote.Ref.{now}
-use lib.ListN.{length-set, length}
-use Rattle.arithmetic.specs.Tables.{at, grid, Filled}
-use Rattle.arithmetic.proofs.TableLaws.{row-end, from-length, filled-none, filled-more, filled-less}
+use lib.ListN.{length}
+use Rattle.arithmetic.specs.Tables.{at, grid}
+use Rattle.arithmetic.proofs.TableLaws.{row-end, from-length, Filling, filling-none, filling-more, filling-done}
 use Rattle.models.specs.Wilson.{rowSum}
 use Rattle.models.proofs.WilsonLaws.{rowSum-row}
 use Rattle.models.proofs.wilson.row_sums.Statement.{statement}
 use Rattle.models.proofs.wilson.row_sums.Tie as tie
 
 abbrev Inv-loop : tie.InvT-loop
-Inv-loop n v e x sums₀ i₀ sums i = (i ≤ n) × (length sums ≡ length sums₀) × Filled (rowSum n (at v) (grid n e) (at x)) i sums
+Inv-loop n v e x sums₀ i₀ sums i = Filling (rowSum n (at v) (grid n e) (at x)) n (length sums₀) i sums
 
 abbrev μ-loop : tie.MeasureT-loop
 μ-loop n v e x sums₀ i₀ sums i = n - i
@@ -22,9 +22,6 @@ ends : (c : tie.In-loop Inv-loop μ-loop) → c .before .loop .i * c .before .be
 ends c =
     let start = c .before .before .before .before .before .before in
     omega (arith, row-end (start .args .n) (start .args .n) (c .before .loop .i) (c .loop-test .taken))
-
-loop-holds : tie.Need-loop-holds Inv-loop μ-loop
-loop-holds c = (omega arith, refl, filled-none (omega arith))
 
 mul-at : tie.Need-mul-at Inv-loop μ-loop
 mul-at c = omega (arith, ends c)
@@ -51,13 +48,10 @@ loop-again c =
     let start = turn .before .before .before .before .before .before in
     let i = turn .before .loop .i in
     let row = rowSum-row (start .args .n) (at (now (start .args .v))) (now (start .args .e)) (at (now (start .args .x))) i (ends turn) in
-    (omega arith, simp length-set (turn .before .loop .inv .1), filled-more (omega arith) (omega arith) (turn .before .loop .inv .2) (c .row-sum .ensures ∙ row))
+    filling-more (omega arith) (turn .before .loop .inv) (c .row-sum .ensures ∙ row)
 
 same-length : tie.Need-same-length Inv-loop μ-loop
-same-length c = c .before .loop .inv .1
-
-returns : tie.Need-returns Inv-loop μ-loop
-returns c = filled-less (c .loop-test .left) (c .before .loop .inv .2)
+same-length c = c .before .loop .inv .long
 
 pub row-sums-spec : {M : Type 1} → statement M
 row-sums-spec =
@@ -65,7 +59,7 @@ row-sums-spec =
     (tie.spec
     Inv-loop
     μ-loop
-    loop-holds
+    (λ c. filling-none (omega arith) refl)
     mul-at
     mul-row-sum
     sub-row-sum
@@ -78,4 +72,4 @@ row-sums-spec =
     (λ c. omega arith)
     loop-again
     same-length
-    returns)
+    (λ c. filling-done (c .loop-test .left) (c .before .loop .inv)))
