@@ -34,18 +34,6 @@ ends c = omega (arith, row-end (entry c .args .n) (entry c .args .n) (c .before 
 loop-holds : tie.Need-loop-holds Inv-loop μ-loop
 loop-holds c = (omega arith, refl, columns-none (term (c .before .before .before)) _ (c .before .before .before .pre .3))
 
-mul-start : tie.Need-mul-start Inv-loop μ-loop
-mul-start c = omega (arith, ends c)
-
-mul-add-unit-row-2 : tie.Need-mul-add-unit-row-2 Inv-loop μ-loop
-mul-add-unit-row-2 c = omega (arith, ends (c .before .before))
-
-sub-add-unit-row : tie.Need-sub-add-unit-row Inv-loop μ-loop
-sub-add-unit-row c = omega (arith, ends (c .before .before))
-
-part-add-unit-row-start : tie.Need-part-add-unit-row-start Inv-loop μ-loop
-part-add-unit-row-start c = omega (arith, ends (c .before .before))
-
 add-unit-row-requires : tie.Need-add-unit-row-requires Inv-loop μ-loop
 add-unit-row-requires c κs =
     let turn = c .before .before .before in
@@ -60,9 +48,6 @@ loop-again c =
     let start = entry turn in
     (omega arith, call .add-unit-row .kept .0 ∙ top .loop .inv .1, columns-more (term start) _ _ _ (omega (arith, top .loop .inv .1, start .pre .2)) (λ j b. ap (λ (v : Float). at (now (start .args .w)) (top .loop .i) ⊗ v) (unit-row (start .args .n) (now (start .args .table)) (top .loop .i) j (ends turn) b)) (top .loop .inv .2) (call .add-unit-row .ensures))
 
-same-length : tie.Need-same-length Inv-loop μ-loop
-same-length c = c .before .loop .inv .1
-
 returns : tie.Need-returns Inv-loop μ-loop
 unfolding columnSum
 returns c = columns-done (term (c .before .before .before .before .before)) _ _ (c .before .loop .inv .0) (c .loop-test .left) (c .before .loop .inv .2)
@@ -74,16 +59,16 @@ unit-column-sums-spec =
     Inv-loop
     μ-loop
     loop-holds
-    mul-start
+    (λ c. omega (arith, ends c))
     (λ c. omega arith)
     (λ c. omega arith)
-    mul-add-unit-row-2
-    sub-add-unit-row
-    part-add-unit-row-start
+    (λ c. omega (arith, ends (c .before .before)))
+    (λ c. omega (arith, ends (c .before .before)))
+    (λ c. omega (arith, ends (c .before .before)))
     (λ c. omega arith)
     add-unit-row-requires
     (λ c. omega arith)
     (λ c. omega arith)
     loop-again
-    same-length
+    (λ c. c .before .loop .inv .1)
     returns)

@@ -31,27 +31,6 @@ ends c = (row-end _ (entry c .args .n) _ (c .loop-test .taken), mul-le-mul (entr
 loop-holds : tie.Need-loop-holds Inv-loop μ-loop
 loop-holds c = (omega arith, refl, filled-none (omega arith))
 
-mul-at : tie.Need-mul-at Inv-loop μ-loop
-mul-at c = omega (arith, ends c)
-
-mul-fill-arguments : tie.Need-mul-fill-arguments Inv-loop μ-loop
-mul-fill-arguments c = omega (arith, ends c)
-
-sub-fill-arguments : tie.Need-sub-fill-arguments Inv-loop μ-loop
-sub-fill-arguments c = omega (arith, ends c)
-
-part-fill-arguments-start : tie.Need-part-fill-arguments-start Inv-loop μ-loop
-part-fill-arguments-start c = omega (arith, ends c)
-
-mul-fill-arguments-2 : tie.Need-mul-fill-arguments-2 Inv-loop μ-loop
-mul-fill-arguments-2 c = omega (arith, ends (c .before))
-
-sub-fill-arguments-2 : tie.Need-sub-fill-arguments-2 Inv-loop μ-loop
-sub-fill-arguments-2 c = omega (arith, ends (c .before))
-
-part-fill-arguments-start-2 : tie.Need-part-fill-arguments-start-2 Inv-loop μ-loop
-part-fill-arguments-start-2 c = omega (arith, ends (c .before))
-
 fill-arguments-requires : tie.Need-fill-arguments-requires Inv-loop μ-loop
 fill-arguments-requires c κs =
     let turn = c .before .before in
@@ -95,14 +74,14 @@ fill-energies-spec =
     Inv-loop
     μ-loop
     loop-holds
-    mul-at
-    mul-fill-arguments
-    sub-fill-arguments
-    part-fill-arguments-start
+    (λ c. omega (arith, ends c))
+    (λ c. omega (arith, ends c))
+    (λ c. omega (arith, ends c))
+    (λ c. omega (arith, ends c))
     (λ c. omega arith)
-    mul-fill-arguments-2
-    sub-fill-arguments-2
-    part-fill-arguments-start-2
+    (λ c. omega (arith, ends (c .before)))
+    (λ c. omega (arith, ends (c .before)))
+    (λ c. omega (arith, ends (c .before)))
     (λ c. omega arith)
     fill-arguments-requires
     (λ c. omega arith)

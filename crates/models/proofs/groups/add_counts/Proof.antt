@@ -36,21 +36,6 @@ loop-holds c =
     let ends = list-ends (start .args .i) (start .pre .0) (c .before .start-of .ensures) in
     (omega arith, ends .0, ends .1, refl, gathered-none _ _ _ _)
 
-cast-g : tie.Need-cast-g Inv-loop μ-loop
-cast-g c = omega (arith, group (c .before))
-
-mul-num : tie.Need-mul-num Inv-loop μ-loop
-mul-num c = omega (arith, group (c .before))
-
-slice-read-num : tie.Need-slice-read-num Inv-loop μ-loop
-slice-read-num c = omega (arith, group (c .before .before))
-
-mul-num-3 : tie.Need-mul-num-3 Inv-loop μ-loop
-mul-num-3 c = omega (arith, group (c .before .before .before))
-
-slice-write-num : tie.Need-slice-write-num Inv-loop μ-loop
-slice-write-num c = omega (arith, group (c .before .before .before))
-
 loop-again : tie.Need-loop-again Inv-loop μ-loop
 loop-again c =
     let at-loop = c .before .before .before .before in (
@@ -60,9 +45,6 @@ loop-again c =
       simp length-set (at-loop .loop .inv .3),
       gathered-more _ _ _ _ _ _ refl (group (c .before .before .before)) refl (omega arith) (at-loop .loop .inv .4),
     )
-
-same-length : tie.Need-same-length Inv-loop μ-loop
-same-length c = c .before .loop .inv .3
 
 returns : tie.Need-returns Inv-loop μ-loop
 returns c =
@@ -82,15 +64,15 @@ add-counts-spec =
     loop-holds
     (λ c. omega arith)
     (λ c. omega arith)
-    cast-g
-    mul-num
-    slice-read-num
+    (λ c. omega (arith, group (c .before)))
+    (λ c. omega (arith, group (c .before)))
+    (λ c. omega (arith, group (c .before .before)))
     (λ c. omega arith)
     (λ c. omega arith)
-    mul-num-3
-    slice-write-num
+    (λ c. omega (arith, group (c .before .before .before)))
+    (λ c. omega (arith, group (c .before .before .before)))
     (λ c. omega arith)
     (λ c. omega arith)
     loop-again
-    same-length
+    (λ c. c .before .loop .inv .3)
     returns)

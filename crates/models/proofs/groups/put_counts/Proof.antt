@@ -35,15 +35,6 @@ loop-holds c =
     let ends = list-ends (start .args .i) (start .pre .0) (c .before .start-of .ensures) in
     (omega arith, ends .0, ends .1, refl, gathered-none _ _ _ _)
 
-cast-g : tie.Need-cast-g Inv-loop μ-loop
-cast-g c = omega (arith, group (c .before))
-
-mul-num-2 : tie.Need-mul-num-2 Inv-loop μ-loop
-mul-num-2 c = omega (arith, group (c .before .before))
-
-slice-write-num : tie.Need-slice-write-num Inv-loop μ-loop
-slice-write-num c = omega (arith, group (c .before .before))
-
 loop-again : tie.Need-loop-again Inv-loop μ-loop
 loop-again c =
     let at-loop = c .before .before .before in (
@@ -53,9 +44,6 @@ loop-again c =
       simp length-set (at-loop .loop .inv .3),
       gathered-more _ _ _ _ _ _ refl (group (c .before .before)) refl (omega arith) (at-loop .loop .inv .4),
     )
-
-same-length : tie.Need-same-length Inv-loop μ-loop
-same-length c = c .before .loop .inv .3
 
 returns : tie.Need-returns Inv-loop μ-loop
 returns c =
@@ -75,13 +63,13 @@ put-counts-spec =
     loop-holds
     (λ c. omega arith)
     (λ c. omega arith)
-    cast-g
+    (λ c. omega (arith, group (c .before)))
     (λ c. omega arith)
     (λ c. omega arith)
-    mul-num-2
-    slice-write-num
+    (λ c. omega (arith, group (c .before .before)))
+    (λ c. omega (arith, group (c .before .before)))
     (λ c. omega arith)
     (λ c. omega arith)
     loop-again
-    same-length
+    (λ c. c .before .loop .inv .3)
     returns)

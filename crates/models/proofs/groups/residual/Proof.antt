@@ -34,21 +34,6 @@ loop-holds c =
     let ends = list-ends (start .args .i) (start .pre .0) (c .before .start-of .ensures) in
     (omega arith, ends .0, ends .1, sum-none _)
 
-cast-g : tie.Need-cast-g Inv-loop μ-loop
-cast-g c = omega (arith, group (c .before))
-
-mul-resid-2 : tie.Need-mul-resid-2 Inv-loop μ-loop
-mul-resid-2 c = omega (arith, group (c .before .before))
-
-shared-slice-read-resid-2 : tie.Need-shared-slice-read-resid-2 Inv-loop μ-loop
-shared-slice-read-resid-2 c = omega (arith, group (c .before .before .before))
-
-mul-resid-3 : tie.Need-mul-resid-3 Inv-loop μ-loop
-mul-resid-3 c = omega (arith, group (c .before .before .before))
-
-shared-slice-read-resid-3 : tie.Need-shared-slice-read-resid-3 Inv-loop μ-loop
-shared-slice-read-resid-3 c = omega (arith, group (c .before .before .before .before))
-
 loop-again : tie.Need-loop-again Inv-loop μ-loop
 loop-again c = (omega arith, c .before .before .before .before .before .loop .inv .1, c .before .before .before .before .before .loop .inv .2, search (sum-more, needs))
 
@@ -70,13 +55,13 @@ residual-spec =
     loop-holds
     (λ c. omega arith)
     (λ c. omega arith)
-    cast-g
+    (λ c. omega (arith, group (c .before)))
     (λ c. omega arith)
     (λ c. omega arith)
-    mul-resid-2
-    shared-slice-read-resid-2
-    mul-resid-3
-    shared-slice-read-resid-3
+    (λ c. omega (arith, group (c .before .before)))
+    (λ c. omega (arith, group (c .before .before .before)))
+    (λ c. omega (arith, group (c .before .before .before)))
+    (λ c. omega (arith, group (c .before .before .before .before)))
     (λ c. omega arith)
     (λ c. omega arith)
     loop-again

@@ -44,42 +44,12 @@ ends c =
 loop-holds : tie.Need-loop-holds Inv-loop μ-loop
 loop-holds c = let start = c .before .before .before .before .before in (omega arith, refl, refl, columns-none (numeratorTerm start) _ (start .pre .5), columns-none (denominatorTerm start) _ (start .pre .6))
 
-mul-start : tie.Need-mul-start Inv-loop μ-loop
-mul-start c = omega (arith, ends c)
-
-mul-add-terms-2 : tie.Need-mul-add-terms-2 Inv-loop μ-loop
-mul-add-terms-2 c = omega (arith, ends (c .before .before))
-
-sub-add-terms : tie.Need-sub-add-terms Inv-loop μ-loop
-sub-add-terms c = omega (arith, ends (c .before .before))
-
-part-add-terms-start : tie.Need-part-add-terms-start Inv-loop μ-loop
-part-add-terms-start c = omega (arith, ends (c .before .before))
-
-mul-add-terms-3 : tie.Need-mul-add-terms-3 Inv-loop μ-loop
-mul-add-terms-3 c = omega (arith, ends (c .before .before .before))
-
-sub-add-terms-2 : tie.Need-sub-add-terms-2 Inv-loop μ-loop
-sub-add-terms-2 c = omega (arith, ends (c .before .before .before))
-
-part-add-terms-start-2 : tie.Need-part-add-terms-start-2 Inv-loop μ-loop
-part-add-terms-start-2 c = omega (arith, ends (c .before .before .before))
-
 add-terms-requires : tie.Need-add-terms-requires Inv-loop μ-loop
 add-terms-requires c κs =
     let turn = c .before .before .before .before in
     let start = entry turn in
     let at-row = turn .before .loop .i * start .args .n in
     (omega (arith, turn .before .loop .inv .1, start .pre .3), omega (arith, from-length at-row (now (start .args .g)), ends turn), omega (arith, from-length at-row (now (start .args .tau)), ends turn), turn .loop-test .taken)
-
-mul-add-unit-row-2 : tie.Need-mul-add-unit-row-2 Inv-loop μ-loop
-mul-add-unit-row-2 c = omega (arith, ends (c .before .before .before .before .before .before .before .before .before))
-
-sub-add-unit-row : tie.Need-sub-add-unit-row Inv-loop μ-loop
-sub-add-unit-row c = omega (arith, ends (c .before .before .before .before .before .before .before .before .before))
-
-part-add-unit-row-start : tie.Need-part-add-unit-row-start Inv-loop μ-loop
-part-add-unit-row-start c = omega (arith, ends (c .before .before .before .before .before .before .before .before .before))
 
 add-unit-row-requires : tie.Need-add-unit-row-requires Inv-loop μ-loop
 add-unit-row-requires c κs =
@@ -105,12 +75,6 @@ loop-again c =
           (λ j b. rw (unit-row n (now (start .args .g)) i j (ends turn .1) b)) (inv .4) (row .ensures),
     )
 
-same-length : tie.Need-same-length Inv-loop μ-loop
-same-length c = c .before .loop .inv .1
-
-same-length-2 : tie.Need-same-length-2 Inv-loop μ-loop
-same-length-2 c = c .before .loop .inv .2
-
 returns : tie.Need-returns Inv-loop μ-loop
 unfolding numerator columnSum
 returns c =
@@ -125,28 +89,28 @@ column-sums-spec =
     Inv-loop
     μ-loop
     loop-holds
-    mul-start
+    (λ c. omega (arith, ends c))
     (λ c. omega arith)
     (λ c. omega arith)
-    mul-add-terms-2
-    sub-add-terms
-    part-add-terms-start
+    (λ c. omega (arith, ends (c .before .before)))
+    (λ c. omega (arith, ends (c .before .before)))
+    (λ c. omega (arith, ends (c .before .before)))
     (λ c. omega arith)
-    mul-add-terms-3
-    sub-add-terms-2
-    part-add-terms-start-2
+    (λ c. omega (arith, ends (c .before .before .before)))
+    (λ c. omega (arith, ends (c .before .before .before)))
+    (λ c. omega (arith, ends (c .before .before .before)))
     (λ c. omega arith)
     add-terms-requires
     (λ c. omega arith)
     (λ c. omega arith)
-    mul-add-unit-row-2
-    sub-add-unit-row
-    part-add-unit-row-start
+    (λ c. omega (arith, ends (c .before .before .before .before .before .before .before .before .before)))
+    (λ c. omega (arith, ends (c .before .before .before .before .before .before .before .before .before)))
+    (λ c. omega (arith, ends (c .before .before .before .before .before .before .before .before .before)))
     (λ c. omega arith)
     add-unit-row-requires
     (λ c. omega arith)
     (λ c. omega arith)
     loop-again
-    same-length
-    same-length-2
+    (λ c. c .before .loop .inv .1)
+    (λ c. c .before .loop .inv .2)
     returns)

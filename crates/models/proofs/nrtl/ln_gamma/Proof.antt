@@ -10,33 +10,9 @@ use Rattle.models.proofs.NrtlLaws.{second-rows}
 use Rattle.models.proofs.nrtl.ln_gamma.Statement.{statement}
 use Rattle.models.proofs.nrtl.ln_gamma.Tie as tie
 
--- the row i ends within the tables, and these within 144 places
-ends : (c : tie.Start) → c .args .i * c .args .n + c .args .n ≤ c .args .n * c .args .n
-ends c = row-end _ (c .args .n) _ (c .pre .1)
-
-small : (c : tie.Start) → c .args .n * c .args .n ≤ 144
-small c = mul-le-mul (c .pre .0) (c .pre .0)
-
-mul-start : tie.Need-mul-start
-mul-start c = omega (arith, ends (c .before .before .before .before .before), small (c .before .before .before .before .before))
-
-mul-second : tie.Need-mul-second
-mul-second c = omega (arith, ends (c .before .before .before .before .before .before .before), small (c .before .before .before .before .before .before .before))
-
-sub-second : tie.Need-sub-second
-sub-second c = omega (arith, ends (c .before .before .before .before .before .before .before), small (c .before .before .before .before .before .before .before))
-
-part-second-start : tie.Need-part-second-start
-part-second-start c = omega (arith, ends (c .before .before .before .before .before .before .before), small (c .before .before .before .before .before .before .before))
-
-mul-second-2 : tie.Need-mul-second-2
-mul-second-2 c = omega (arith, ends (c .before .before .before .before .before .before .before .before), small (c .before .before .before .before .before .before .before .before))
-
-sub-second-2 : tie.Need-sub-second-2
-sub-second-2 c = omega (arith, ends (c .before .before .before .before .before .before .before .before), small (c .before .before .before .before .before .before .before .before))
-
-part-second-start-2 : tie.Need-part-second-start-2
-part-second-start-2 c = omega (arith, ends (c .before .before .before .before .before .before .before .before), small (c .before .before .before .before .before .before .before .before))
+-- row i ends within the tables, and these within 144 places
+ends : (c : tie.Start) → (c .args .i * c .args .n + c .args .n ≤ c .args .n * c .args .n) × (c .args .n * c .args .n ≤ 144)
+ends c = (row-end _ (c .args .n) _ (c .pre .1), mul-le-mul (c .pre .0) (c .pre .0))
 
 second-requires : tie.Need-second-requires
 second-requires c κs =
@@ -54,18 +30,18 @@ pub ln-gamma-spec : {M : Type 1} → statement M
 ln-gamma-spec =
     tie.close
     (tie.spec
-    mul-start
+    (λ c. omega (arith, ends (c .before .before .before .before .before)))
     (λ c. search needs)
     (λ c. search needs)
     (λ c. search needs)
     (λ c. search needs)
-    mul-second
-    sub-second
-    part-second-start
+    (λ c. omega (arith, ends (c .before .before .before .before .before .before .before)))
+    (λ c. omega (arith, ends (c .before .before .before .before .before .before .before)))
+    (λ c. omega (arith, ends (c .before .before .before .before .before .before .before)))
     (λ c. search needs)
-    mul-second-2
-    sub-second-2
-    part-second-start-2
+    (λ c. omega (arith, ends (c .before .before .before .before .before .before .before .before)))
+    (λ c. omega (arith, ends (c .before .before .before .before .before .before .before .before)))
+    (λ c. omega (arith, ends (c .before .before .before .before .before .before .before .before)))
     (λ c. search needs)
     second-requires
     returns)

@@ -19,9 +19,6 @@ abbrev μ-loop : tie.MeasureT-loop
 loop-again : tie.Need-loop-again Inv-loop μ-loop
 loop-again c = filling-more (omega arith) (c .before .before .before .loop .inv) (c .value-by .ensures ∙ rw (c .before .five-at .ensures) refl)
 
-same-length : tie.Need-same-length Inv-loop μ-loop
-same-length c = c .before .loop .inv .long
-
 pub fill-values-by-spec : {M : Type 1} → statement M
 fill-values-by-spec =
     tie.close
@@ -37,5 +34,5 @@ fill-values-by-spec =
     (λ c. omega arith)
     (λ c. omega arith)
     loop-again
-    same-length
+    (λ c. c .before .loop .inv .long)
     (λ c. filling-done (c .loop-test .left) (c .before .loop .inv)))

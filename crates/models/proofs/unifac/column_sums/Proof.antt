@@ -39,18 +39,6 @@ ends c =
 loop-holds : tie.Need-loop-holds Inv-loop μ-loop
 loop-holds c = (omega arith, refl, columns-none (term c) _ (filled-less (omega arith) (zeros 32)))
 
-mul-place : tie.Need-mul-place Inv-loop μ-loop
-mul-place c = omega (arith, ends c)
-
-mul-add-row : tie.Need-mul-add-row Inv-loop μ-loop
-mul-add-row c = omega (arith, ends c)
-
-sub-add-row : tie.Need-sub-add-row Inv-loop μ-loop
-sub-add-row c = omega (arith, ends c)
-
-part-add-row-start : tie.Need-part-add-row-start Inv-loop μ-loop
-part-add-row-start c = omega (arith, ends c)
-
 add-row-requires : tie.Need-add-row-requires Inv-loop μ-loop
 add-row-requires c κs =
     let turn = c .before .before .before in
@@ -79,10 +67,10 @@ column-sums-spec =
     Inv-loop
     μ-loop
     loop-holds
-    mul-place
-    mul-add-row
-    sub-add-row
-    part-add-row-start
+    (λ c. omega (arith, ends c))
+    (λ c. omega (arith, ends c))
+    (λ c. omega (arith, ends c))
+    (λ c. omega (arith, ends c))
     (λ c. omega arith)
     (λ c. omega arith)
     (λ c. omega arith)

@@ -18,9 +18,6 @@ Inv-loop q theta psi ng denom logs gamma₀ k₀ gamma k = (length logs ≡ 32) 
 abbrev μ-loop : tie.MeasureT-loop
 μ-loop q theta psi ng denom logs gamma₀ k₀ gamma k = ng - k
 
-log-each-requires : tie.Need-log-each-requires Inv-loop μ-loop
-log-each-requires c κs = omega (arith, c .before .column-sums .ok, c .before .before .before .before .before .pre .0)
-
 loop-holds : tie.Need-loop-holds Inv-loop μ-loop
 loop-holds c = (omega (arith, c .before .log-each .kept .0, c .before .before .before .column-sums .ok), filling-none (omega arith) refl)
 
@@ -50,7 +47,7 @@ gamma-k-spec =
     μ-loop
     (λ c κs. search needs)
     (λ c. search needs)
-    log-each-requires
+    (λ c κs. omega (arith, c .before .column-sums .ok, c .before .before .before .before .before .pre .0))
     loop-holds
     (λ c. omega arith)
     (λ c. omega arith)

@@ -20,18 +20,6 @@ ends c =
     let row = row-end _ (c .args .ng) _ (c .pre .1) in
     (omega (arith, row, c .pre .3), omega (arith, row, mul-le-mul (c .pre .0) (c .pre .0)))
 
-mul-place : tie.Need-mul-place
-mul-place c = omega (arith, ends (c .before .before .before))
-
-mul-row-sum : tie.Need-mul-row-sum
-mul-row-sum c = omega (arith, ends (c .before .before .before))
-
-sub-row-sum : tie.Need-sub-row-sum
-sub-row-sum c = omega (arith, ends (c .before .before .before))
-
-part-row-sum-start : tie.Need-part-row-sum-start
-part-row-sum-start c = omega (arith, ends (c .before .before .before))
-
 row-sum-requires : tie.Need-row-sum-requires
 row-sum-requires c κs =
     let start = c .before .before .before .before in (
@@ -51,10 +39,10 @@ pub group-gamma-spec : {M : Type 1} → statement M
 group-gamma-spec =
     tie.close
     (tie.spec
-    mul-place
-    mul-row-sum
-    sub-row-sum
-    part-row-sum-start
+    (λ c. omega (arith, ends (c .before .before .before)))
+    (λ c. omega (arith, ends (c .before .before .before)))
+    (λ c. omega (arith, ends (c .before .before .before)))
+    (λ c. omega (arith, ends (c .before .before .before)))
     (λ c. search needs)
     row-sum-requires
     returns)

@@ -14,15 +14,6 @@ entry c = c .before .before .before .before .before .before .before .before
 ends : (c : tie.After-shared-slice-known7) → c .before .start-of .result + getD (now (entry c .args .lens)) (entry c .args .i) 0 ≤ length (now (entry c .args .groups))
 ends c = list-ends (entry c .args .i) (entry c .pre .0) (c .before .start-of .ensures) .0
 
-cast-end : tie.Need-cast-end
-cast-end c = omega (arith, c .shared-slice-known7 .given (entry c .args .i))
-
-add-end : tie.Need-add-end
-add-end c = omega (arith, ends c, entry c .good)
-
-part-gammas-of-end : tie.Need-part-gammas-of-end
-part-gammas-of-end c = omega (arith, ends c)
-
 gammas-of-requires : tie.Need-gammas-of-requires
 gammas-of-requires c κs =
     let start = entry (c .before) in
@@ -39,10 +30,10 @@ listed-gammas-spec =
     (tie.spec
     (λ c κs. search needs)
     (λ c. search needs)
-    cast-end
-    add-end
+    (λ c. omega (arith, c .shared-slice-known7 .given (entry c .args .i)))
+    (λ c. omega (arith, ends c, entry c .good))
     (λ c. search needs)
     (λ c. search needs)
-    part-gammas-of-end
+    (λ c. omega (arith, ends c))
     gammas-of-requires
     returns)

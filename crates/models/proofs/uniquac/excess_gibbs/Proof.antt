@@ -65,12 +65,6 @@ mul-at c = let turn = c .before .before .before in omega (arith, ends turn, star
 mul-residual-2 : tie.Need-mul-residual-2 Inv-loop μ-loop
 mul-residual-2 c = let turn = c .before .before .before .before .before in omega (arith, ends turn, start (ratios (turn .before)) .good)
 
-sub-residual : tie.Need-sub-residual Inv-loop μ-loop
-sub-residual c = omega (arith, ends (c .before .before .before .before .before))
-
-part-residual-start : tie.Need-part-residual-start Inv-loop μ-loop
-part-residual-start c = omega (arith, ends (c .before .before .before .before .before))
-
 residual-requires : tie.Need-residual-requires Inv-loop μ-loop
 residual-requires c κs =
     let turn = c .before .before .before .before .before .before in
@@ -138,8 +132,8 @@ excess-gibbs-spec =
     (λ c. omega arith)
     (λ c. omega arith)
     mul-residual-2
-    sub-residual
-    part-residual-start
+    (λ c. omega (arith, ends (c .before .before .before .before .before)))
+    (λ c. omega (arith, ends (c .before .before .before .before .before)))
     (λ c. omega arith)
     (λ c. omega arith)
     (λ c. omega arith)

@@ -18,18 +18,6 @@ entry c = c .before .before .before .before .before .before .before .before .bef
 ends : (c : tie.Start) → c .args .i * c .args .n + c .args .n ≤ length (now (c .args .e))
 ends c = omega (arith, row-end (c .args .n) (c .args .n) (c .args .i) (c .pre .6))
 
-mul-at : tie.Need-mul-at
-mul-at c = omega (arith, ends (entry c))
-
-mul-residual-2 : tie.Need-mul-residual-2
-mul-residual-2 c = omega (arith, ends (entry (c .before)))
-
-sub-residual : tie.Need-sub-residual
-sub-residual c = omega (arith, ends (entry (c .before)))
-
-part-residual-start : tie.Need-part-residual-start
-part-residual-start c = omega (arith, ends (entry (c .before)))
-
 residual-requires : tie.Need-residual-requires
 residual-requires c κs =
     let start = entry (c .before .before .before .before) in
@@ -63,12 +51,12 @@ ln-gamma-spec =
     (λ c. search needs)
     (λ c. search needs)
     (λ c κs. tt)
-    mul-at
+    (λ c. omega (arith, ends (entry c)))
     (λ c. search needs)
     (λ c. search needs)
-    mul-residual-2
-    sub-residual
-    part-residual-start
+    (λ c. omega (arith, ends (entry (c .before))))
+    (λ c. omega (arith, ends (entry (c .before))))
+    (λ c. omega (arith, ends (entry (c .before))))
     (λ c. search needs)
     (λ c. search needs)
     (λ c. search needs)

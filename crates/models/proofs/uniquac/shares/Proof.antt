@@ -23,9 +23,6 @@ loop-again c =
     let at-loop = c .before .before .before in
     filling-more (omega arith) (at-loop .loop .inv) (rw (at-loop .before .dot .ensures))
 
-same-length : tie.Need-same-length Inv-loop μ-loop
-same-length c = c .before .loop .inv .long
-
 pub shares-spec : {M : Type 1} → statement M
 shares-spec =
     tie.close
@@ -43,5 +40,5 @@ shares-spec =
     (λ c. omega arith)
     (λ c. omega arith)
     loop-again
-    same-length
+    (λ c. c .before .loop .inv .long)
     (λ c. filling-done (c .loop-test .left) (c .before .loop .inv)))

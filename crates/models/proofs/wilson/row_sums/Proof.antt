@@ -23,18 +23,6 @@ ends c =
     let start = c .before .before .before .before .before .before in
     omega (arith, row-end (start .args .n) (start .args .n) (c .before .loop .i) (c .loop-test .taken))
 
-mul-at : tie.Need-mul-at Inv-loop μ-loop
-mul-at c = omega (arith, ends c)
-
-mul-row-sum : tie.Need-mul-row-sum Inv-loop μ-loop
-mul-row-sum c = omega (arith, ends c)
-
-sub-row-sum : tie.Need-sub-row-sum Inv-loop μ-loop
-sub-row-sum c = omega (arith, ends c)
-
-part-row-sum-start : tie.Need-part-row-sum-start Inv-loop μ-loop
-part-row-sum-start c = omega (arith, ends c)
-
 row-sum-requires : tie.Need-row-sum-requires Inv-loop μ-loop
 row-sum-requires c κs =
     let turn = c .before in
@@ -50,9 +38,6 @@ loop-again c =
     let row = rowSum-row (start .args .n) (at (now (start .args .v))) (now (start .args .e)) (at (now (start .args .x))) i (ends turn) in
     filling-more (omega arith) (turn .before .loop .inv) (c .row-sum .ensures ∙ row)
 
-same-length : tie.Need-same-length Inv-loop μ-loop
-same-length c = c .before .loop .inv .long
-
 pub row-sums-spec : {M : Type 1} → statement M
 row-sums-spec =
     tie.close
@@ -60,10 +45,10 @@ row-sums-spec =
     Inv-loop
     μ-loop
     (λ c. filling-none (omega arith) refl)
-    mul-at
-    mul-row-sum
-    sub-row-sum
-    part-row-sum-start
+    (λ c. omega (arith, ends c))
+    (λ c. omega (arith, ends c))
+    (λ c. omega (arith, ends c))
+    (λ c. omega (arith, ends c))
     (λ c. omega arith)
     row-sum-requires
     (λ c. omega arith)
@@ -71,5 +56,5 @@ row-sums-spec =
     (λ c. omega arith)
     (λ c. omega arith)
     loop-again
-    same-length
+    (λ c. c .before .loop .inv .long)
     (λ c. filling-done (c .loop-test .left) (c .before .loop .inv)))
