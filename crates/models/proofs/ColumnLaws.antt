@@ -18,21 +18,34 @@ use Rattle.arithmetic.proofs.TableLaws.{upto-below, from-at, by-place, Filling,
 use Rattle.arithmetic.proofs.Differences.{either}
 use Rattle.models.specs.Columns.{unitAt, unitDiagonal, columnSum}
 
--- terms F k j of row k and column j
-module _ (F : ℕ → ℕ → Float) where
-  -- zeros at first
-  pub columns-none : (n : ℕ) {s : List Float} → Filled (λ _. +0) n s → Filled (λ j. sum 0 (λ k. F k j)) n s
-  unfolding sum fold
-  columns-none n all = record { each = all .each }
+-- a loop over the rows i that keeps the sums of the first n columns, of the terms F k j of row k and column j, in a list of m
+pub record Columns (F : ℕ → ℕ → Float) (n m i : ℕ) (s : List Float) : Type 0 where
+  pub within : i ≤ n
+  pub room : n ≤ m
+  pub long : length s ≡ m
+  pub sums : Filled (λ j. sum i (λ k. F k j)) n s
 
-  pub columns-more : (i n : ℕ) (new : ℕ → Float) {s s′ : List Float} → n ≤ length s → ((j : ℕ) → j < n → new j ≡ F i j) →
-      Filled (λ j. sum i (λ k. F k j)) n s → Filled (upTo n (λ j. at s j ⊕ new j) (at s)) (length s) s′ → Filled (λ j. sum (i + 1) (λ k. F k j)) n s′
-  columns-more i n new {s} {s′} h e before after = record {
-    each = λ j b. after .each j (omega arith) ∙ upto-below n (λ j. at s j ⊕ new j) (at s) j b ∙ sum-more (λ k. F k j) i (before .each j b) (e j b);
+module _ {F : ℕ → ℕ → Float} {n m : ℕ} where
+  -- zeros at first
+  pub columns-none : {s : List Float} → n ≤ m → length s ≡ m → Filled (λ _. +0) n s → Columns F n m 0 s
+  unfolding sum fold
+  columns-none h l zeros = record { within = omega arith; room = h; long = l; sums = record { each = zeros .each } }
+
+  pub columns-more : (new : ℕ → Float) {i : ℕ} {s s′ : List Float} → i < n → ((j : ℕ) → j < n → new j ≡ F i j) → Columns F n m i s →
+      Filled (upTo n (λ j. at s j ⊕ new j) (at s)) (length s) s′ → length s′ ≡ length s → Columns F n m (i + 1) s′
+  columns-more new {i} {s} h e before after same = record {
+    within = omega arith;
+    room = before .room;
+    long = same ∙ before .long;
+    sums = record {
+      each = λ j b.
+          after .each j (omega (arith, before .room, before .long)) ∙ upto-below n (λ j. at s j ⊕ new j) (at s) j b
+          ∙ sum-more (λ k. F k j) i (before .sums .each j b) (e j b);
+    };
   }
 
-  pub columns-done : (i n : ℕ) {s : List Float} → i ≤ n → n ≤ i → Filled (λ j. sum i (λ k. F k j)) n s → Filled (λ j. sum n (λ k. F k j)) n s
-  columns-done i n a b all = rw (le-antisymm a b) at all
+  pub columns-done : {i : ℕ} {s : List Float} → n ≤ i → Columns F n m i s → Filled (λ j. sum n (λ k. F k j)) n s
+  columns-done h all = rw (le-antisymm (all .within) h) at (all .sums)
 
 -- ---- terms kept side by side, that of the diagonal put right, then folded
 
