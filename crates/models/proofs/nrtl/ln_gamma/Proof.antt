@@ -17,8 +17,10 @@ ends c = (row-end _ (c .args .n) _ (c .pre .1), mul-le-mul (c .pre .0) (c .pre .
 second-requires : tie.Need-second-requires
 second-requires c κs =
     let start = c .before .before .before .before .before .before .before .before .before in
-    let at-row = start .args .i * start .args .n in
-    (omega (arith, from-length at-row (now (start .args .tau)), ends start), omega (arith, from-length at-row (now (start .args .g)), ends start), omega arith, omega arith, omega arith, start .pre .1, start .pre .0)
+    let end = ends start in
+    let tau-row = from-length (start .args .i * start .args .n) (now (start .args .tau)) in
+    let g-row = from-length (start .args .i * start .args .n) (now (start .args .g)) in
+    search needs
 
 returns : tie.Need-returns
 returns c =

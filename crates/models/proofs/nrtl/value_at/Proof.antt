@@ -17,18 +17,20 @@ unfolding nrtlSize
 fits c = (c .pre .1, mul-le-mul (c .pre .0) (c .pre .0))
 
 fill-taus-requires : tie.Need-fill-taus-requires
-fill-taus-requires c κs = let start = c .before .before .before in (start .pre .0, start .pre .1, omega (arith, fits start))
+fill-taus-requires c κs =
+    let room = fits (c .before .before .before) in search needs
 
 fill-exponentials-requires : tie.Need-fill-exponentials-requires
 fill-exponentials-requires c κs =
     let start = c .before .before .before .before .before .before .before .before in
     let n = start .args .n in
-    (omega (arith, from-length (n * n * 5) (now (start .args .values)), fits start), omega (arith, c .before .before .before .before .fill-taus .kept .1 .1 .1 .0, fits start), omega (arith, fits start))
+    let room = fits start in
+    let part = from-length (n * n * 5) (now (start .args .values)) in
+    search needs
 
 value-over-requires : tie.Need-value-over-requires
 value-over-requires c κs =
-    let start = c .before .before .before .before .before .before .before .before .before .before .before .before in
-    (start .pre .0, omega (arith, c .before .before .before .before .before .before .before .before .fill-taus .kept .1 .1 .1 .0, fits start), omega (arith, c .before .before .before .fill-exponentials .kept .1 .1 .1 .0, fits start), start .pre .2, start .pre .3)
+    let room = fits (c .before .before .before .before .before .before .before .before .before .before .before .before) in search needs
 
 returns : tie.Need-returns
 returns c =

@@ -15,27 +15,18 @@ entry c = c .before .before .before .before .before .before
 
 column-sums-requires : tie.Need-column-sums-requires
 column-sums-requires c κs =
-    let pre = c .before .before .before .before .before .pre in
-    let start = filled-less (pre .0) (zeros 12) in
-    (pre .1, pre .2, pre .3, omega (arith, pre .0), omega (arith, pre .0), start, start)
+    let zero = filled-less (c .before .before .before .before .before .pre .0) (zeros 12) in
+    search needs
 
 ln-gamma-requires : tie.Need-ln-gamma-requires
 ln-gamma-requires c κs =
-    let sums = c .before .before .before .before .before .before .before in
-    let pre = entry sums .pre in
-    (pre .0, index-ln (c .before .before .before .q .given .1) (pre .4), pre .1, pre .2, omega (arith, sums .column-sums .kept .1 .1 .1 .1 .0, pre .0), omega (arith, sums .column-sums .kept .1 .1 .1 .1 .1 .0, pre .0), pre .3)
+    let here = index-ln (c .before .before .before .q .given .1) (entry (c .before .before .before .before .before .before .before) .pre .4) in
+    search needs
 
 ln-gamma-requires-2 : tie.Need-ln-gamma-requires-2
 ln-gamma-requires-2 c κs =
-    let sums = c .before .before .before .before .before .before .before in
-    let pre = entry sums .pre in
-    (pre .0, index-gamma (c .before .before .before .q2 .given .1) (pre .4), pre .1, pre .2, omega (arith, sums .column-sums .kept .1 .1 .1 .1 .0, pre .0), omega (arith, sums .column-sums .kept .1 .1 .1 .1 .1 .0, pre .0), pre .3)
-
-excess-by-requires : tie.Need-excess-by-requires
-excess-by-requires c κs =
-    let sums = c .before .before .before .before .before .before in
-    let pre = entry sums .pre in
-    (omega (arith, sums .column-sums .kept .1 .1 .1 .1 .0, pre .0), omega (arith, sums .column-sums .kept .1 .1 .1 .1 .1 .0, pre .0), pre .3)
+    let here = index-gamma (c .before .before .before .q2 .given .1) (entry (c .before .before .before .before .before .before .before) .pre .4) in
+    search needs
 
 returns : tie.Need-returns
 returns c =
@@ -74,7 +65,7 @@ value-over-spec =
     (λ c. search needs)
     (λ c. search needs)
     (λ c. search needs)
-    excess-by-requires
+    (λ c κs. search needs)
     returns
     returns-2
     returns-3)

@@ -23,8 +23,7 @@ loop-holds c = (omega (arith, c .before .log-each .kept .0, c .before .before .b
 
 group-gamma-requires : tie.Need-group-gamma-requires Inv-loop μ-loop
 group-gamma-requires c κs =
-    let start = c .before .before .before .before .before .before .before .before .before .before .before in
-    (start .pre .0, c .before .before .loop-test .taken, start .pre .2, start .pre .3, omega (arith, start .pre .0, c .before .before .before .before .before .before .before .column-sums .ok))
+    search needs
 
 loop-again : tie.Need-loop-again Inv-loop μ-loop
 loop-again c =

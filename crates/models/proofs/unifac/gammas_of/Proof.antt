@@ -32,9 +32,7 @@ loop-holds c = (omega arith, refl, refl, named-none _ _ _)
 
 group-gamma-requires : tie.Need-group-gamma-requires Inv-loop μ-loop
 group-gamma-requires c κs =
-    let turn = c .before .before .before .before in
-    let start = entry turn in
-    (start .pre .0, below turn .0, start .pre .2, start .pre .3, omega (arith, below turn))
+    let here = below (c .before .before .before .before) in search needs
 
 loop-again : tie.Need-loop-again Inv-loop μ-loop
 loop-again c =

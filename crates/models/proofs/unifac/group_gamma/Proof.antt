@@ -22,12 +22,10 @@ ends c =
 
 row-sum-requires : tie.Need-row-sum-requires
 row-sum-requires c κs =
-    let start = c .before .before .before .before in (
-      omega (arith, start .pre .2, start .pre .4),
-      omega (arith, from-length (start .args .k * start .args .ng) (now (start .args .psi)), ends start),
-      omega (arith, start .pre .2, start .pre .4),
-      start .pre .0,
-    )
+    let start = c .before .before .before .before in
+    let end = ends start in
+    let row = from-length (start .args .k * start .args .ng) (now (start .args .psi)) in
+    search needs
 
 returns : tie.Need-returns
 unfolding one dec round ofBits

@@ -9,14 +9,11 @@ use Rattle.models.proofs.unifac.ln_gamma.Tie as tie
 
 listed-gammas-requires : tie.Need-listed-gammas-requires
 listed-gammas-requires c κs =
-    let start = c .before .before .before .before .before .before .before .before .before in
-    let long : length (start .args .s .theta) ≡ 32 = search needs in
-    (start .pre .0, start .pre .1, start .pre .2, start .pre .3, omega (arith, long, start .pre .2), start .pre .4)
+    let long : length (c .before .before .before .before .before .before .before .before .before .args .s .theta) ≡ 32 = search needs in search needs
 
 ln-gamma-by-requires : tie.Need-ln-gamma-by-requires
 ln-gamma-by-requires c κs =
-    let start = c .before .before .before .before .before .before .before .before .before .before .before in
-    (start .pre .0, start .pre .1, start .pre .2, start .pre .3, start .pre .4, search needs)
+    search needs
 
 returns : tie.Need-returns
 returns c = ln-from (c .before .before .before .before .before .before .before .before .before .before .before .before .args .s) _ _ _ _ _ (c .before .before .listed-gammas .ensures) (c .ln-gamma-by .ensures)

@@ -18,15 +18,17 @@ unfolding uniquacSize
 fits c = (c .pre .1, mul-le-mul (c .pre .0) (c .pre .0))
 
 fill-energies-requires : tie.Need-fill-energies-requires
-fill-energies-requires c κs = let start = c .before .before .before in (start .pre .0, omega (arith, fits start), omega (arith, fits start))
+fill-energies-requires c κs =
+    let room = fits (c .before .before .before) in search needs
 
 value-over-requires : tie.Need-value-over-requires
 value-over-requires c κs =
     let start = c .before .before .before .before .before .before .before .before in
     let n = start .args .n in
+    let room = fits start in
     let r-part = from-length (n * n) (now (start .args .values)) in
     let q-part = from-length (n * n + n) (now (start .args .values)) in
-    (start .pre .0, omega (arith, r-part, fits start), omega (arith, q-part, fits start), omega (arith, c .before .before .before .before .fill-energies .kept .1 .1 .1 .0, fits start), start .pre .2, start .pre .3)
+    search needs
 
 returns : tie.Need-returns
 returns c =

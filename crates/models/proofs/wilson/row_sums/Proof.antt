@@ -2,6 +2,7 @@
 use mathlib.Core.Path.{refl, _∙_}
 use Prim.Native.Nat.{_+_, _*_, _-_, _≤_}
 use native.Mathlib.Omega.{arith}
+use borrow.Author.Needs.{needs}
 use denote.Ref.{now}
 use lib.ListN.{length}
 use Rattle.arithmetic.specs.Tables.{at, grid}
@@ -27,8 +28,9 @@ row-sum-requires : tie.Need-row-sum-requires Inv-loop μ-loop
 row-sum-requires c κs =
     let turn = c .before in
     let start = turn .before .before .before .before .before .before in
+    let end = ends turn in
     let row = from-length (turn .before .loop .i * start .args .n) (now (start .args .e)) in
-    (start .pre .1, omega (arith, row, ends turn), start .pre .3, turn .loop-test .taken, start .pre .0)
+    search needs
 
 loop-again : tie.Need-loop-again Inv-loop μ-loop
 loop-again c =

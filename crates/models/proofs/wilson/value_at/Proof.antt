@@ -17,13 +17,15 @@ unfolding wilsonSize
 fits c = (c .pre .1, mul-le-mul (c .pre .0) (c .pre .0))
 
 fill-energies-requires : tie.Need-fill-energies-requires
-fill-energies-requires c κs = let start = c .before .before .before in (start .pre .0, omega (arith, fits start), omega (arith, fits start))
+fill-energies-requires c κs =
+    let room = fits (c .before .before .before) in search needs
 
 value-over-requires : tie.Need-value-over-requires
 value-over-requires c κs =
     let start = c .before .before .before .before .before .before .before in
-    let n = start .args .n in
-    (start .pre .0, omega (arith, from-length (n * n) (now (start .args .values)), fits start), omega (arith, c .before .before .before .fill-energies .kept .1 .1 .1 .0, fits start), start .pre .2, start .pre .3)
+    let room = fits start in
+    let part = from-length (start .args .n * start .args .n) (now (start .args .values)) in
+    search needs
 
 returns : tie.Need-returns
 returns c =

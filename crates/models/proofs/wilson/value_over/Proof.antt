@@ -9,16 +9,10 @@ use Rattle.models.proofs.wilson.value_over.Statement.{statement}
 use Rattle.models.proofs.wilson.value_over.Tie as tie
 
 ln-gamma-requires : tie.Need-ln-gamma-requires
-ln-gamma-requires c κs =
-    let sums = c .before .before .before .before .before in
-    let start = sums .before .before .before .before .before in
-    (start .pre .1, start .pre .2, start .pre .3, omega (arith, sums .row-sums .kept .1 .1 .1 .1 .0, start .pre .0), index-ln (c .before .before .q .given .1) (start .pre .4), start .pre .0, sums .row-sums .ensures)
+ln-gamma-requires c κs = let here = index-ln (c .before .before .q .given .1) (c .before .before .before .before .before .before .before .before .before .before .pre .4) in search needs
 
 ln-gamma-requires-2 : tie.Need-ln-gamma-requires-2
-ln-gamma-requires-2 c κs =
-    let sums = c .before .before .before .before .before in
-    let start = sums .before .before .before .before .before in
-    (start .pre .1, start .pre .2, start .pre .3, omega (arith, sums .row-sums .kept .1 .1 .1 .1 .0, start .pre .0), index-gamma (c .before .before .q2 .given .1) (start .pre .4), start .pre .0, sums .row-sums .ensures)
+ln-gamma-requires-2 c κs = let here = index-gamma (c .before .before .q2 .given .1) (c .before .before .before .before .before .before .before .before .before .before .pre .4) in search needs
 
 returns : tie.Need-returns
 unfolding wilson
