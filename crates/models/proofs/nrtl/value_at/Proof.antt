@@ -17,8 +17,7 @@ unfolding nrtlSize
 fits c = (c .pre .1, mul-le-mul (c .pre .0) (c .pre .0))
 
 fill-taus-requires : tie.Need-fill-taus-requires
-fill-taus-requires c κs =
-    let room = fits (c .before .before .before) in search needs
+fill-taus-requires c κs = let room = fits (c .before .before .before) in search needs
 
 fill-exponentials-requires : tie.Need-fill-exponentials-requires
 fill-exponentials-requires c κs =

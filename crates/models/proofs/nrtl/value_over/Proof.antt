@@ -1,5 +1,4 @@
 -- The sums once, then the quantity asked for, by the laws that let them be worked out once.
-use native.Mathlib.Omega.{arith}
 use borrow.Author.Needs.{needs}
 use denote.Ref.{now}
 use Rattle.arithmetic.specs.Tables.{at, grid}

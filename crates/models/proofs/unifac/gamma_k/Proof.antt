@@ -21,10 +21,6 @@ abbrev μ-loop : tie.MeasureT-loop
 loop-holds : tie.Need-loop-holds Inv-loop μ-loop
 loop-holds c = (omega (arith, c .before .log-each .kept .0, c .before .before .before .column-sums .ok), filling-none (omega arith) refl)
 
-group-gamma-requires : tie.Need-group-gamma-requires Inv-loop μ-loop
-group-gamma-requires c κs =
-    search needs
-
 loop-again : tie.Need-loop-again Inv-loop μ-loop
 loop-again c =
     let turn = c .before .before .before in
@@ -53,7 +49,7 @@ gamma-k-spec =
     (λ c. omega arith)
     (λ c. omega arith)
     (λ c. search needs)
-    group-gamma-requires
+    (λ c κs. search needs)
     (λ c. omega arith)
     (λ c. omega arith)
     (λ c. omega arith)

@@ -31,8 +31,7 @@ loop-holds : tie.Need-loop-holds Inv-loop μ-loop
 loop-holds c = (omega arith, refl, refl, named-none _ _ _)
 
 group-gamma-requires : tie.Need-group-gamma-requires Inv-loop μ-loop
-group-gamma-requires c κs =
-    let here = below (c .before .before .before .before) in search needs
+group-gamma-requires c κs = let here = below (c .before .before .before .before) in search needs
 
 loop-again : tie.Need-loop-again Inv-loop μ-loop
 loop-again c =

@@ -1,6 +1,5 @@
 -- ln Γ of the groups that i lists, and the parts of what the components share are handed on.
 use mathlib.Core.Path.{_≡_}
-use native.Mathlib.Omega.{arith}
 use lib.ListN.{length}
 use borrow.Author.Needs.{needs}
 use Rattle.models.proofs.UnifacLaws.{ln-from}
@@ -10,10 +9,6 @@ use Rattle.models.proofs.unifac.ln_gamma.Tie as tie
 listed-gammas-requires : tie.Need-listed-gammas-requires
 listed-gammas-requires c κs =
     let long : length (c .before .before .before .before .before .before .before .before .before .args .s .theta) ≡ 32 = search needs in search needs
-
-ln-gamma-by-requires : tie.Need-ln-gamma-by-requires
-ln-gamma-by-requires c κs =
-    search needs
 
 returns : tie.Need-returns
 returns c = ln-from (c .before .before .before .before .before .before .before .before .before .before .before .before .args .s) _ _ _ _ _ (c .before .before .listed-gammas .ensures) (c .ln-gamma-by .ensures)
@@ -29,5 +24,5 @@ ln-gamma-spec =
     (λ c. search needs)
     (λ c. search needs)
     (λ c. search needs)
-    ln-gamma-by-requires
+    (λ c κs. search needs)
     returns)

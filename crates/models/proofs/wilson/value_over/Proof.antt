@@ -1,6 +1,5 @@
 -- Each quantity from the row sums: ln γ and the excess energy over them are the definition's.
 use mathlib.Core.Path.{_∙_}
-use native.Mathlib.Omega.{arith}
 use borrow.Author.Needs.{needs}
 use Rattle.models.specs.Wilson.{wilson}
 use Rattle.models.proofs.AnswerLaws.{index-ln, index-gamma, quantity-ln, quantity-gamma, quantity-excess}
