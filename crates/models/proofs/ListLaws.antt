@@ -9,7 +9,7 @@ use native.Mathlib.Nat.{eq-or-lt-of-le, le-of-suc-le-suc, le-antisymm}
 use native.Mathlib.Numerals.{add-one}
 use native.Mathlib.Omega.{arith}
 use lib.Dec.{leb, eqb}
-use lib.ListN.{length, getD, set, replicate, getD-replicate}
+use lib.ListN.{length, getD, set, replicate, length-set, getD-replicate}
 use lib.Seq.{getD-set-same, getD-set-other, getD-take, getD-drop}
 use lib.Ieee.{Float, nan, binary64, ofBits, lt}
 use borrow.Author.Tests.{eqb-true, eqb-false}
@@ -88,12 +88,12 @@ module _ (i : ℕ) {ng : ℕ} {lens groups : List ℕ} {counts : List Float} {s 
 
 -- ---- a sum kept for every group at once
 
-pub gathered-none : (group : ℕ → ℕ) (f : ℕ → Float → Float) (l : List Float) (m : ℕ) → Filled (λ k. gathered 0 group f k (at l k)) m l
+gathered-none : (group : ℕ → ℕ) (f : ℕ → Float → Float) (l : List Float) (m : ℕ) → Filled (λ k. gathered 0 group f k (at l k)) m l
 unfolding gathered fold
 gathered-none group f l m = record { each = λ k h. refl }
 
 -- the place p names g, whose number becomes f p of it
-pub gathered-more : (group : ℕ → ℕ) (f : ℕ → Float → Float) (old : ℕ → Float) (p m g : ℕ) {num : List Float} {v : Float} →
+gathered-more : (group : ℕ → ℕ) (f : ℕ → Float → Float) (old : ℕ → Float) (p m g : ℕ) {num : List Float} {v : Float} →
     g ≡ group p → g < length num → v ≡ f p (at num g) → m ≤ length num →
     Filled (λ k. gathered p group f k (old k)) m num → Filled (λ k. gathered (p + 1) group f k (old k)) m (set num g v)
 unfolding gathered
@@ -104,6 +104,26 @@ gathered-more group f old p m g {num} {v} e b w long all = record {
     by-test : (k : ℕ) (t : Bool) → eqb g k ≡ t → at (set num g v) k ≡ cond (eqb (group p) k) (f p (at num k)) (at num k)
     by-test k true t = let q : g ≡ k = eqb-true g k t in rw (← e, t, ← q) (getD-set-same num g v nan b ∙ w)
     by-test k false t = rw (← e, t) (getD-set-other num g k v nan (λ q. eqb-false g k t (sym q)))
+
+-- a loop over the places p of a list of len that gathers for every group at once
+pub record Gathering (group : ℕ → ℕ) (f : ℕ → Float → Float) (len : ℕ) (old : List Float) (p : ℕ) (num : List Float) : Type 0 where
+  pub within : p ≤ len
+  pub long : length num ≡ length old
+  pub numbers : Filled (λ k. gathered p group f k (at old k)) (length old) num
+
+module _ {group : ℕ → ℕ} {f : ℕ → Float → Float} {len : ℕ} {old : List Float} where
+  pub gathering-none : Gathering group f len old 0 old
+  gathering-none = record { within = omega arith; long = refl; numbers = gathered-none group f old (length old) }
+
+  pub gathering-more : {p g : ℕ} {num : List Float} {v : Float} → p < len → g ≡ group p → g < length num → v ≡ f p (at num g) → Gathering group f len old p num → Gathering group f len old (p + 1) (set num g v)
+  gathering-more {p} {g} h e b w all = record {
+    within = omega arith;
+    long = simp length-set (all .long);
+    numbers = gathered-more group f (at old) p (length old) g e b w (omega (arith, all .long)) (all .numbers);
+  }
+
+  pub gathering-done : {p : ℕ} {num : List Float} → len ≤ p → Gathering group f len old p num → Filled (λ k. gathered len group f k (at old k)) (length old) num
+  gathering-done h all = rw (← le-antisymm (all .within) h) (all .numbers)
 
 -- ---- an array that has F of the groups named
 
