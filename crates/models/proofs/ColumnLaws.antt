@@ -50,7 +50,7 @@ module _ {F : ℕ → ℕ → Float} {n m : ℕ} where
 -- ---- terms kept side by side, that of the diagonal put right, then folded
 
 -- a store at i, where F and G may differ
-pub filled-put : {F G : ℕ → Float} {g : List Float} (n i : ℕ) {v : Float} → i < length g → ((k : ℕ) → k < n → (i ≡ k → ⊥) → F k ≡ G k) → v ≡ G i → Filled F n g → Filled G n (set g i v)
+filled-put : {F G : ℕ → Float} {g : List Float} (n i : ℕ) {v : Float} → i < length g → ((k : ℕ) → k < n → (i ≡ k → ⊥) → F k ≡ G k) → v ≡ G i → Filled F n g → Filled G n (set g i v)
 filled-put {F} {G} {g} n i {v} h e w all = record {
   each = λ k b.
       by-place k i

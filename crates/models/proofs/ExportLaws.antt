@@ -33,7 +33,7 @@ pub length-eights : (s : List ℕ) → length (floats s) ≡ length s / 8
 unfolding floats
 length-eights s = length-floats s 0 (length s / 8)
 
-pub eights-at : (s : List ℕ) (k : ℕ) → k < length s / 8 → at (floats s) k ≡ floatAt s (8 * k)
+eights-at : (s : List ℕ) (k : ℕ) → k < length s / 8 → at (floats s) k ≡ floatAt s (8 * k)
 unfolding floats
 eights-at s k h = floats-at s 0 (length s / 8) k h ∙ rw (zero-add (8 * k))
 

@@ -33,18 +33,13 @@ pub start-more : (lens : List ℕ) (i : ℕ) {s l : ℕ} → s ≡ start lens i 
 unfolding start
 start-more lens i p q = rw (add-one, p, q)
 
-pub start-next : (lens : List ℕ) (i : ℕ) → start lens i + getD lens i 0 ≡ start lens (i + 1)
+start-next : (lens : List ℕ) (i : ℕ) → start lens i + getD lens i 0 ≡ start lens (i + 1)
 start-next lens i = start-more lens i refl refl
 
 pub start-up : (lens : List ℕ) (i n : ℕ) → i ≤ n → start lens i ≤ start lens n
 unfolding start
 start-up lens i zero h = let e : i ≡ 0 = omega arith in rw e (omega arith)
 start-up lens i (suc n) h = ⊎-elim (λ e. rw e (omega arith)) (λ l. omega (arith, start-up lens i n (le-of-suc-le-suc l))) (eq-or-lt-of-le h)
-
-pub start-same : (lens lens′ : List ℕ) (n : ℕ) → ((i : ℕ) → i < n → getD lens i 0 ≡ getD lens′ i 0) → (i : ℕ) → i ≤ n → start lens i ≡ start lens′ i
-unfolding start
-start-same lens lens′ n e zero h = refl
-start-same lens lens′ n e (suc i) h = rw (start-same lens lens′ n e i (omega arith), e i h)
 
 -- ---- the places of a list
 

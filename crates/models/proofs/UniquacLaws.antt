@@ -24,7 +24,7 @@ use Rattle.models.proofs.ColumnLaws.{unit-row, unit-same, column-same, 
 
 -- ---- equal entries, equal answers
 
-pub share-same : (n : ℕ) (s t x y : ℕ → Float) → ((i : ℕ) → i < n → s i ≡ t i) → ((i : ℕ) → i < n → x i ≡ y i) → (i : ℕ) → i < n → share n s x i ≡ share n t y i
+share-same : (n : ℕ) (s t x y : ℕ → Float) → ((i : ℕ) → i < n → s i ≡ t i) → ((i : ℕ) → i < n → x i ≡ y i) → (i : ℕ) → i < n → share n s x i ≡ share n t y i
 unfolding share
 share-same n s t x y es ex i b = rw (es i b, ex i b, sum-same n (λ j. x j ⊗ s j) (λ j. y j ⊗ t j) (λ j c. rw (es j c, ex j c)))
 

@@ -54,15 +54,15 @@ module _ (n : ℕ) (v w : ℕ → Float) (E F : ℕ → ℕ → Float) (x y : �
 -- ---- what code works out
 
 -- the part that starts at row i gives the row's entries
-pub lambda-on : (v : ℕ → Float) (E : ℕ → ℕ → Float) (i : ℕ) → lambda v E i i ≡ one
+lambda-on : (v : ℕ → Float) (E : ℕ → ℕ → Float) (i : ℕ) → lambda v E i i ≡ one
 unfolding lambda
 lambda-on v E i = rw (eq-eqb i i refl)
 
-pub lambda-off : (v : ℕ → Float) (E : ℕ → ℕ → Float) (i k : ℕ) → (i ≡ k → ⊥) → lambda v E i k ≡ v k ⊘ v i ⊗ E i k
+lambda-off : (v : ℕ → Float) (E : ℕ → ℕ → Float) (i k : ℕ) → (i ≡ k → ⊥) → lambda v E i k ≡ v k ⊘ v i ⊗ E i k
 unfolding lambda
 lambda-off v E i k h = rw (ne-eqb i k h)
 
-pub lambda-row : (n : ℕ) (v : ℕ → Float) (e : List Float) (i j : ℕ) → i * n + j < length e → lambda v (λ _. at (from (i * n) e)) i j ≡ lambda v (grid n e) i j
+lambda-row : (n : ℕ) (v : ℕ → Float) (e : List Float) (i j : ℕ) → i * n + j < length e → lambda v (λ _. at (from (i * n) e)) i j ≡ lambda v (grid n e) i j
 unfolding lambda
 lambda-row n v e i j h = rw (from-at e (i * n) j h)
 

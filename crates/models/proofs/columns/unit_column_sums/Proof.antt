@@ -5,6 +5,7 @@ use native.Mathlib.Omega.{arith}
 use lib.ListN.{length}
 use denote.Ref.{now}
 use lib.Ieee.{Float}
+use borrow.Author.Needs.{needs}
 use Rattle.arithmetic.specs.Floats.{_⊗_}
 use Rattle.arithmetic.specs.Tables.{at, grid}
 use Rattle.arithmetic.proofs.TableLaws.{row-end, from-length}
@@ -29,8 +30,9 @@ ends c = omega (arith, row-end (entry c .args .n) (entry c .args .n) (c .before 
 add-unit-row-requires : tie.Need-add-unit-row-requires Inv-loop μ-loop
 add-unit-row-requires c κs =
     let turn = c .before .before .before in
-    let start = entry turn in
-    (omega (arith, turn .before .loop .inv), omega (arith, from-length (turn .before .loop .i * start .args .n) (now (start .args .table)), ends turn), turn .loop-test .taken)
+    let end = ends turn in
+    let row = from-length (turn .before .loop .i * entry turn .args .n) (now (entry turn .args .table)) in
+    search needs
 
 loop-again : tie.Need-loop-again Inv-loop μ-loop
 loop-again c =

@@ -8,6 +8,7 @@ use denote.Ref.{now}
 use lib.Ieee.{neg}
 use lib.ListN.{length}
 use borrow.Rule.Slice.PartMut.{same-len-mid}
+use borrow.Author.Needs.{needs}
 use Rattle.arithmetic.specs.Floats.{_⊖_, _⊘_}
 use Rattle.arithmetic.specs.Tables.{grid, flat, Filled}
 use Rattle.arithmetic.proofs.TableLaws.{row-end, from-length, filled-none}
@@ -34,11 +35,11 @@ loop-holds c = (omega arith, refl, filled-none (omega arith))
 fill-arguments-requires : tie.Need-fill-arguments-requires Inv-loop μ-loop
 fill-arguments-requires c κs =
     let turn = c .before .before in
-    let s = turn .before .loop .i * entry turn .args .n in (
-      omega (arith, from-length s (now (entry turn .args .values)), ends turn),
-      omega (arith, from-length s (turn .before .loop .out), ends turn),
-      turn .loop-test .taken,
-    )
+    let place = turn .before .loop .i * entry turn .args .n in
+    let end = ends turn in
+    let row = from-length place (now (entry turn .args .values)) in
+    let out-row = from-length place (turn .before .loop .out) in
+    search needs
 
 loop-again : tie.Need-loop-again Inv-loop μ-loop
 loop-again c =

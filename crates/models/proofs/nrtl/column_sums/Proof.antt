@@ -4,6 +4,7 @@ use Prim.Native.Nat.{_+_, _*_, _-_, _≤_}
 use native.Mathlib.Omega.{arith}
 use lib.ListN.{length}
 use denote.Ref.{now}
+use borrow.Author.Needs.{needs}
 use Rattle.arithmetic.specs.Floats.{_⊗_}
 use Rattle.arithmetic.specs.Tables.{at, grid}
 use Rattle.arithmetic.proofs.TableLaws.{row-end, from-length}
@@ -39,15 +40,18 @@ loop-holds c =
 add-terms-requires : tie.Need-add-terms-requires Inv-loop μ-loop
 add-terms-requires c κs =
     let turn = c .before .before .before .before in
-    let start = entry turn in
-    let at-row = turn .before .loop .i * start .args .n in
-    (omega (arith, turn .before .loop .inv .0), omega (arith, from-length at-row (now (start .args .g)), ends turn), omega (arith, from-length at-row (now (start .args .tau)), ends turn), turn .loop-test .taken)
+    let a = entry turn .args in
+    let end = ends turn in
+    let g-row = from-length (turn .before .loop .i * a .n) (now (a .g)) in
+    let tau-row = from-length (turn .before .loop .i * a .n) (now (a .tau)) in
+    search needs
 
 add-unit-row-requires : tie.Need-add-unit-row-requires Inv-loop μ-loop
 add-unit-row-requires c κs =
     let turn = c .before .before .before .before .before .before .before .before .before .before in
-    let start = entry turn in
-    (omega (arith, turn .before .loop .inv .1), omega (arith, from-length (turn .before .loop .i * start .args .n) (now (start .args .g)), ends turn), turn .loop-test .taken)
+    let end = ends turn in
+    let row = from-length (turn .before .loop .i * entry turn .args .n) (now (entry turn .args .g)) in
+    search needs
 
 loop-again : tie.Need-loop-again Inv-loop μ-loop
 loop-again c =

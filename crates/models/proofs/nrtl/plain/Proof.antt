@@ -1,5 +1,5 @@
 -- The first fault, or the value where there is none.
-use native.Mathlib.Omega.{arith}
+use borrow.Author.Needs.{needs}
 use Rattle.models.specs.Plain.{nrtlPlain}
 use Rattle.models.proofs.AnswerLaws.{plain-refused, plain-value}
 use Rattle.models.proofs.nrtl.plain.Statement.{statement}
@@ -12,7 +12,8 @@ returns c = plain-refused _ _ (c .before .before .size .ensures) _ _ (c .before 
 value-at-requires : tie.Need-value-at-requires
 value-at-requires c κs =
     let passed = c .before .plain-fault .ensures .1 (c .if1 .left) in
-    (passed .1, omega (arith, passed .2, c .before .before .size .ensures (passed .1)), omega (arith, passed .3), passed .4)
+    let size = c .before .before .size .ensures (passed .1) in
+    search needs
 
 returns-2 : tie.Need-returns-2
 unfolding nrtlPlain

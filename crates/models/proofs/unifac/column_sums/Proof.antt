@@ -34,7 +34,9 @@ ends c =
 add-row-requires : tie.Need-add-row-requires Inv-loop μ-loop
 add-row-requires c κs =
     let turn = c .before .before .before in
-    (omega (arith, from-length (turn .before .loop .m * entry turn .args .ng) (now (entry turn .args .psi)), ends turn), omega arith)
+    let end = ends turn in
+    let row = from-length (turn .before .loop .m * entry turn .args .ng) (now (entry turn .args .psi)) in
+    search needs
 
 loop-again : tie.Need-loop-again Inv-loop μ-loop
 loop-again c =

@@ -17,7 +17,8 @@ ends c = list-ends (entry c .args .i) (entry c .pre .0) (c .before .start-of .en
 gammas-of-requires : tie.Need-gammas-of-requires
 gammas-of-requires c κs =
     let start = entry (c .before) in
-    (start .pre .2, start .pre .3, start .pre .4, start .pre .5, list-part-group (start .args .i) (start .pre .0) (c .before .before .start-of .ensures))
+    let below = list-part-group (start .args .i) (start .pre .0) (c .before .before .start-of .ensures) in
+    search needs
 
 returns : tie.Need-returns
 returns c =

@@ -21,9 +21,8 @@ ends c = omega (arith, row-end (c .args .n) (c .args .n) (c .args .i) (c .pre .6
 residual-requires : tie.Need-residual-requires
 residual-requires c κs =
     let start = entry (c .before .before .before .before) in
-    let end = ends start in
     let row = from-length (start .args .i * start .args .n) (now (start .args .e)) in
-    search needs
+    (omega (arith, row, ends start), start .pre .4, start .pre .5, start .pre .6, start .pre .8)
 
 returns : tie.Need-returns
 returns c =
