@@ -70,6 +70,9 @@ module _ {F : ℕ → Float} {n m p : ℕ} {g : List Float} (terms : Filling F n
   pub terms-room : (i : ℕ) (v : Float) → n ≤ length (set g i v)
   terms-room i v = simp length-set (omega (arith, terms .room, terms .long))
 
+  pub terms-taken : (i : ℕ) (v : Float) → n ≡ length (take n (set g i v))
+  terms-taken i v = sym (length-take-le n (set g i v) (terms-room i v))
+
   module _ (done : n ≤ p) where
     pub terms-sum : {r : Float} → r ≡ total (take n g) → r ≡ sum n F
     terms-sum e = total-sum n F g (omega (arith, terms .room, terms .long)) (filling-done done terms) e

@@ -59,9 +59,6 @@ loop-again c =
 mul-exp-each : tie.Need-mul-exp-each Inv-loop μ-loop
 mul-exp-each c = let start = c .before .before .before .before .before in omega (arith, mul-le-mul (start .pre .0) (start .pre .0))
 
-same-length : tie.Need-same-length Inv-loop μ-loop
-same-length c = c .before .before .exp-each .kept .0 ∙ c .before .before .before .before .before .loop .inv .1
-
 returns : tie.Need-returns Inv-loop μ-loop
 returns c =
     let each = c .before .before in
@@ -90,5 +87,5 @@ fill-energies-spec =
     loop-again
     mul-exp-each
     (λ c κs. omega arith)
-    same-length
+    (λ c. c .before .before .exp-each .kept .0 ∙ c .before .before .before .before .before .loop .inv .1)
     returns)

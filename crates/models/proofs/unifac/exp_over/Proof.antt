@@ -22,9 +22,6 @@ loop-again c =
     let top = c .before .before in
     rewriting-more (omega arith) (ap (λ (v : Float). neg v ⊘ top .before .before .args .t) (rewriting-next (omega arith) (top .loop .inv))) (top .loop .inv)
 
-same-length : tie.Need-same-length Inv-loop μ-loop
-same-length c = c .before .before .exp-each .kept .0 ∙ c .before .before .before .before .before .loop .inv .long
-
 returns : tie.Need-returns Inv-loop μ-loop
 returns c =
     let each = c .before .before in
@@ -46,5 +43,5 @@ exp-over-spec =
     (λ c. omega arith)
     loop-again
     (λ c κs. omega arith)
-    same-length
+    (λ c. c .before .before .exp-each .kept .0 ∙ c .before .before .before .before .before .loop .inv .long)
     returns)

@@ -19,9 +19,6 @@ abbrev μ-loop : tie.MeasureT-loop
 loop-again : tie.Need-loop-again Inv-loop μ-loop
 loop-again c = filling-more (omega arith) (c .before .before .before .before .loop .inv) refl
 
-slice-aggregate-sum : tie.Need-slice-aggregate-sum Inv-loop μ-loop
-slice-aggregate-sum c = sym (length-take-le _ _ (omega arith))
-
 returns : tie.Need-returns Inv-loop μ-loop
 returns c = let done = c .before .before in terms-sum (done .before .loop .inv) (done .loop-test .left) (c .sum .ensures)
 
@@ -44,6 +41,6 @@ row-sum-spec =
     (λ c. omega arith)
     loop-again
     (λ c. omega arith)
-    slice-aggregate-sum
+    (λ c. sym (length-take-le _ _ (omega arith)))
     (λ c κs. tt)
     returns)

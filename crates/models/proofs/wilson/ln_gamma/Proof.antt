@@ -1,17 +1,16 @@
 -- The terms are the definition's off the diagonal, whose own is put right; the row sums are the definition's, as the caller
 -- shows.
-use mathlib.Core.Path.{refl, sym}
+use mathlib.Core.Path.{refl}
 use Prim.Native.Nat.{_-_}
 use native.Mathlib.Omega.{arith}
 use borrow.Author.Needs.{needs}
 use denote.Ref.{now}
 use lib.Ieee.{round, ofBits}
-use lib.Seq.{length-take-le}
 use Rattle.arithmetic.specs.Floats.{_⊗_, _⊘_, dec, one}
 use Rattle.arithmetic.specs.Tables.{at, grid}
 use Rattle.arithmetic.proofs.TableLaws.{Filling, filling-none, filling-more}
 use Rattle.models.proofs.WilsonLaws.{ln-folded}
-use Rattle.models.proofs.ColumnLaws.{terms-room}
+use Rattle.models.proofs.ColumnLaws.{terms-room, terms-taken}
 use Rattle.models.proofs.wilson.ln_gamma.Statement.{statement}
 use Rattle.models.proofs.wilson.ln_gamma.Tie as tie
 
@@ -23,15 +22,6 @@ abbrev μ-loop : tie.MeasureT-loop
 
 loop-again : tie.Need-loop-again Inv-loop μ-loop
 loop-again c = filling-more (omega arith) (c .before .before .before .before .loop .inv) (rw (c .before .lambda .ensures))
-
-array-write-terms-2 : tie.Need-array-write-terms-2 Inv-loop μ-loop
-array-write-terms-2 c = omega (arith, c .before .before .before .loop .inv, c .before .before .before .before .before .before .before .before .pre .4)
-
-array-share-prefix-terms : tie.Need-array-share-prefix-terms Inv-loop μ-loop
-array-share-prefix-terms c = terms-room (c .before .before .before .before .before .loop .inv) _ _
-
-slice-aggregate-sum : tie.Need-slice-aggregate-sum Inv-loop μ-loop
-slice-aggregate-sum c = sym (length-take-le _ _ (terms-room (c .before .before .before .before .before .before .loop .inv) _ _))
 
 returns : tie.Need-returns Inv-loop μ-loop
 unfolding one dec round ofBits
@@ -63,11 +53,11 @@ ln-gamma-spec =
     (λ c. omega arith)
     (λ c. omega arith)
     (λ c. omega arith)
-    array-write-terms-2
+    (λ c. omega (arith, c .before .before .before .loop .inv, c .before .before .before .before .before .before .before .before .pre .4))
     (λ c. omega arith)
     (λ c. omega arith)
     (λ c κs. tt)
-    array-share-prefix-terms
-    slice-aggregate-sum
+    (λ c. terms-room (c .before .before .before .before .before .loop .inv) _ _)
+    (λ c. terms-taken (c .before .before .before .before .before .before .loop .inv) _ _)
     (λ c κs. tt)
     returns)
