@@ -21,7 +21,7 @@ use Rattle.models.proofs.uniquac.excess_gibbs.Tie as tie
 
 abbrev Inv-loop : tie.InvT-loop
 Inv-loop n r q e x rx lx theta sums segments lnAreas lnSegments lnSums s₀ i₀ s i =
-    (i ≤ n) × (n ≤ length segments) × (n ≤ length lnAreas) × (n ≤ length lnSegments) × (n ≤ length lnSums) × (s ≡ sum i (λ k. at x k ⊗ lnGamma n (at r) (at q) (grid n e) (at x) k))
+    ((n ≤ length segments) × (n ≤ length lnAreas) × (n ≤ length lnSegments) × (n ≤ length lnSums)) × (i ≤ n) × (s ≡ sum i (λ k. at x k ⊗ lnGamma n (at r) (at q) (grid n e) (at x) k))
 
 abbrev μ-loop : tie.MeasureT-loop
 μ-loop n r q e x rx lx theta sums segments lnAreas lnSegments lnSums s₀ i₀ s i = n - i
@@ -50,12 +50,15 @@ log-each-requires c κs =
 loop-holds : tie.Need-loop-holds Inv-loop μ-loop
 loop-holds c =
     let made = c .before .before .before .before .before .before .before .before .before .before .before .before in
-    let le = start made .pre .7 in (
+    let le = start made .pre .7 in
+    let kept = made .fill-ratios .kept .1 .1 .1 .1 .1 in (
+      (
+        omega (arith, kept .0, le),
+        omega (arith, c .before .log-each .kept .0, kept .1 .0, le),
+        omega (arith, c .before .before .before .before .before .before .before .fill-logs .kept .1 .1 .0, le),
+        omega (arith, c .before .before .before .before .fill-logs2 .kept .1 .1 .0, le),
+      ),
       omega arith,
-      omega (arith, made .fill-ratios .kept .1 .1 .1 .1 .1 .0, le),
-      omega (arith, c .before .log-each .kept .0, made .fill-ratios .kept .1 .1 .1 .1 .1 .1 .0, le),
-      omega (arith, c .before .before .before .before .before .before .before .fill-logs .kept .1 .1 .0, le),
-      omega (arith, c .before .before .before .before .fill-logs2 .kept .1 .1 .0, le),
       sum-none _,
     )
 
@@ -82,12 +85,9 @@ loop-again c =
     let i = top .loop .i in
     let b = turn .loop-test .taken in
     let areas = each-filled logOf (a .n) _ (omega (arith, made .fill-ratios .kept .1 .1 .1 .1 .1 .1 .0, begun .pre .7)) (λ k b. refl) (made .fill-ratios .ensures .1) (top .before .before .log-each .ensures) in (
+      top .loop .inv .0,
       omega arith,
-      top .loop .inv .1,
-      top .loop .inv .2,
-      top .loop .inv .3,
-      top .loop .inv .4,
-      sum-more _ _ (top .loop .inv .5)
+      sum-more _ _ (top .loop .inv .2)
           (ap (λ (v : Float). at (now (a .x)) i ⊗ v)
           (lnGamma-hoisted (a .n) (at (now (a .r))) (at (now (a .q))) (now (a .e)) (at (now (a .x))) (a .rx) (a .lx) (now (a .theta)) (now (a .sums)) (begun .pre .6) i b (ends turn)
           (made .fill-ratios .ensures .0 .each i b) (top .before .before .before .before .before .before .before .before .fill-logs .ensures .each i b) (areas .each i b)
@@ -96,7 +96,7 @@ loop-again c =
 
 returns : tie.Need-returns Inv-loop μ-loop
 unfolding excess
-returns c = sum-done _ _ _ (c .before .loop .inv .5) (c .before .loop .inv .0) (c .loop-test .left)
+returns c = sum-done _ _ _ (c .before .loop .inv .2) (c .before .loop .inv .1) (c .loop-test .left)
 
 pub excess-gibbs-spec : {M : Type 1} → statement M
 excess-gibbs-spec =
