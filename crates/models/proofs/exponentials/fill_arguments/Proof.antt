@@ -1,4 +1,4 @@
--- The arguments of a row are written place by place.
+-- The arguments of a row are written place by place; at the end these are all.
 use mathlib.Core.Path.{_≡_, refl}
 use Prim.Native.Nat.{_-_}
 use native.Mathlib.Omega.{arith}

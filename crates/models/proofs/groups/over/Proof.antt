@@ -1,4 +1,4 @@
--- The first ng numbers over d, one after the other.
+-- The loop has filled the quotients passed; at its end these are all.
 use mathlib.Core.Path.{refl}
 use Prim.Native.Nat.{_-_}
 use native.Mathlib.Omega.{arith}

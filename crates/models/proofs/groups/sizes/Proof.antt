@@ -1,4 +1,4 @@
--- The size of each component, one after the other.
+-- The loop has filled the sizes of the components passed; at its end these are all.
 use mathlib.Core.Path.{refl}
 use Prim.Native.Nat.{_-_}
 use native.Mathlib.Omega.{arith}

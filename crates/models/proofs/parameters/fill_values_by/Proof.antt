@@ -1,4 +1,4 @@
--- Each turn writes one entry.
+-- Each turn writes the next entry at T; at the end these are all.
 use mathlib.Core.Path.{refl, _∙_}
 use Prim.Native.Nat.{_*_, _-_}
 use native.Mathlib.Omega.{arith}

@@ -1,4 +1,4 @@
--- The list of i is lent as a part of the groups.
+-- The list of i is lent as a part of the groups, so the groups named there are those that i lists.
 use Prim.Native.Nat.{_+_, _≤_}
 use native.Mathlib.Omega.{arith}
 use denote.Ref.{now}

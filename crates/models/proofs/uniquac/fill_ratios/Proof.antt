@@ -1,4 +1,4 @@
--- The loop has filled both ratios below i.
+-- The loop has filled both ratios below i; at its end these are all.
 use mathlib.Core.Path.{refl}
 use Prim.Native.Nat.{_-_}
 use native.Mathlib.Omega.{arith}

@@ -1,4 +1,4 @@
--- The loop has filled the sums of the rows above i.
+-- The loop has filled the sums of the rows above i; at its end these are all.
 use mathlib.Core.Path.{refl, _∙_}
 use Prim.Native.Nat.{_+_, _*_, _-_, _≤_}
 use native.Mathlib.Omega.{arith}
