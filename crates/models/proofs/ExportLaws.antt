@@ -1,6 +1,6 @@
 -- Fractions in bytes: their sum and their faults, over plain variables.
 use mathlib.Core.Path.{_≡_, refl, sym, ap, _∙_}
-use mathlib.Core.Bool.{Bool, true, false, _&&_, cond, true≢false}
+use mathlib.Core.Bool.{Bool, true, false, _&&_, cond, and-eq-true-iff}
 use mathlib.Core.List.{List}
 use Prim.Native.Nat.{ℕ, zero, suc, _*_, _/_, _%_, _<_, _≤_}
 use native.Mathlib.Nat.{zero-add, mul-le-mul}
@@ -149,16 +149,11 @@ and-off : (b c : Bool) → (b ≡ true → c ≡ false) → b && c ≡ false
 and-off true c h = h refl
 and-off false c h = refl
 
-and-left : (a b : Bool) → a && b ≡ true → a ≡ true
-and-left true b h = refl
-and-left false b h = absurd (true≢false (sym h))
-
-and-right : (a b : Bool) → a && b ≡ true → b ≡ true
-and-right true b h = h
-and-right false b h = absurd (true≢false (sym h))
+both : (a b : Bool) → a && b ≡ true → (a ≡ true) × (b ≡ true)
+both a b = and-eq-true-iff a b .0
 
 below : (a b k : ℕ) → between a b k ≡ true → k ≤ b
-below a b k h = leb-true k b (and-right (leb a k) (leb k b) h)
+below a b k h = leb-true k b (both (leb a k) (leb k b) h .1)
 
 shape-long : (n size : ℕ) (values : List Float) → 5328 < length values → (n ≤ 12 → size ≤ 5328) → 2 ≡ shapeFault n size values
 unfolding shapeFault
@@ -169,9 +164,9 @@ start-small : (lens : List ℕ) (n : ℕ) → allTo n (λ i. leb (getD lens i 0)
 unfolding start allTo
 start-small lens zero h = omega arith
 start-small lens (suc n) h =
-    let p = allTo n (λ i. leb (getD lens i 0) 12) in
-    let a = start-small lens n (and-left p (leb (getD lens n 0) 12) h) in
-    let b = leb-true (getD lens n 0) 12 (and-right p (leb (getD lens n 0) 12) h) in
+    let p = both (allTo n (λ i. leb (getD lens i 0) 12)) (leb (getD lens n 0) 12) h in
+    let a = start-small lens n (p .0) in
+    let b = leb-true (getD lens n 0) 12 (p .1) in
     omega arith
 
 lists-long : (n ng : ℕ) (lens groups : List ℕ) (values : List Float) → 5328 < length values → 2 ≡ listsFault n ng lens groups values
@@ -186,11 +181,11 @@ lists-long n ng lens groups values h =
         let G = between 1 32 ng in
         let L = eqb (length lens) n in
         let A = allTo n (λ i. leb (getD lens i 0) 12) in
-        let most = and-left (N && G && L && A) (eqb (length groups) (start lens n)) b in
-        let counts = and-left (N && G) L (and-left (N && G && L) A most) in
-        let few = below 1 12 n (and-left N G counts) in
-        let some = below 1 32 ng (and-right N G counts) in
-        let lists = start-small lens n (and-right (N && G && L) A most) in
+        let most = both (N && G && L) A (both (N && G && L && A) (eqb (length groups) (start lens n)) b .0) in
+        let counts = both N G (both (N && G) L (most .0) .0) in
+        let few = below 1 12 n (counts .0) in
+        let some = below 1 32 ng (counts .1) in
+        let lists = start-small lens n (most .1) in
         let square = mul-le-mul some some in
         omega arith
 

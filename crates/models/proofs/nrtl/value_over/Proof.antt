@@ -1,7 +1,5 @@
 -- The sums once, then the quantity asked for, by the laws that let them be worked out once.
 use borrow.Author.Needs.{needs}
-use denote.Ref.{now}
-use Rattle.arithmetic.specs.Tables.{at, grid}
 use Rattle.arithmetic.proofs.TableLaws.{filled-less}
 use Rattle.models.proofs.AnswerLaws.{index-ln, index-gamma}
 use Rattle.models.proofs.ListLaws.{zeros}
@@ -30,20 +28,17 @@ ln-gamma-requires-2 c κs =
 returns : tie.Need-returns
 returns c =
     let sums = c .before .before .before .before .before .before .before .before in
-    let a = entry sums .args in
-    nrtl-ln (a .n) (grid (a .n) (now (a .tau))) (grid (a .n) (now (a .g))) (at (now (a .x))) (sums .column-sums .ensures .0) (sums .column-sums .ensures .1) (c .before .before .before .before .q .given .1) (entry sums .pre .4) (c .ln-gamma .ensures)
+    nrtl-ln _ _ _ _ (sums .column-sums .ensures .0) (sums .column-sums .ensures .1) (c .before .before .before .before .q .given .1) (entry sums .pre .4) (c .ln-gamma .ensures)
 
 returns-2 : tie.Need-returns-2
 returns-2 c =
     let sums = c .before .before .before .before .before .before .before .before .before in
-    let a = entry sums .args in
-    nrtl-gamma (a .n) (grid (a .n) (now (a .tau))) (grid (a .n) (now (a .g))) (at (now (a .x))) (sums .column-sums .ensures .0) (sums .column-sums .ensures .1) (c .before .before .before .before .before .q2 .given .1) (entry sums .pre .4) (c .before .ln-gamma2 .ensures) (c .exp .ensures)
+    nrtl-gamma _ _ _ _ (sums .column-sums .ensures .0) (sums .column-sums .ensures .1) (c .before .before .before .before .before .q2 .given .1) (entry sums .pre .4) (c .before .ln-gamma2 .ensures) (c .exp .ensures)
 
 returns-3 : tie.Need-returns-3
 returns-3 c =
     let sums = c .before .before .before .before .before .before .before in
-    let a = entry sums .args in
-    nrtl-excess (a .n) (grid (a .n) (now (a .tau))) (grid (a .n) (now (a .g))) (at (now (a .x))) (sums .column-sums .ensures .0) (sums .column-sums .ensures .1) (c .before .before .before .enum-told .given .1) (c .excess-by .ensures)
+    nrtl-excess _ _ _ _ (sums .column-sums .ensures .0) (sums .column-sums .ensures .1) (c .before .before .before .enum-told .given .1) (c .excess-by .ensures)
 
 pub value-over-spec : {M : Type 1} → statement M
 value-over-spec =
