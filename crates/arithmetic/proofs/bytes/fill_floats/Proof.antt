@@ -25,9 +25,7 @@ loop-again c =
     (omega arith, simp length-set (l .inv .1), floats-more _ _ (l .a) (l .k) _ (omega arith) (l .inv .2) (c .float-at .ensures))
 
 returns : tie.Need-returns Inv-loop μ-loop
-returns c =
-    let l = c .before .loop in
-    floats-done _ _ _ (l .k) (l .a) (omega arith) (l .inv .2)
+returns c = let l = c .before .loop in floats-done _ _ _ (l .k) (l .a) (omega arith) (l .inv .2)
 
 pub fill-floats-spec : {M : Type 1} → statement M
 fill-floats-spec =

@@ -14,9 +14,7 @@ abbrev μ-loop : tie.MeasureT-loop
 μ-loop row w n sums₀ j₀ sums j = n - j
 
 loop-again : tie.Need-loop-again Inv-loop μ-loop
-loop-again c =
-    let inv = c .before .before .before .loop .inv in
-    rewriting-more (omega arith) (rw (rewriting-next (omega arith) inv)) inv
+loop-again c = let inv = c .before .before .before .loop .inv in rewriting-more (omega arith) (rw (rewriting-next (omega arith) inv)) inv
 
 pub add-row-spec : {M : Type 1} → statement M
 add-row-spec =

@@ -20,9 +20,7 @@ size-requires : tie.Need-size-requires Inv-loop μ-loop
 size-requires c κs = (listed-less (c .before .before .before .before .before .before .pre .0) (c .before .loop .i) _ (c .loop-test .taken) (omega arith), omega arith)
 
 loop-again : tie.Need-loop-again Inv-loop μ-loop
-loop-again c =
-    let at-loop = c .before .before in
-    filling-more (omega arith) (at-loop .loop .inv) (c .size .ensures)
+loop-again c = let at-loop = c .before .before in filling-more (omega arith) (at-loop .loop .inv) (c .size .ensures)
 
 pub sizes-spec : {M : Type 1} → statement M
 sizes-spec =

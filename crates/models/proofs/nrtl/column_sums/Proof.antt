@@ -33,9 +33,7 @@ ends c =
     (omega (arith, row, entry c .pre .0), omega (arith, row, entry c .pre .1))
 
 loop-holds : tie.Need-loop-holds Inv-loop μ-loop
-loop-holds c =
-    let pre = c .before .before .before .before .before .pre in
-    (columns-none (omega arith) refl (pre .5), columns-none (omega arith) refl (pre .6))
+loop-holds c = let pre = c .before .before .before .before .before .pre in (columns-none (omega arith) refl (pre .5), columns-none (omega arith) refl (pre .6))
 
 add-terms-requires : tie.Need-add-terms-requires Inv-loop μ-loop
 add-terms-requires c κs =

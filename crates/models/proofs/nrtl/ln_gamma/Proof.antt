@@ -4,7 +4,6 @@ use native.Mathlib.Omega.{arith}
 use borrow.Author.Needs.{needs}
 use denote.Ref.{now}
 use native.Mathlib.Nat.{mul-le-mul}
-use Rattle.arithmetic.specs.Tables.{at}
 use Rattle.arithmetic.proofs.TableLaws.{row-end, from-length}
 use Rattle.models.proofs.NrtlLaws.{second-rows}
 use Rattle.models.proofs.nrtl.ln_gamma.Statement.{statement}
@@ -25,7 +24,7 @@ second-requires c κs =
 returns : tie.Need-returns
 returns c =
     let start = c .before .before .before .before .before .before .before .before .before .before in
-    second-rows (start .args .n) (now (start .args .tau)) (now (start .args .g)) (at (now (start .args .u))) (at (now (start .args .d))) (at (now (start .args .x))) (start .args .i)
+    second-rows _ (now (start .args .tau)) (now (start .args .g)) _ _ _ _
     (omega (arith, ends start)) (omega (arith, ends start)) (c .second .ensures)
 
 pub ln-gamma-spec : {M : Type 1} → statement M

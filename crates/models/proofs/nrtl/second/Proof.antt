@@ -2,7 +2,6 @@
 use mathlib.Core.Path.{refl}
 use Prim.Native.Nat.{_-_}
 use native.Mathlib.Omega.{arith}
-use denote.Ref.{now}
 use lib.Ieee.{round, ofBits}
 use Rattle.arithmetic.specs.Floats.{_⊖_, _⊗_, _⊘_, dec, one}
 use Rattle.arithmetic.specs.Tables.{at}
@@ -26,8 +25,7 @@ unfolding one dec round ofBits
 returns c =
     let done = c .before .before .before .before .before .before in
     let start = done .before .before .before .before .before .before .before in
-    let a = start .args in
-    second-folded (at (now (a .x))) (at (now (a .g))) (at (now (a .d))) (at (now (a .u))) (at (now (a .tau))) (a .i) (start .pre .5) (done .loop-test .left) (done .before .loop .inv) refl (c .sum .ensures)
+    second-folded _ _ _ _ _ _ (start .pre .5) (done .loop-test .left) (done .before .loop .inv) refl (c .sum .ensures)
 
 pub second-spec : {M : Type 1} → statement M
 second-spec =

@@ -28,13 +28,12 @@ fill-exponentials-requires c κs =
     search needs
 
 value-over-requires : tie.Need-value-over-requires
-value-over-requires c κs =
-    let room = fits (c .before .before .before .before .before .before .before .before .before .before .before .before) in search needs
+value-over-requires c κs = let room = fits (c .before .before .before .before .before .before .before .before .before .before .before .before) in search needs
 
 returns : tie.Need-returns
 returns c =
     let start = c .before .before .before .before .before .before .before .before .before .before .before .before .before in
-    nrtl-from (start .args .n) (now (start .args .values)) _ _ _ _ _ (fits start .0) (start .pre .3) (c .before .before .before .before .before .before .before .before .before .fill-taus .ensures) (c .before .before .before .before .fill-exponentials .ensures) (c .value-over .ensures)
+    nrtl-from _ _ _ _ _ _ _ (fits start .0) (start .pre .3) (c .before .before .before .before .before .before .before .before .before .fill-taus .ensures) (c .before .before .before .before .fill-exponentials .ensures) (c .value-over .ensures)
 
 pub value-at-spec : {M : Type 1} → statement M
 value-at-spec =

@@ -11,9 +11,7 @@ abbrev entry : tie.After-column-sums → tie.Start
 entry c = c .before .before .before .before .before .before
 
 column-sums-requires : tie.Need-column-sums-requires
-column-sums-requires c κs =
-    let zero = filled-less (c .before .before .before .before .before .pre .0) (zeros 12) in
-    search needs
+column-sums-requires c κs = let zero = filled-less (c .before .before .before .before .before .pre .0) (zeros 12) in search needs
 
 ln-gamma-requires : tie.Need-ln-gamma-requires
 ln-gamma-requires c κs =

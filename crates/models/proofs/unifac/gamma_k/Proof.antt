@@ -2,7 +2,6 @@
 use mathlib.Core.Path.{_≡_, refl, _∙_}
 use Prim.Native.Nat.{_-_}
 use native.Mathlib.Omega.{arith}
-use denote.Ref.{now}
 use lib.ListN.{length}
 use borrow.Author.Needs.{needs}
 use Rattle.arithmetic.specs.Tables.{at, grid}
@@ -30,7 +29,7 @@ loop-again c =
     let log = turn .before .before .before .log-each .ensures .each _ (omega (arith, sums .column-sums .ok, start .pre .0, turn .loop-test .taken)) ∙ upto-below _ _ _ _ (turn .loop-test .taken) in (
       top .loop .inv .0,
       filling-more (turn .loop-test .taken) (top .loop .inv .1)
-          (group-hoisted (start .args .ng) (at (now (start .args .q))) (at (now (start .args .theta))) (grid (start .args .ng) (now (start .args .psi))) (top .loop .k)
+          (group-hoisted _ _ _ _ _
           (turn .loop-test .taken) (sums .column-sums .ensures) log (c .group-gamma .ensures)),
     )
 

@@ -36,13 +36,12 @@ group-gamma-requires c κs = let here = below (c .before .before .before .before
 loop-again : tie.Need-loop-again Inv-loop μ-loop
 loop-again c =
     let turn = c .before .before .before .before .before in
-    let top = turn .before in
-    let start = entry turn in (
+    let top = turn .before in (
       omega arith,
       top .loop .inv .1,
       simp length-set (top .loop .inv .2),
       named-more _ _ (top .loop .p) _ refl (omega (arith, below turn, top .loop .inv .2))
-          (group-hoisted (start .args .ng) (at (now (start .args .q))) (at (now (start .args .theta))) (grid (start .args .ng) (now (start .args .psi))) _
+          (group-hoisted _ _ _ _ _
           (below turn .0) (top .before .column-sums .ensures) (c .before .before .before .log .ensures) (c .group-gamma .ensures))
           (top .loop .inv .3),
     )

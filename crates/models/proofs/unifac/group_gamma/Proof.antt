@@ -16,9 +16,7 @@ use Rattle.models.proofs.unifac.group_gamma.Tie as tie
 
 -- row k ends within the table, and starts within 1,024 places
 ends : (c : tie.Start) → (c .args .k * c .args .ng + c .args .ng ≤ length (now (c .args .psi))) × (c .args .k * c .args .ng ≤ 1024)
-ends c =
-    let row = row-end _ (c .args .ng) _ (c .pre .1) in
-    (omega (arith, row, c .pre .3), omega (arith, row, mul-le-mul (c .pre .0) (c .pre .0)))
+ends c = let row = row-end _ (c .args .ng) _ (c .pre .1) in (omega (arith, row, c .pre .3), omega (arith, row, mul-le-mul (c .pre .0) (c .pre .0)))
 
 row-sum-requires : tie.Need-row-sum-requires
 row-sum-requires c κs =

@@ -17,9 +17,7 @@ abbrev μ-loop : tie.MeasureT-loop
 
 loop-again : tie.Need-loop-again Inv-loop μ-loop
 unfolding Unifac.theta
-loop-again c =
-    let top = c .before .before .before in
-    filling-more (omega arith) (top .loop .inv) (rw (top .before .dot .ensures))
+loop-again c = let top = c .before .before .before in filling-more (omega arith) (top .loop .inv) (rw (top .before .dot .ensures))
 
 pub theta-spec : {M : Type 1} → statement M
 theta-spec =

@@ -89,7 +89,7 @@ loop-again c =
       omega arith,
       sum-more _ _ (top .loop .inv .2)
           (ap (λ (v : Float). at (now (a .x)) i ⊗ v)
-          (lnGamma-hoisted (a .n) (at (now (a .r))) (at (now (a .q))) (now (a .e)) (at (now (a .x))) (a .rx) (a .lx) (now (a .theta)) (now (a .sums)) (begun .pre .6) i b (ends turn)
+          (lnGamma-hoisted _ _ _ (now (a .e)) _ _ _ _ _ (begun .pre .6) i b (ends turn)
           (made .fill-ratios .ensures .0 .each i b) (top .before .before .before .before .before .before .before .before .fill-logs .ensures .each i b) (areas .each i b)
           (top .before .before .before .before .before .fill-logs2 .ensures .each i b) (c .before .before .before .before .combinatorial .ensures) (c .residual .ensures))),
     )

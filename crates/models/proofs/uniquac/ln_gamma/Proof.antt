@@ -5,7 +5,6 @@ use native.Mathlib.Omega.{arith}
 use denote.Ref.{now}
 use lib.ListN.{length}
 use borrow.Author.Needs.{needs}
-use Rattle.arithmetic.specs.Tables.{at}
 use Rattle.arithmetic.proofs.TableLaws.{row-end, from-length}
 use Rattle.models.proofs.UniquacLaws.{lnGamma-hoisted}
 use Rattle.models.proofs.uniquac.ln_gamma.Statement.{statement}
@@ -29,7 +28,7 @@ returns c =
     let made = c .before .before .before .before .before in
     let start = entry made in
     let a = start .args in
-    lnGamma-hoisted (a .n) (at (now (a .r))) (at (now (a .q))) (now (a .e)) (at (now (a .x))) (a .rx) (a .lx) (now (a .theta)) (now (a .sums)) (start .pre .7) (a .i) (start .pre .6) (ends start) refl
+    lnGamma-hoisted _ _ _ (now (a .e)) _ _ _ _ _ (start .pre .7) _ (start .pre .6) (ends start) refl
     (made .before .before .before .before .before .log .ensures) (made .before .before .before .log2 .ensures) (c .before .log3 .ensures) (made .combinatorial .ensures) (c .residual .ensures)
 
 pub ln-gamma-spec : {M : Type 1} → statement M

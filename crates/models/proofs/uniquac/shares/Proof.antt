@@ -19,9 +19,7 @@ abbrev μ-loop : tie.MeasureT-loop
 
 loop-again : tie.Need-loop-again Inv-loop μ-loop
 unfolding share
-loop-again c =
-    let at-loop = c .before .before .before in
-    filling-more (omega arith) (at-loop .loop .inv) (rw (at-loop .before .dot .ensures))
+loop-again c = let at-loop = c .before .before .before in filling-more (omega arith) (at-loop .loop .inv) (rw (at-loop .before .dot .ensures))
 
 pub shares-spec : {M : Type 1} → statement M
 shares-spec =

@@ -29,7 +29,7 @@ returns c =
     let done = c .before .before .before .before .before .before in
     let start = done .before .before .before .before .before .before in
     let a = start .args in
-    ln-folded (a .n) (at (now (a .v))) (now (a .e)) (at (now (a .x))) (now (a .sums)) (start .pre .6) (a .i) (start .pre .4) (done .loop-test .left) (done .before .loop .inv) refl (c .before .before .log .ensures) (c .sum .ensures)
+    ln-folded _ _ (now (a .e)) _ _ (start .pre .6) _ (start .pre .4) (done .loop-test .left) (done .before .loop .inv) refl (c .before .before .log .ensures) (c .sum .ensures)
 
 pub ln-gamma-spec : {M : Type 1} → statement M
 ln-gamma-spec =

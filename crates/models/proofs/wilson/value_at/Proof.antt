@@ -29,7 +29,7 @@ value-over-requires c κs =
 returns : tie.Need-returns
 returns c =
     let start = c .before .before .before .before .before .before .before .before in
-    wilson-from (start .args .n) (now (start .args .values)) _ _ _ _ (fits start .0) (start .pre .3) (c .before .before .before .before .fill-energies .ensures) (c .value-over .ensures)
+    wilson-from _ _ _ _ _ _ (fits start .0) (start .pre .3) (c .before .before .before .before .fill-energies .ensures) (c .value-over .ensures)
 
 pub value-at-spec : {M : Type 1} → statement M
 value-at-spec =
