@@ -1,4 +1,4 @@
--- Column sums that grow row by row: none, one more row, all rows, and equal entries.
+-- Sums down columns that grow row by row, terms whose diagonal is put right before their fold, and equal entries.
 use mathlib.Core.Path.{_≡_, refl, sym, ap, _∙_}
 use mathlib.Core.List.{List}
 use mathlib.Core.Logic.{inl, inr}
@@ -7,9 +7,9 @@ use native.Mathlib.Nat.{le-antisymm, ne-of-lt, ne-of-gt}
 use native.Mathlib.Omega.{arith}
 use lib.Dec.{eqb}
 use borrow.Author.Tests.{eq-eqb, ne-eqb, eqb-false}
-use lib.ListN.{length, set, take, length-set}
+use lib.ListN.{length, set, take, replicate, length-set, getD-replicate}
 use lib.Seq.{getD-set-same, getD-set-other, getD-take, length-take-le}
-use lib.Ieee.{Float, nan}
+use lib.Ieee.{Float, nan, binary64, ofBits}
 use Rattle.arithmetic.specs.Floats.{_⊕_, _⊗_, +0, one}
 use Rattle.arithmetic.specs.Sums.{fold, sum, total}
 use Rattle.arithmetic.specs.Tables.{at, grid, from, Filled, upTo}
@@ -17,6 +17,11 @@ use Rattle.arithmetic.proofs.SumLaws.{sum-more, sum-same}
 use Rattle.arithmetic.proofs.TableLaws.{upto-below, from-at, by-place, Filling, filling-done}
 use Rattle.arithmetic.proofs.Differences.{either}
 use Rattle.models.specs.Columns.{unitAt, unitDiagonal, columnSum}
+
+-- an array of zeros
+pub zeros : (m : ℕ) → Filled (λ k. +0) m (replicate m (ofBits binary64 0))
+unfolding ofBits
+zeros m = record { each = λ k h. getD-replicate m k +0 nan h }
 
 -- a loop over the rows i that keeps the sums of the first n columns, of the terms F k j of row k and column j, in a list of m
 pub record Columns (F : ℕ → ℕ → Float) (n m i : ℕ) (s : List Float) : Type 0 where

@@ -1,4 +1,4 @@
--- Fractions in bytes: their sum and their faults, over plain variables.
+-- The exported calls, over plain variables: fractions in bytes, a model by its number, values in bytes, and more values than any model has.
 use mathlib.Core.Path.{_≡_, refl, sym, ap, _∙_}
 use mathlib.Core.Bool.{Bool, true, false, _&&_, cond, and-eq-true-iff}
 use mathlib.Core.List.{List}

@@ -9,15 +9,16 @@ use native.Mathlib.Nat.{eq-or-lt-of-le, le-of-suc-le-suc, le-antisymm}
 use native.Mathlib.Numerals.{add-one}
 use native.Mathlib.Omega.{arith}
 use lib.Dec.{leb, eqb}
-use lib.ListN.{length, getD, set, replicate, length-set, getD-replicate}
+use lib.ListN.{length, getD, set, replicate, length-set}
 use lib.Seq.{getD-set-same, getD-set-other, getD-take, getD-drop}
 use lib.Ieee.{Float, nan, binary64, ofBits, lt}
 use borrow.Author.Tests.{eqb-true, eqb-false}
-use Rattle.arithmetic.specs.Floats.{_⊕_, _⊖_, _⊗_, _⊘_, +0}
+use Rattle.arithmetic.specs.Floats.{_⊕_, _⊖_, _⊗_, _⊘_}
 use Rattle.arithmetic.specs.Sums.{fold, sum, total}
 use Rattle.arithmetic.specs.Tables.{at, from, part, Filled}
 use Rattle.arithmetic.proofs.SumLaws.{fold-more, sum-same}
 use Rattle.arithmetic.proofs.TableLaws.{part-length, part-at, from-length, by-place}
+use Rattle.models.proofs.ColumnLaws.{zeros}
 use Rattle.models.specs.Plain.{between, allTo, listsFault}
 use Rattle.models.specs.Unifac.{Groups, size, residual, counts, amount, amounts, fraction, pureCount, pureFraction}
 use Rattle.models.specs.Values.{start, countsAt, unifacSize, lists}
@@ -166,7 +167,7 @@ module _ (lens groups : List ℕ) (counts : List Float) (i : ℕ) {s : ℕ} (her
   unfolding lists
   put-is old all = rw here at all
 
--- a loop that adds the counts of the places from s to the list's end
+-- the sum of the part of the counts that is the list
 pub counts-is : (lens : List ℕ) (counts : List Float) (i : ℕ) {s : ℕ} {v : Float} → s ≡ start lens i → s + getD lens i 0 ≤ length counts →
     v ≡ total (part s (s + getD lens i 0) counts) → v ≡ sum (getD lens i 0) (λ p. at counts (start lens i + p))
 unfolding total
@@ -175,11 +176,6 @@ counts-is lens counts i {s} here ends e =
     e ∙ rw l (sum-same (getD lens i 0) _ _ (λ p h. part-at counts s (s + getD lens i 0) p (omega arith) ∙ rw here))
 
 -- ---- fractions
-
--- an array of zeros
-pub zeros : (m : ℕ) → Filled (λ k. +0) m (replicate m (ofBits binary64 0))
-unfolding ofBits
-zeros m = record { each = λ k h. getD-replicate m k +0 nan h }
 
 module _ (c : Groups) (x : ℕ → Float) where
   pub amount-none : Filled (amount 0 c x) 32 (replicate 32 (ofBits binary64 0))

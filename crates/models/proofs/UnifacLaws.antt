@@ -1,5 +1,4 @@
 -- UNIFAC: what an exponential reads, rows lent as parts, sums worked out once, and equal inputs give equal values.
---
 use mathlib.Core.Path.{_≡_, refl, ap, _∙_}
 use mathlib.Core.Bool.{cond}
 use mathlib.Core.List.{List}

@@ -53,7 +53,6 @@ module _ (n : ℕ) (v w : ℕ → Float) (E F : ℕ → ℕ → Float) (x y : �
 
 -- ---- what code works out
 
--- the part that starts at row i gives the row's entries
 lambda-on : (v : ℕ → Float) (E : ℕ → ℕ → Float) (i : ℕ) → lambda v E i i ≡ one
 unfolding lambda
 lambda-on v E i = rw (eq-eqb i i refl)
@@ -62,6 +61,7 @@ lambda-off : (v : ℕ → Float) (E : ℕ → ℕ → Float) (i k : ℕ) → (i 
 unfolding lambda
 lambda-off v E i k h = rw (ne-eqb i k h)
 
+-- the part that starts at row i gives the row's entries
 lambda-row : (n : ℕ) (v : ℕ → Float) (e : List Float) (i j : ℕ) → i * n + j < length e → lambda v (λ _. at (from (i * n) e)) i j ≡ lambda v (grid n e) i j
 unfolding lambda
 lambda-row n v e i j h = rw (from-at e (i * n) j h)

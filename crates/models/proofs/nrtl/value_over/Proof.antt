@@ -2,7 +2,7 @@
 use borrow.Author.Needs.{needs}
 use Rattle.arithmetic.proofs.TableLaws.{filled-less}
 use Rattle.models.proofs.AnswerLaws.{index-ln, index-gamma}
-use Rattle.models.proofs.ListLaws.{zeros}
+use Rattle.models.proofs.ColumnLaws.{zeros}
 use Rattle.models.proofs.NrtlLaws.{nrtl-ln, nrtl-gamma, nrtl-excess}
 use Rattle.models.proofs.nrtl.value_over.Statement.{statement}
 use Rattle.models.proofs.nrtl.value_over.Tie as tie

@@ -12,7 +12,7 @@ use Rattle.arithmetic.specs.Floats.{_⊗_}
 use Rattle.arithmetic.proofs.TableLaws.{row-end, from-at, from-length, filled-less}
 use Rattle.models.specs.Columns.{columnSum}
 use Rattle.models.proofs.ColumnLaws.{Columns, columns-none, columns-more, columns-done}
-use Rattle.models.proofs.ListLaws.{zeros}
+use Rattle.models.proofs.ColumnLaws.{zeros}
 use Rattle.models.proofs.unifac.column_sums.Statement.{statement}
 use Rattle.models.proofs.unifac.column_sums.Tie as tie
 

@@ -9,7 +9,7 @@ use Rattle.arithmetic.proofs.TableLaws.{filled-less}
 use Rattle.models.specs.Shared.{UniquacShared}
 use Rattle.models.specs.Uniquac.{uniquac}
 use Rattle.models.proofs.AnswerLaws.{index-ln, index-gamma, quantity-ln, quantity-gamma, quantity-excess}
-use Rattle.models.proofs.ListLaws.{zeros}
+use Rattle.models.proofs.ColumnLaws.{zeros}
 use Rattle.models.proofs.UniquacLaws.{shared}
 use Rattle.models.proofs.uniquac.value_over.Statement.{statement}
 use Rattle.models.proofs.uniquac.value_over.Tie as tie
