@@ -159,6 +159,9 @@ part-at l s e k h = rw (getD-take, getD-drop)
 pub from-length : {A : Type 0} (s : ℕ) (l : List A) → length (from s l) ≡ length l - s
 from-length s l = simp (length-take, length-drop) (omega arith)
 
+pub from-room : {A : Type 0} (s n : ℕ) (l : List A) → s + n ≤ length l → n ≤ length (from s l)
+from-room s n l h = omega (arith, from-length s l)
+
 pub from-at : (l : List Float) (s k : ℕ) → s + k < length l → at (from s l) k ≡ at l (s + k)
 from-at l s k h = part-at l s (length l) k (omega arith)
 

@@ -31,6 +31,9 @@ pub record Columns (F : ℕ → ℕ → Float) (n m i : ℕ) (s : List Float) : 
   pub sums : Filled (λ j. sum i (λ k. F k j)) n s
 
 module _ {F : ℕ → ℕ → Float} {n m : ℕ} where
+  pub columns-room : {i : ℕ} {s : List Float} → Columns F n m i s → n ≤ length s
+  columns-room all = omega (arith, all .room, all .long)
+
   -- zeros at first
   pub columns-none : {s : List Float} → n ≤ m → length s ≡ m → Filled (λ _. +0) n s → Columns F n m 0 s
   unfolding sum fold

@@ -5,12 +5,11 @@ use native.Mathlib.Omega.{arith}
 use lib.ListN.{length}
 use denote.Ref.{now}
 use lib.Ieee.{Float}
-use borrow.Author.Needs.{needs}
 use Rattle.arithmetic.specs.Floats.{_⊗_}
 use Rattle.arithmetic.specs.Tables.{at, grid}
-use Rattle.arithmetic.proofs.TableLaws.{row-end, from-length}
+use Rattle.arithmetic.proofs.TableLaws.{row-end, from-room}
 use Rattle.models.specs.Columns.{unitDiagonal, columnSum}
-use Rattle.models.proofs.ColumnLaws.{Columns, columns-none, columns-more, columns-done, unit-row}
+use Rattle.models.proofs.ColumnLaws.{Columns, columns-room, columns-none, columns-more, columns-done, unit-row}
 use Rattle.models.proofs.columns.unit_column_sums.Statement.{statement}
 use Rattle.models.proofs.columns.unit_column_sums.Tie as tie
 
@@ -30,9 +29,8 @@ ends c = omega (arith, row-end (entry c .args .n) (entry c .args .n) (c .before 
 add-unit-row-requires : tie.Need-add-unit-row-requires Inv-loop μ-loop
 add-unit-row-requires c κs =
     let turn = c .before .before .before in
-    let end = ends turn in
-    let row = from-length (turn .before .loop .i * entry turn .args .n) (now (entry turn .args .table)) in
-    search needs
+    let row = from-room (turn .before .loop .i * entry turn .args .n) _ (now (entry turn .args .table)) (ends turn) in
+    (columns-room (turn .before .loop .inv), row, turn .loop-test .taken)
 
 loop-again : tie.Need-loop-again Inv-loop μ-loop
 loop-again c =

@@ -1,17 +1,17 @@
 -- Each turn adds one row to every numerator and every denominator; at the end the rows are all.
 use mathlib.Core.Path.{refl}
 use Prim.Native.Nat.{_+_, _*_, _-_, _≤_}
+use native.Mathlib.Nat.{le-trans}
 use native.Mathlib.Omega.{arith}
 use lib.ListN.{length}
 use denote.Ref.{now}
-use borrow.Author.Needs.{needs}
 use Rattle.arithmetic.specs.Floats.{_⊗_}
 use Rattle.arithmetic.specs.Tables.{at, grid}
-use Rattle.arithmetic.proofs.TableLaws.{row-end, from-length}
+use Rattle.arithmetic.proofs.TableLaws.{row-end, from-room}
 use Rattle.models.specs.Columns.{unitDiagonal, columnSum}
 use Rattle.models.specs.Nrtl.{numerator}
 use Rattle.models.specs.Nrtl as Nrtl
-use Rattle.models.proofs.ColumnLaws.{Columns, columns-none, columns-more, columns-done, unit-row}
+use Rattle.models.proofs.ColumnLaws.{Columns, columns-room, columns-none, columns-more, columns-done, unit-row}
 use Rattle.models.proofs.NrtlLaws.{tau-row}
 use Rattle.models.proofs.nrtl.column_sums.Statement.{statement}
 use Rattle.models.proofs.nrtl.column_sums.Tie as tie
@@ -30,7 +30,7 @@ entry c = c .before .before .before .before .before .before .before
 ends : (c : tie.In-loop Inv-loop μ-loop) → (c .before .loop .i * entry c .args .n + entry c .args .n ≤ length (now (entry c .args .tau))) × (c .before .loop .i * entry c .args .n + entry c .args .n ≤ length (now (entry c .args .g)))
 ends c =
     let row = row-end (entry c .args .n) (entry c .args .n) (c .before .loop .i) (c .loop-test .taken) in
-    (omega (arith, row, entry c .pre .0), omega (arith, row, entry c .pre .1))
+    (le-trans row (entry c .pre .0), le-trans row (entry c .pre .1))
 
 loop-holds : tie.Need-loop-holds Inv-loop μ-loop
 loop-holds c = let pre = c .before .before .before .before .before .pre in (columns-none (omega arith) refl (pre .5), columns-none (omega arith) refl (pre .6))
@@ -39,17 +39,15 @@ add-terms-requires : tie.Need-add-terms-requires Inv-loop μ-loop
 add-terms-requires c κs =
     let turn = c .before .before .before .before in
     let a = entry turn .args in
-    let end = ends turn in
-    let g-row = from-length (turn .before .loop .i * a .n) (now (a .g)) in
-    let tau-row = from-length (turn .before .loop .i * a .n) (now (a .tau)) in
-    search needs
+    let g-row = from-room (turn .before .loop .i * a .n) _ (now (a .g)) (ends turn .1) in
+    let tau-row = from-room (turn .before .loop .i * a .n) _ (now (a .tau)) (ends turn .0) in
+    (columns-room (turn .before .loop .inv .0), g-row, tau-row, turn .loop-test .taken)
 
 add-unit-row-requires : tie.Need-add-unit-row-requires Inv-loop μ-loop
 add-unit-row-requires c κs =
     let turn = c .before .before .before .before .before .before .before .before .before .before in
-    let end = ends turn in
-    let row = from-length (turn .before .loop .i * entry turn .args .n) (now (entry turn .args .g)) in
-    search needs
+    let row = from-room (turn .before .loop .i * entry turn .args .n) _ (now (entry turn .args .g)) (ends turn .1) in
+    (columns-room (turn .before .loop .inv .1), row, turn .loop-test .taken)
 
 loop-again : tie.Need-loop-again Inv-loop μ-loop
 loop-again c =

@@ -3,8 +3,8 @@ use Prim.Native.Nat.{_+_, _*_, _≤_}
 use native.Mathlib.Omega.{arith}
 use borrow.Author.Needs.{needs}
 use denote.Ref.{now}
-use native.Mathlib.Nat.{mul-le-mul}
-use Rattle.arithmetic.proofs.TableLaws.{row-end, from-length}
+use native.Mathlib.Nat.{le-trans, mul-le-mul}
+use Rattle.arithmetic.proofs.TableLaws.{row-end, from-room}
 use Rattle.models.proofs.NrtlLaws.{second-rows}
 use Rattle.models.proofs.nrtl.ln_gamma.Statement.{statement}
 use Rattle.models.proofs.nrtl.ln_gamma.Tie as tie
@@ -16,10 +16,10 @@ ends c = (row-end _ (c .args .n) _ (c .pre .1), mul-le-mul (c .pre .0) (c .pre .
 second-requires : tie.Need-second-requires
 second-requires c κs =
     let start = c .before .before .before .before .before .before .before .before .before in
-    let end = ends start in
-    let tau-row = from-length (start .args .i * start .args .n) (now (start .args .tau)) in
-    let g-row = from-length (start .args .i * start .args .n) (now (start .args .g)) in
-    search needs
+    let pre = start .pre in
+    let tau-row = from-room (start .args .i * start .args .n) _ (now (start .args .tau)) (le-trans (ends start .0) (pre .2)) in
+    let g-row = from-room (start .args .i * start .args .n) _ (now (start .args .g)) (le-trans (ends start .0) (pre .3)) in
+    (tau-row, g-row, pre .4, pre .5, pre .6, pre .1, pre .0)
 
 returns : tie.Need-returns
 returns c =

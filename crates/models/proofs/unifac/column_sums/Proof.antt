@@ -9,9 +9,9 @@ use lib.ListN.{length}
 use borrow.Author.Needs.{needs}
 use Rattle.arithmetic.specs.Tables.{at, grid}
 use Rattle.arithmetic.specs.Floats.{_⊗_}
-use Rattle.arithmetic.proofs.TableLaws.{row-end, from-at, from-length, filled-less}
+use Rattle.arithmetic.proofs.TableLaws.{row-end, from-at, from-room, filled-less}
 use Rattle.models.specs.Columns.{columnSum}
-use Rattle.models.proofs.ColumnLaws.{Columns, columns-none, columns-more, columns-done}
+use Rattle.models.proofs.ColumnLaws.{Columns, columns-room, columns-none, columns-more, columns-done}
 use Rattle.models.proofs.ColumnLaws.{zeros}
 use Rattle.models.proofs.unifac.column_sums.Statement.{statement}
 use Rattle.models.proofs.unifac.column_sums.Tie as tie
@@ -34,9 +34,8 @@ ends c =
 add-row-requires : tie.Need-add-row-requires Inv-loop μ-loop
 add-row-requires c κs =
     let turn = c .before .before .before in
-    let end = ends turn in
-    let row = from-length (turn .before .loop .m * entry turn .args .ng) (now (entry turn .args .psi)) in
-    search needs
+    let row = from-room (turn .before .loop .m * entry turn .args .ng) _ (now (entry turn .args .psi)) (ends turn .0) in
+    (row, columns-room (turn .before .loop .inv))
 
 loop-again : tie.Need-loop-again Inv-loop μ-loop
 loop-again c =

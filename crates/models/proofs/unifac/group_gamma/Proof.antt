@@ -9,7 +9,7 @@ use lib.Ieee.{ofBits, round}
 use borrow.Author.Needs.{needs}
 use Rattle.arithmetic.specs.Floats.{one, dec}
 use Rattle.arithmetic.specs.Tables.{at}
-use Rattle.arithmetic.proofs.TableLaws.{row-end, from-length}
+use Rattle.arithmetic.proofs.TableLaws.{row-end, from-room}
 use Rattle.models.proofs.UnifacLaws.{row-lent}
 use Rattle.models.proofs.unifac.group_gamma.Statement.{statement}
 use Rattle.models.proofs.unifac.group_gamma.Tie as tie
@@ -21,9 +21,8 @@ ends c = let row = row-end _ (c .args .ng) _ (c .pre .1) in (omega (arith, row, 
 row-sum-requires : tie.Need-row-sum-requires
 row-sum-requires c κs =
     let start = c .before .before .before .before in
-    let end = ends start in
-    let row = from-length (start .args .k * start .args .ng) (now (start .args .psi)) in
-    search needs
+    let row = from-room (start .args .k * start .args .ng) _ (now (start .args .psi)) (ends start .0) in
+    (start .pre .2, row, start .pre .4, start .pre .0)
 
 returns : tie.Need-returns
 unfolding one dec round ofBits

@@ -12,7 +12,7 @@ use Rattle.arithmetic.specs.Logarithm.{logOf}
 use Rattle.arithmetic.specs.Sums.{sum}
 use Rattle.arithmetic.specs.Tables.{at, grid}
 use Rattle.arithmetic.proofs.SumLaws.{sum-none, sum-more, sum-done}
-use Rattle.arithmetic.proofs.TableLaws.{row-end, from-length}
+use Rattle.arithmetic.proofs.TableLaws.{row-end, from-room}
 use Rattle.models.specs.Uniquac.{lnGamma, excess}
 use Rattle.models.proofs.ExponentialLaws.{each-filled}
 use Rattle.models.proofs.UniquacLaws.{lnGamma-hoisted}
@@ -72,8 +72,8 @@ residual-requires : tie.Need-residual-requires Inv-loop μ-loop
 residual-requires c κs =
     let turn = c .before .before .before .before .before .before in
     let begun = start (ratios (turn .before)) in
-    let row = from-length (turn .before .loop .i * begun .args .n) (now (begun .args .e)) in
-    (omega (arith, row, ends turn), begun .pre .4, begun .pre .5, turn .loop-test .taken, begun .pre .7)
+    let row = from-room (turn .before .loop .i * begun .args .n) _ (now (begun .args .e)) (ends turn) in
+    (row, begun .pre .4, begun .pre .5, turn .loop-test .taken, begun .pre .7)
 
 loop-again : tie.Need-loop-again Inv-loop μ-loop
 loop-again c =

@@ -5,7 +5,7 @@ use native.Mathlib.Omega.{arith}
 use denote.Ref.{now}
 use lib.ListN.{length}
 use borrow.Author.Needs.{needs}
-use Rattle.arithmetic.proofs.TableLaws.{row-end, from-length}
+use Rattle.arithmetic.proofs.TableLaws.{row-end, from-room}
 use Rattle.models.proofs.UniquacLaws.{lnGamma-hoisted}
 use Rattle.models.proofs.uniquac.ln_gamma.Statement.{statement}
 use Rattle.models.proofs.uniquac.ln_gamma.Tie as tie
@@ -20,8 +20,8 @@ ends c = omega (arith, row-end (c .args .n) (c .args .n) (c .args .i) (c .pre .6
 residual-requires : tie.Need-residual-requires
 residual-requires c κs =
     let start = entry (c .before .before .before .before) in
-    let row = from-length (start .args .i * start .args .n) (now (start .args .e)) in
-    (omega (arith, row, ends start), start .pre .4, start .pre .5, start .pre .6, start .pre .8)
+    let row = from-room (start .args .i * start .args .n) _ (now (start .args .e)) (ends start) in
+    (row, start .pre .4, start .pre .5, start .pre .6, start .pre .8)
 
 returns : tie.Need-returns
 returns c =

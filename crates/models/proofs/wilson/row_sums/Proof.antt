@@ -2,11 +2,10 @@
 use mathlib.Core.Path.{refl, _∙_}
 use Prim.Native.Nat.{_+_, _*_, _-_, _≤_}
 use native.Mathlib.Omega.{arith}
-use borrow.Author.Needs.{needs}
 use denote.Ref.{now}
 use lib.ListN.{length}
 use Rattle.arithmetic.specs.Tables.{at, grid}
-use Rattle.arithmetic.proofs.TableLaws.{row-end, from-length, Filling, filling-none, filling-more, filling-done}
+use Rattle.arithmetic.proofs.TableLaws.{row-end, from-room, Filling, filling-none, filling-more, filling-done}
 use Rattle.models.specs.Wilson.{rowSum}
 use Rattle.models.proofs.WilsonLaws.{rowSum-row}
 use Rattle.models.proofs.wilson.row_sums.Statement.{statement}
@@ -28,9 +27,8 @@ row-sum-requires : tie.Need-row-sum-requires Inv-loop μ-loop
 row-sum-requires c κs =
     let turn = c .before in
     let start = turn .before .before .before .before .before .before in
-    let end = ends turn in
-    let row = from-length (turn .before .loop .i * start .args .n) (now (start .args .e)) in
-    search needs
+    let row = from-room (turn .before .loop .i * start .args .n) _ (now (start .args .e)) (ends turn) in
+    (start .pre .1, row, start .pre .3, turn .loop-test .taken, start .pre .0)
 
 loop-again : tie.Need-loop-again Inv-loop μ-loop
 loop-again c =
