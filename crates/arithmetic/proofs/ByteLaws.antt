@@ -1,6 +1,6 @@
 -- Which bit patterns are NaN, and floats decoded one after the other.
-use mathlib.Core.Path.{_≡_, refl, sym, ap, _∙_, subst}
-use mathlib.Core.Bool.{Bool, true, false, not}
+use mathlib.Core.Path.{_≡_, refl, sym, ap, _∙_}
+use mathlib.Core.Bool.{true, false, not, true≢false}
 use mathlib.Core.List.{List, [], _∷_, _++_}
 use mathlib.Core.Logic.{inl, inr}
 use Prim.Native.Nat.{ℕ, zero, suc, _+_, _*_, _%_, _<_, _≤_}
@@ -14,13 +14,14 @@ use lib.Ieee.Bits.{nanBits-is, nanBits-above}
 use borrow.Author.Tests.{lt-ltb, le-ltb}
 use Rattle.arithmetic.specs.Bytes.{wordAt, floatAt, floatsAt}
 use Rattle.arithmetic.specs.Tables.{at}
+use Rattle.arithmetic.proofs.Tests.{failed}
 use Rattle.arithmetic.proofs.Differences.{le-or}
 
 is-nan : (v : Float) → isNan v ≡ true → v ≡ nan
 unfolding isNan
 is-nan nan e = refl
-is-nan (inf s) e = let f : _≡_ {A = ℕ} 0 1 = cc in absurd (omega arith)
-is-nan (fin s m x) e = let f : _≡_ {A = ℕ} 0 1 = cc in absurd (omega arith)
+is-nan (inf s) e = absurd (true≢false (sym e))
+is-nan (fin s m x) e = absurd (true≢false (sym e))
 
 -- a float that equals itself
 pub no-nan : (v : Float) → ne v v ≡ false → isNan v ≡ false
@@ -30,14 +31,14 @@ no-nan (inf s) e = refl
 no-nan (fin s m x) e = refl
 
 pub has-bits : (v : Float) → ne v v ≡ false → T (not (isNan v))
-has-bits v e = subst (λ (b : Bool). T (not b)) (sym (no-nan v e)) tt
+has-bits v e = failed (no-nan v e)
 
 -- 9218868437227405312 is the pattern of infinity, and 9223372036854775808 that of the sign
 pub pattern-nan : (b : ℕ) → 9218868437227405312 < b % 9223372036854775808 → ofBits binary64 b ≡ nan
 pattern-nan b h = is-nan (ofBits binary64 b) (sym (nanBits-is binary64 b) ∙ (nanBits-above binary64 b ∙ lt-ltb 9218868437227405312 (b % 9223372036854775808) h))
 
 pub pattern-no-nan : (b : ℕ) → b % 9223372036854775808 ≤ 9218868437227405312 → T (not (nanBits binary64 b))
-pattern-no-nan b h = subst (λ (t : Bool). T (not t)) (sym (nanBits-above binary64 b ∙ le-ltb 9218868437227405312 (b % 9223372036854775808) h)) tt
+pattern-no-nan b h = failed (nanBits-above binary64 b ∙ le-ltb 9218868437227405312 (b % 9223372036854775808) h)
 
 pub float-is : (s : List ℕ) (p low high : ℕ) (r : Float) → low ≡ wordAt s p → high ≡ wordAt s (p + 4) → r ≡ ofBits binary64 (low + 4294967296 * high) → r ≡ floatAt s p
 unfolding floatAt

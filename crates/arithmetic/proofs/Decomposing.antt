@@ -1,5 +1,4 @@
 -- A positive f64 as 53 digits and a place, read from its bits: what the code works out from them is the last line of `logOf`.
---
 use mathlib.Core.Path.{_≡_, refl, sym, ap, _∙_, subst}
 use mathlib.Core.Logic.{inl, inr}
 use mathlib.Core.Bool.{Bool, true, false, cond, _&&_, true≢false}
@@ -15,7 +14,7 @@ use lib.Ieee.Digits.{size-lt, size-reaches, size-le, minus-val}
 use lib.Ieee.Fits.{and-l, and-r, down-pos, up-pos}
 use borrow.Author.Tests.{lt-ltb, le-ltb, ltb-true, ltb-false}
 use Rattle.arithmetic.specs.Logarithm.{logBy, significand, binade, places, M}
-use Rattle.arithmetic.proofs.LogBranches.{rest}
+use Rattle.arithmetic.proofs.LogBranches.{rest, Positive}
 use Rattle.arithmetic.specs.Digits.{fromDigits}
 use Rattle.arithmetic.proofs.Differences.{either, le-or, minus-add, minus-suc, minus-neg}
 use Rattle.arithmetic.proofs.Powers.{minus-ge, minus-lt}
@@ -50,35 +49,42 @@ odd-is m t k l o p h =
     ap (λ (x : ℕ). odd 53 false x k l) (sym e) ∙ odd-suc q k l t m (ap (trailingZeros 53) e ∙ trailing 53 m t o h) e
 
 -- ---- how many digits
-pub size-unique : (n j : ℕ) → 2 ^ j ≤ n → n < 2 ^ suc j → size n ≡ suc j
+size-unique : (n j : ℕ) → 2 ^ j ≤ n → n < 2 ^ suc j → size n ≡ suc j
 size-unique n j h k =
     elim (le-or (size n) j) [
       | inl g ↦ absurd (not-le-of-lt (lt-of-lt-of-le (size-lt n) (pow-mono g)) h)
       | inr g ↦ let a = size-le n (suc j) k in omega arith
     ]
 
--- ---- a number m · 2 ^ (E - 1074), m odd and of z + 1 digits
-module _ (m z E : ℕ) (o : m % 2 ≡ 1) (lo : 2 ^ z ≤ m) (hi : m < 2 ^ suc z) (Z : z ≤ 52) where
-  abbrev pub Q : ℕ
+-- m is odd and has z + 1 digits, 53 at most
+pub record Digits (m z : ℕ) : Type 0 where
+  pub odd-m : m % 2 ≡ 1
+  pub least : 2 ^ z ≤ m
+  pub most : m < 2 ^ suc z
+  pub few : z ≤ 52
+
+-- ---- a number m · 2 ^ (E - 1074)
+module _ {m z : ℕ} (D : Digits m z) (E : ℕ) where
+  abbrev Q : ℕ
   Q = m * 2 ^ (52 - z)
 
   sum-52 : z + (52 - z) ≡ 52
   sum-52 = omega arith
 
-  pub Q-low : 2 ^ 52 ≤ Q
-  Q-low = le-trans (le-of-eq (ap (λ (x : ℕ). 2 ^ x) (sym sum-52) ∙ pow-add 2 z (52 - z))) (mul-le-mul-right (2 ^ (52 - z)) lo)
+  Q-low : 2 ^ 52 ≤ Q
+  Q-low = le-trans (le-of-eq (ap (λ (x : ℕ). 2 ^ x) (sym sum-52) ∙ pow-add 2 z (52 - z))) (mul-le-mul-right (2 ^ (52 - z)) (D .least))
 
   sum-53 : suc z + (52 - z) ≡ 53
   sum-53 = omega arith
 
-  pub Q-high : Q < 2 ^ 53
-  Q-high = subst (λ (x : ℕ). Q < 2 ^ x) sum-53 (shl-lt (suc z) (52 - z) hi)
+  Q-high : Q < 2 ^ 53
+  Q-high = subst (λ (x : ℕ). Q < 2 ^ x) sum-53 (shl-lt (suc z) (52 - z) (D .most))
 
   shifted-low : 2 ^ (z + E) ≤ m * 2 ^ E
-  shifted-low = le-trans (le-of-eq (pow-add 2 z E)) (mul-le-mul-right (2 ^ E) lo)
+  shifted-low = le-trans (le-of-eq (pow-add 2 z E)) (mul-le-mul-right (2 ^ E) (D .least))
 
   shifted-high : m * 2 ^ E < 2 ^ suc (z + E)
-  shifted-high = let e : suc z + E ≡ suc (z + E) = omega arith in subst (λ (x : ℕ). m * 2 ^ E < 2 ^ x) e (shl-lt (suc z) E hi)
+  shifted-high = let e : suc z + E ≡ suc (z + E) = omega arith in subst (λ (x : ℕ). m * 2 ^ E < 2 ^ x) e (shl-lt (suc z) E (D .most))
 
   shifted-size : size (m * 2 ^ E) ≡ suc (z + E)
   shifted-size = size-unique (m * 2 ^ E) (z + E) shifted-low shifted-high
@@ -106,10 +112,10 @@ module _ (m z E : ℕ) (o : m % 2 ≡ 1) (lo : 2 ^ z ≤ m) (hi : m < 2 ^ suc z)
     bits-normal : toBits binary64 v ≡ k * 4503599627370496 + Q
     bits-normal = bits-is ∙ ap (λ (x : ℕ). k * 4503599627370496 + x) (ap (λ (x : ℕ). x / 2 ^ k) split ∙ mul-div-cancel Q (pow-pos k))
 
-    pub normal-digits : toBits binary64 v % 4503599627370496 + 4503599627370496 ≡ Q
+    normal-digits : toBits binary64 v % 4503599627370496 + 4503599627370496 ≡ Q
     normal-digits = let a = Q-low in let b = Q-high in rw bits-normal (omega arith)
 
-    pub normal-place : toBits binary64 v / 4503599627370496 + 52 ≡ suc (z + E)
+    normal-place : toBits binary64 v / 4503599627370496 + 52 ≡ suc (z + E)
     normal-place = let a = Q-low in let b = Q-high in rw bits-normal (omega arith)
 
   module _ (g : suc (z + E) < 53) where
@@ -122,7 +128,7 @@ module _ (m z E : ℕ) (o : m % 2 ≡ 1) (lo : 2 ^ z ≤ m) (hi : m < 2 ^ suc z)
     twice-le : 2 ^ suc (z + E) ≤ 2 * (m * 2 ^ E) + 1
     twice-le = let a = shifted-low in rw (pow-succ' 2 (z + E)) (omega arith)
 
-    pub zeros-is : leadingZeros 64 (toBits binary64 v) ≡ 63 - (z + E)
+    zeros-is : leadingZeros 64 (toBits binary64 v) ≡ 63 - (z + E)
     zeros-is =
         ap (leadingZeros 64) bits-small
         ∙ sym (leading-unique 64 (m * 2 ^ E) (63 - (z + E)) (suc (z + E)) (omega arith) shifted-high twice-le)
@@ -132,7 +138,7 @@ module _ (m z E : ℕ) (o : m % 2 ≡ 1) (lo : 2 ^ z ≤ m) (hi : m < 2 ^ suc z)
         let e : E + (63 - (z + E) - 11) ≡ 52 - z = omega arith in
         mul-assoc m (2 ^ E) (2 ^ (63 - (z + E) - 11)) ∙ ap (λ (x : ℕ). m * x) (sym (pow-add 2 E (63 - (z + E) - 11)) ∙ ap (λ (x : ℕ). 2 ^ x) e)
 
-    pub small-digits : toBits binary64 v * 2 ^ (leadingZeros 64 (toBits binary64 v) - 11) % 18446744073709551616 ≡ Q
+    small-digits : toBits binary64 v * 2 ^ (leadingZeros 64 (toBits binary64 v) - 11) % 18446744073709551616 ≡ Q
     small-digits = let b = Q-high in rw (zeros-is, bits-small, small-shift) (omega arith)
 
   -- ---- the specification's m and k
@@ -140,7 +146,7 @@ module _ (m z E : ℕ) (o : m % 2 ≡ 1) (lo : 2 ^ z ≤ m) (hi : m < 2 ^ suc z)
   Q-pos = let a = Q-low in omega arith
 
   size-m : size m ≡ suc z
-  size-m = size-unique m z lo hi
+  size-m = size-unique m z (D .least) (D .most)
 
   -- M's digits
   scale : m * 1 * 1048576 * 2 ^ 33 ≡ Q * 2 ^ suc z
@@ -174,19 +180,19 @@ module _ (m z E : ℕ) (o : m % 2 ≡ 1) (lo : 2 ^ z ≤ m) (hi : m < 2 ^ suc z)
   unfolding significand binade
   at-places d e = rw e
 
-  pub digits-right : fromDigits Q (suc (z + E)) ≡ rest v
+  digits-right : fromDigits Q (suc (z + E)) ≡ rest v
   unfolding fromDigits
   digits-right =
       elim (either (ltb Q 6369049952911360)) [
         | inl h ↦
             let d : 1022 + (52 - z) + z ≡ 1074 = omega arith in
             let x : E + z ≡ z + E = omega arith in
-            rw (h, odd-is m (52 - z) 1022 1074 o Q-pos (omega arith), minus-neg (1022 + (52 - z)) z 1074 d, minus-suc (z + E) 1074)
+            rw (h, odd-is m (52 - z) 1022 1074 (D .odd-m) Q-pos (omega arith), minus-neg (1022 + (52 - z)) z 1074 d, minus-suc (z + E) 1074)
             (sym (at-places z (places-is ∙ rw h) ∙ ap (logBy (fin false m (negℤ (pos z)))) (minus-add E z 1074 ∙ ap (λ (y : ℕ). minus y 1074) x)))
         | inr h ↦
             let d : 1021 + (52 - z) + suc z ≡ 1074 = omega arith in
             let x : E + suc z ≡ suc (z + E) = omega arith in
-            rw (h, odd-is m (52 - z) 1021 1074 o Q-pos (omega arith), minus-neg (1021 + (52 - z)) (suc z) 1074 d)
+            rw (h, odd-is m (52 - z) 1021 1074 (D .odd-m) Q-pos (omega arith), minus-neg (1021 + (52 - z)) (suc z) 1074 d)
             (sym (at-places (suc z) (places-is ∙ rw h) ∙ ap (logBy (fin false m (negℤ (pos (suc z))))) (minus-add E (suc z) 1074 ∙ ap (λ (y : ℕ). minus y 1074) x)))
       ]
 
@@ -196,48 +202,48 @@ pub record Parts (v : Float) : Type 0 where
   pub z : ℕ
   pub E : ℕ
   pub is : v ≡ fin false m (minus E 1074)
-  pub o : m % 2 ≡ 1
-  pub lo : 2 ^ z ≤ m
-  pub hi : m < 2 ^ suc z
-  pub Z : z ≤ 52
+  pub digits : Digits m z
   pub near : suc (z + E) < 4096
 
-module _ (v : Float) (m z E : ℕ) (is : v ≡ fin false m (minus E 1074)) (o : m % 2 ≡ 1) (lo : 2 ^ z ≤ m) (hi : m < 2 ^ suc z) (Z : z ≤ 52) where
-  is-small : toBits binary64 v / 4503599627370496 ≡ 0 → suc (z + E) < 53
+module _ {v : Float} (p : Parts v) where
+  pub q-range : (2 ^ 52 ≤ p .m * 2 ^ (52 - p .z)) × (p .m * 2 ^ (52 - p .z) < 2 ^ 53)
+  q-range = (Q-low (p .digits) (p .E), Q-high (p .digits) (p .E))
+
+  is-small : toBits binary64 v / 4503599627370496 ≡ 0 → suc (p .z + p .E) < 53
   is-small h =
-      elim (le-or 53 (suc (z + E))) [
-        | inl g ↦ let a = normal-place m z E o lo hi Z g in let b = rw is at h in omega arith
+      elim (le-or 53 (suc (p .z + p .E))) [
+        | inl g ↦ let a = normal-place (p .digits) (p .E) g in let b = rw (p .is) at h in omega arith
         | inr g ↦ g
       ]
 
-  is-normal : (toBits binary64 v / 4503599627370496 ≡ 0 → ⊥) → 53 ≤ suc (z + E)
+  is-normal : (toBits binary64 v / 4503599627370496 ≡ 0 → ⊥) → 53 ≤ suc (p .z + p .E)
   is-normal h =
-      elim (le-or 53 (suc (z + E))) [
+      elim (le-or 53 (suc (p .z + p .E))) [
         | inl g ↦ g
         | inr g ↦
-            let a : m * 2 ^ E < 2 ^ 52 = lt-of-lt-of-le (shifted-high m z E o lo hi Z) (pow-mono {i = suc (z + E)} {j = 52} (omega arith)) in
-            absurd (h (rw (is, bits-small m z E o lo hi Z g) (omega arith)))
+            let a : p .m * 2 ^ p .E < 2 ^ 52 = lt-of-lt-of-le (shifted-high (p .digits) (p .E)) (pow-mono {i = suc (p .z + p .E)} {j = 52} (omega arith)) in
+            absurd (h (rw (p .is, bits-small (p .digits) (p .E) g) (omega arith)))
       ]
 
   module _ (h : toBits binary64 v / 4503599627370496 ≡ 0) where
-    pub small-zeros : (leadingZeros 64 (toBits binary64 v) ≡ 63 - (z + E)) × (z + E < 52)
-    small-zeros = let g = is-small h in (rw is (zeros-is m z E o lo hi Z g), omega arith)
+    pub small-zeros : (leadingZeros 64 (toBits binary64 v) ≡ 63 - (p .z + p .E)) × (p .z + p .E < 52)
+    small-zeros = let g = is-small h in (rw (p .is) (zeros-is (p .digits) (p .E) g), omega arith)
 
-    pub small-q : toBits binary64 v * 2 ^ (leadingZeros 64 (toBits binary64 v) - 11) % 18446744073709551616 ≡ m * 2 ^ (52 - z)
-    small-q = rw is (small-digits m z E o lo hi Z (is-small h))
+    pub small-q : toBits binary64 v * 2 ^ (leadingZeros 64 (toBits binary64 v) - 11) % 18446744073709551616 ≡ p .m * 2 ^ (52 - p .z)
+    small-q = rw (p .is) (small-digits (p .digits) (p .E) (is-small h))
 
-    pub small-x : 64 - leadingZeros 64 (toBits binary64 v) ≡ suc (z + E)
+    pub small-x : 64 - leadingZeros 64 (toBits binary64 v) ≡ suc (p .z + p .E)
     small-x = let a = small-zeros .0 in let b = small-zeros .1 in omega arith
 
   module _ (h : toBits binary64 v / 4503599627370496 ≡ 0 → ⊥) where
-    pub normal-q : toBits binary64 v % 4503599627370496 + 4503599627370496 ≡ m * 2 ^ (52 - z)
-    normal-q = rw is (normal-digits m z E o lo hi Z (is-normal h))
+    pub normal-q : toBits binary64 v % 4503599627370496 + 4503599627370496 ≡ p .m * 2 ^ (52 - p .z)
+    normal-q = rw (p .is) (normal-digits (p .digits) (p .E) (is-normal h))
 
-    pub normal-x : toBits binary64 v / 4503599627370496 + 52 ≡ suc (z + E)
-    normal-x = rw is (normal-place m z E o lo hi Z (is-normal h))
+    pub normal-x : toBits binary64 v / 4503599627370496 + 52 ≡ suc (p .z + p .E)
+    normal-x = rw (p .is) (normal-place (p .digits) (p .E) (is-normal h))
 
-  pub rest-is : (q x : ℕ) → q ≡ m * 2 ^ (52 - z) → x ≡ suc (z + E) → fromDigits q x ≡ rest v
-  rest-is q x p r = rw (p, r, is) (digits-right m z E o lo hi Z)
+  pub rest-is : (q x : ℕ) → q ≡ p .m * 2 ^ (52 - p .z) → x ≡ suc (p .z + p .E) → fromDigits q x ≡ rest v
+  rest-is q x e r = rw (e, r, p .is) (digits-right (p .digits) (p .E))
 
 -- ---- every positive f64 is one
 place-of : (e : ℤ) → down e ≤ 2 ^ 1074 → (E : ℕ) × (e ≡ minus E 1074)
@@ -276,7 +282,7 @@ at-place n E t =
         let b : m * 2 ^ E < 2 ^ 2098 = lt-of-mul-lt-mul-right (down e) a in
         let c : 2 ^ (z + E) < 2 ^ 2098 = lt-of-le-of-lt (le-trans (le-of-eq (pow-add 2 z E)) (mul-le-mul-right (2 ^ E) lo)) b in
         let d : z + E < 2098 = elim (le-or 2098 (z + E)) [ inl g ↦ absurd (not-le-of-lt c (pow-mono g)) | inr g ↦ g ] in
-        record { m = m; z = z; E = E; is = refl; o = o; lo = lo; hi = hi; Z = omega arith; near = omega arith }
+        record { m = m; z = z; E = E; is = refl; digits = record { odd-m = o; least = lo; most = hi; few = omega arith }; near = omega arith }
 
 down-le : (n : ℕ) (e : ℤ) → T (fits binary64 (fin false (suc n) e)) → down e ≤ 2 ^ 1074
 unfolding fits
@@ -296,15 +302,15 @@ zero-eq : (s : Bool) (a b : ℕ) → a ≡ 0 → b ≡ 0 → level s a false b �
 zero-eq true a b p q = rw (p, q)
 zero-eq false a b p q = rw (p, q)
 
-pub parts-of : (v : Float) → isNan v ≡ false → lt v (fin false 0 (pos 0)) ≡ false → eq v (fin false 0 (pos 0)) ≡ false → eq v (inf false) ≡ false → T (fits binary64 v) → Parts v
+pub parts-of : (v : Float) → Positive v → T (fits binary64 v) → Parts v
 unfolding isNan lt eq
-parts-of nan a b c d t = absurd (true≢false a)
-parts-of (inf true) a b c d t = absurd (true≢false b)
-parts-of (inf false) a b c d t = absurd (true≢false d)
-parts-of (fin s zero e) a b c d t =
-    absurd (true≢false (sym (zero-eq s (0 * up e * 1) (0 * 1 * down e) (omega arith) (omega arith)) ∙ c))
-parts-of (fin true (suc n) e) a b c d t =
+parts-of nan h t = absurd (true≢false (h .0))
+parts-of (inf true) h t = absurd (true≢false (h .1))
+parts-of (inf false) h t = absurd (true≢false (h .3))
+parts-of (fin s zero e) h t =
+    absurd (true≢false (sym (zero-eq s (0 * up e * 1) (0 * 1 * down e) (omega arith) (omega arith)) ∙ h .2))
+parts-of (fin true (suc n) e) h t =
     let u = up-pos e in
     let p : 0 < suc n * up e = mul-pos (zero-lt-suc n) u in
-    absurd (true≢false (sym (lt-ltb 0 (suc n * up e * 1 + 0 * 1 * down e) (omega arith)) ∙ b))
-parts-of (fin false (suc n) e) a b c d t = of-positive n e t
+    absurd (true≢false (sym (lt-ltb 0 (suc n * up e * 1 + 0 * 1 * down e) (omega arith)) ∙ h .1))
+parts-of (fin false (suc n) e) h t = of-positive n e t

@@ -1,16 +1,16 @@
 -- Which line of `expOf` holds, by the tests that led there.
-use mathlib.Core.Path.{_≡_, refl, sym, subst}
+use mathlib.Core.Path.{_≡_, refl}
 use mathlib.Core.Bool.{true, false, _&&_}
-use lib.Dec.{T}
 use lib.IntN.{pos, negsuc}
 use lib.Ieee.{Float, nan, inf, fin, lt, le, ne, isNan}
 use lib.Ieee.Compare.{differs-from-itself}
 use Rattle.arithmetic.specs.Floats.{_⊕_, one}
+use Rattle.arithmetic.proofs.Tests.{passed}
 use Rattle.arithmetic.proofs.AbsLaws.{abs-le}
 use Rattle.arithmetic.specs.Exponential.{expOf, highest, lowest, scaled, reduced, exponent}
 
 pub a-nan : (v : Float) → ne v v ≡ true → v ≡ nan
-a-nan v e = differs-from-itself v (subst T (sym e) tt)
+a-nan v e = differs-from-itself v (passed e)
 
 pub exp-nan : nan ≡ expOf nan
 unfolding expOf isNan

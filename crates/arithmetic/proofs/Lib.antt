@@ -1,3 +1,4 @@
+pub mod Tests
 pub mod SumLaws
 pub mod TableLaws
 pub mod AbsLaws

@@ -2,13 +2,13 @@
 use mathlib.Core.Path.{_≡_, refl, sym, ap, _∙_}
 use mathlib.Core.List.{List, _++_}
 use Prim.Native.Nat.{ℕ, _+_, _*_, _/_, _%_, _-_, _<_, _≤_}
-use native.Mathlib.Nat.{suc-mul, mul-le-mul-right, mul-add-div-right, mul-add-mod-self-right, div-eq-of-lt, mod-eq-of-lt, add-zero, add-mul, one-mul, ne-of-lt, ne-of-gt, eq-or-lt-of-le}
+use native.Mathlib.Nat.{suc-mul, mul-le-mul-right, mul-add-div-right, mul-add-mod-self-right, div-eq-of-lt, mod-eq-of-lt, add-zero, add-mul, one-mul, ne-of-lt, ne-of-gt, eq-or-lt-of-le, le-antisymm}
 use native.Mathlib.Omega.{arith}
 use mathlib.Core.Bool.{Bool, true, false}
 use mathlib.Core.Logic.{_⊎_, inl, inr, ⊎-elim}
 use borrow.Author.Tests.{lt-ltb, le-ltb, ltb-true, ltb-false}
 use lib.Dec.{ltb}
-use lib.ListN.{length, set, take, length-take, length-drop, List·getD-append}
+use lib.ListN.{length, set, take, length-set, length-take, length-drop, List·getD-append}
 use lib.Seq.{getD-set-same, getD-set-other, getD-take, getD-drop, getD-append-add, length-take-le}
 use lib.Ieee.{Float, nan}
 use borrow.Author.Count.{below-more}
@@ -53,6 +53,27 @@ filled-more {F} {g} {p} {q} {v} le lt all here =
 
 pub filled-less : {F : ℕ → Float} {g : List Float} {p q : ℕ} → q ≤ p → Filled F p g → Filled F q g
 filled-less le all = record { each = λ k h. all .each k (omega arith) }
+
+-- a loop over k that fills the first n of m places
+pub record Filling (F : ℕ → Float) (n m k : ℕ) (g : List Float) : Type 0 where
+  pub within : k ≤ n
+  pub room : n ≤ m
+  pub long : length g ≡ m
+  pub filled : Filled F k g
+
+pub filling-none : {F : ℕ → Float} {n m : ℕ} {g : List Float} → n ≤ m → length g ≡ m → Filling F n m 0 g
+filling-none h l = record { within = omega arith; room = h; long = l; filled = filled-none (omega arith) }
+
+pub filling-more : {F : ℕ → Float} {n m k : ℕ} {g : List Float} {v : Float} → k < n → Filling F n m k g → v ≡ F k → Filling F n m (k + 1) (set g k v)
+filling-more h f e = record {
+  within = omega arith;
+  room = f .room;
+  long = simp length-set (f .long);
+  filled = filled-more (omega arith) (omega arith) (f .filled) e;
+}
+
+pub filling-done : {F : ℕ → Float} {n m k : ℕ} {g : List Float} → n ≤ k → Filling F n m k g → Filled F n g
+filling-done h f = filled-less h (f .filled)
 
 -- equal entries
 pub filled-as : {F G : ℕ → Float} {g : List Float} {p : ℕ} → ((k : ℕ) → k < p → F k ≡ G k) → Filled F p g → Filled G p g
@@ -99,6 +120,34 @@ upto-more new old j p {l} {v} b w all = record {
 pub upto-next : (new old : ℕ → Float) (j p : ℕ) {l : List Float} → j < p → Filled (upTo j new old) p l → at l j ≡ old j
 upto-next new old j p h all = all .each j h ∙ upto-above j new old j (omega arith)
 
+-- a loop over k that rewrites the first n places of l
+pub record Rewriting (new : ℕ → Float) (n : ℕ) (l : List Float) (k : ℕ) (g : List Float) : Type 0 where
+  pub within : k ≤ n
+  pub room : n ≤ length l
+  pub long : length g ≡ length l
+  pub filled : Filled (upTo k new (at l)) (length l) g
+
+module _ {new : ℕ → Float} {n : ℕ} {l : List Float} where
+  pub rewriting-none : n ≤ length l → Rewriting new n l 0 l
+  rewriting-none h = record { within = omega arith; room = h; long = refl; filled = upto-none new l (length l) }
+
+  pub rewriting-next : {k : ℕ} {g : List Float} → k < n → Rewriting new n l k g → at g k ≡ at l k
+  rewriting-next {k} h f = upto-next new (at l) k (length l) (omega (arith, f .room)) (f .filled)
+
+  pub rewriting-more : {k : ℕ} {g : List Float} {v : Float} → k < n → v ≡ new k → Rewriting new n l k g → Rewriting new n l (k + 1) (set g k v)
+  rewriting-more {k} h e f = record {
+    within = omega arith;
+    room = f .room;
+    long = simp length-set (f .long);
+    filled = upto-more new (at l) k (length l) (omega arith) e (f .filled);
+  }
+
+  pub rewriting-done : {k : ℕ} {g : List Float} → n ≤ k → Rewriting new n l k g → Filled (upTo n new (at l)) (length l) g
+  rewriting-done h f = rw (← le-antisymm (f .within) h) (f .filled)
+
+  pub rewriting-filled : {k : ℕ} {g : List Float} → n ≤ k → Rewriting new n l k g → Filled new n g
+  rewriting-filled h f = record { each = λ j b. rewriting-done h f .each j (omega (arith, f .room)) ∙ upto-below n new (at l) j b }
+
 -- ---- parts
 
 pub part-length : {A : Type 0} (s e : ℕ) (l : List A) → e ≤ length l → length (part s e l) ≡ e - s
@@ -109,6 +158,9 @@ part-at l s e k h = rw (getD-take, getD-drop)
 
 pub from-length : {A : Type 0} (s : ℕ) (l : List A) → length (from s l) ≡ length l - s
 from-length s l = simp (length-take, length-drop) (omega arith)
+
+pub from-room : {A : Type 0} (s n : ℕ) (l : List A) → s + n ≤ length l → n ≤ length (from s l)
+from-room s n l h = omega (arith, from-length s l)
 
 pub from-at : (l : List Float) (s k : ℕ) → s + k < length l → at (from s l) k ≡ at l (s + k)
 from-at l s k h = part-at l s (length l) k (omega arith)

@@ -22,33 +22,37 @@ Z-Z : Z ⊕ Z ≡ Z
 unfolding add
 Z-Z = refl
 
-G1-is : G1 ≡ fin false 6004799503160723 (negsuc 52)
-unfolding G1 dec round
-G1-is = refl
+-- a coefficient's number, which 0 absorbs as a product and leaves as a sum
+abbrev Coefficient : Float → Float → Type 0
+Coefficient G n = (G ≡ n) × (Z ⊗ n ≡ Z) × (n ⊕ Z ≡ n)
 
-G2-is : G2 ≡ fin false 1801439850921601 (negsuc 51)
-unfolding G2 dec round
-G2-is = refl
+G1-is : Coefficient G1 (fin false 6004799503160723 (negsuc 52))
+unfolding G1 dec round mul add
+G1-is = (refl, refl, refl)
 
-G3-is : G3 ≡ fin false 5146971033736025 (negsuc 53)
-unfolding G3 dec round
-G3-is = refl
+G2-is : Coefficient G2 (fin false 1801439850921601 (negsuc 51))
+unfolding G2 dec round mul add
+G2-is = (refl, refl, refl)
 
-G4-is : G4 ≡ fin false 8006390766270639 (negsuc 54)
-unfolding G4 dec round
-G4-is = refl
+G3-is : Coefficient G3 (fin false 5146971033736025 (negsuc 53))
+unfolding G3 dec round mul add
+G3-is = (refl, refl, refl)
 
-G5-is : G5 ≡ fin false 3275661152453103 (negsuc 53)
-unfolding G5 dec round
-G5-is = refl
+G4-is : Coefficient G4 (fin false 8006390766270639 (negsuc 54))
+unfolding G4 dec round mul add
+G4-is = (refl, refl, refl)
 
-G6-is : G6 ≡ fin false 5517391500461727 (negsuc 54)
-unfolding G6 dec round
-G6-is = refl
+G5-is : Coefficient G5 (fin false 3275661152453103 (negsuc 53))
+unfolding G5 dec round mul add
+G5-is = (refl, refl, refl)
 
-G7-is : G7 ≡ fin false 1332903234475153 (negsuc 52)
-unfolding G7 dec round
-G7-is = refl
+G6-is : Coefficient G6 (fin false 5517391500461727 (negsuc 54))
+unfolding G6 dec round mul add
+G6-is = (refl, refl, refl)
+
+G7-is : Coefficient G7 (fin false 1332903234475153 (negsuc 52))
+unfolding G7 dec round mul add
+G7-is = (refl, refl, refl)
 
 L1-is : L1 ≡ fin false 2977044471 (negsuc 31)
 unfolding L1 dec round
@@ -57,54 +61,6 @@ L1-is = refl
 L2-is : L2 ≡ fin false 3691024475790907 (negsuc 83)
 unfolding L2 dec round
 L2-is = refl
-
-times-G1 : Z ⊗ fin false 6004799503160723 (negsuc 52) ≡ Z
-unfolding mul
-times-G1 = refl
-
-plus-G1 : fin false 6004799503160723 (negsuc 52) ⊕ Z ≡ fin false 6004799503160723 (negsuc 52)
-unfolding add
-plus-G1 = refl
-
-times-G2 : Z ⊗ fin false 1801439850921601 (negsuc 51) ≡ Z
-unfolding mul
-times-G2 = refl
-
-plus-G2 : fin false 1801439850921601 (negsuc 51) ⊕ Z ≡ fin false 1801439850921601 (negsuc 51)
-unfolding add
-plus-G2 = refl
-
-times-G3 : Z ⊗ fin false 5146971033736025 (negsuc 53) ≡ Z
-unfolding mul
-times-G3 = refl
-
-plus-G3 : fin false 5146971033736025 (negsuc 53) ⊕ Z ≡ fin false 5146971033736025 (negsuc 53)
-unfolding add
-plus-G3 = refl
-
-times-G4 : Z ⊗ fin false 8006390766270639 (negsuc 54) ≡ Z
-unfolding mul
-times-G4 = refl
-
-plus-G4 : fin false 8006390766270639 (negsuc 54) ⊕ Z ≡ fin false 8006390766270639 (negsuc 54)
-unfolding add
-plus-G4 = refl
-
-times-G5 : Z ⊗ fin false 3275661152453103 (negsuc 53) ≡ Z
-unfolding mul
-times-G5 = refl
-
-plus-G5 : fin false 3275661152453103 (negsuc 53) ⊕ Z ≡ fin false 3275661152453103 (negsuc 53)
-unfolding add
-plus-G5 = refl
-
-times-G6 : Z ⊗ fin false 5517391500461727 (negsuc 54) ≡ Z
-unfolding mul
-times-G6 = refl
-
-times-G7 : Z ⊗ fin false 1332903234475153 (negsuc 52) ≡ Z
-unfolding mul
-times-G7 = refl
 
 half-Z : fin false 1 (negsuc 0) ⊗ Z ≡ Z
 unfolding mul
@@ -144,7 +100,7 @@ L2+Z = refl
 
 remainder-Z : remainder Z ≡ Z
 unfolding remainder
-remainder-Z = simp (G1-is, G2-is, G3-is, G4-is, G5-is, G6-is, G7-is, ZZ, times-G1, times-G2, times-G3, times-G4, times-G5, times-G6, times-G7, plus-G1, plus-G2, plus-G3, plus-G4, plus-G5, Z-Z)
+remainder-Z = simp (ZZ, Z-Z, G1-is .0, G1-is .1, G1-is .2, G2-is .0, G2-is .1, G2-is .2, G3-is .0, G3-is .1, G3-is .2, G4-is .0, G4-is .1, G4-is .2, G5-is .0, G5-is .1, G5-is .2, G6-is .0, G6-is .1, G6-is .2, G7-is .0, G7-is .1, G7-is .2)
 
 n-one : ofInt binary64 (pos 1) ≡ fin false 1 (pos 0)
 unfolding ofInt

@@ -1,4 +1,4 @@
--- Column sums that grow row by row: none, one more row, all rows, and equal entries.
+-- Sums down columns that grow row by row, terms whose diagonal is put right before their fold, and equal entries.
 use mathlib.Core.Path.{_≡_, refl, sym, ap, _∙_}
 use mathlib.Core.List.{List}
 use mathlib.Core.Logic.{inl, inr}
@@ -7,37 +7,58 @@ use native.Mathlib.Nat.{le-antisymm, ne-of-lt, ne-of-gt}
 use native.Mathlib.Omega.{arith}
 use lib.Dec.{eqb}
 use borrow.Author.Tests.{eq-eqb, ne-eqb, eqb-false}
-use lib.ListN.{length, set, take, length-set}
+use lib.ListN.{length, set, take, replicate, length-set, getD-replicate}
 use lib.Seq.{getD-set-same, getD-set-other, getD-take, length-take-le}
-use lib.Ieee.{Float, nan}
+use lib.Ieee.{Float, nan, binary64, ofBits}
 use Rattle.arithmetic.specs.Floats.{_⊕_, _⊗_, +0, one}
 use Rattle.arithmetic.specs.Sums.{fold, sum, total}
 use Rattle.arithmetic.specs.Tables.{at, grid, from, Filled, upTo}
 use Rattle.arithmetic.proofs.SumLaws.{sum-more, sum-same}
-use Rattle.arithmetic.proofs.TableLaws.{upto-below, from-at, by-place, filled-less}
+use Rattle.arithmetic.proofs.TableLaws.{upto-below, from-at, by-place, Filling, filling-done}
 use Rattle.arithmetic.proofs.Differences.{either}
 use Rattle.models.specs.Columns.{unitAt, unitDiagonal, columnSum}
 
--- terms F k j of row k and column j
-module _ (F : ℕ → ℕ → Float) where
-  -- zeros at first
-  pub columns-none : (n : ℕ) {s : List Float} → Filled (λ _. +0) n s → Filled (λ j. sum 0 (λ k. F k j)) n s
-  unfolding sum fold
-  columns-none n all = record { each = all .each }
+-- an array of zeros
+pub zeros : (m : ℕ) → Filled (λ k. +0) m (replicate m (ofBits binary64 0))
+unfolding ofBits
+zeros m = record { each = λ k h. getD-replicate m k +0 nan h }
 
-  pub columns-more : (i n : ℕ) (new : ℕ → Float) {s s′ : List Float} → n ≤ length s → ((j : ℕ) → j < n → new j ≡ F i j) →
-      Filled (λ j. sum i (λ k. F k j)) n s → Filled (upTo n (λ j. at s j ⊕ new j) (at s)) (length s) s′ → Filled (λ j. sum (i + 1) (λ k. F k j)) n s′
-  columns-more i n new {s} {s′} h e before after = record {
-    each = λ j b. after .each j (omega arith) ∙ upto-below n (λ j. at s j ⊕ new j) (at s) j b ∙ sum-more (λ k. F k j) i (before .each j b) (e j b);
+-- a loop over the rows i that keeps the sums of the first n columns, of the terms F k j of row k and column j, in a list of m
+pub record Columns (F : ℕ → ℕ → Float) (n m i : ℕ) (s : List Float) : Type 0 where
+  pub within : i ≤ n
+  pub room : n ≤ m
+  pub long : length s ≡ m
+  pub sums : Filled (λ j. sum i (λ k. F k j)) n s
+
+module _ {F : ℕ → ℕ → Float} {n m : ℕ} where
+  pub columns-room : {i : ℕ} {s : List Float} → Columns F n m i s → n ≤ length s
+  columns-room all = omega (arith, all .room, all .long)
+
+  -- zeros at first
+  pub columns-none : {s : List Float} → n ≤ m → length s ≡ m → Filled (λ _. +0) n s → Columns F n m 0 s
+  unfolding sum fold
+  columns-none h l zeros = record { within = omega arith; room = h; long = l; sums = record { each = zeros .each } }
+
+  pub columns-more : (new : ℕ → Float) {i : ℕ} {s s′ : List Float} → i < n → ((j : ℕ) → j < n → new j ≡ F i j) → Columns F n m i s →
+      Filled (upTo n (λ j. at s j ⊕ new j) (at s)) (length s) s′ → length s′ ≡ length s → Columns F n m (i + 1) s′
+  columns-more new {i} {s} h e before after same = record {
+    within = omega arith;
+    room = before .room;
+    long = same ∙ before .long;
+    sums = record {
+      each = λ j b.
+          after .each j (omega (arith, before .room, before .long)) ∙ upto-below n (λ j. at s j ⊕ new j) (at s) j b
+          ∙ sum-more (λ k. F k j) i (before .sums .each j b) (e j b);
+    };
   }
 
-  pub columns-done : (i n : ℕ) {s : List Float} → i ≤ n → n ≤ i → Filled (λ j. sum i (λ k. F k j)) n s → Filled (λ j. sum n (λ k. F k j)) n s
-  columns-done i n a b all = rw (le-antisymm a b) at all
+  pub columns-done : {i : ℕ} {s : List Float} → n ≤ i → Columns F n m i s → Filled (λ j. sum n (λ k. F k j)) n s
+  columns-done h all = rw (le-antisymm (all .within) h) at (all .sums)
 
 -- ---- terms kept side by side, that of the diagonal put right, then folded
 
 -- a store at i, where F and G may differ
-pub filled-put : {F G : ℕ → Float} {g : List Float} (n i : ℕ) {v : Float} → i < length g → ((k : ℕ) → k < n → (i ≡ k → ⊥) → F k ≡ G k) → v ≡ G i → Filled F n g → Filled G n (set g i v)
+filled-put : {F G : ℕ → Float} {g : List Float} (n i : ℕ) {v : Float} → i < length g → ((k : ℕ) → k < n → (i ≡ k → ⊥) → F k ≡ G k) → v ≡ G i → Filled F n g → Filled G n (set g i v)
 filled-put {F} {G} {g} n i {v} h e w all = record {
   each = λ k b.
       by-place k i
@@ -46,17 +67,28 @@ filled-put {F} {G} {g} n i {v} h e w all = record {
       (λ d. getD-set-other g i k v nan (ne-of-gt d) ∙ all .each k b ∙ e k b (λ q. absurd (omega arith)));
 }
 
--- the sum of an array's first n places, once a loop has filled them
-pub terms-sum : (n p : ℕ) (F : ℕ → Float) (g : List Float) {r : Float} → n ≤ length g → n ≤ p → Filled F p g → r ≡ total (take n g) → r ≡ sum n F
+-- the sum of an array's first n places
+total-sum : (n : ℕ) (F : ℕ → Float) (g : List Float) {r : Float} → n ≤ length g → Filled F n g → r ≡ total (take n g) → r ≡ sum n F
 unfolding total
-terms-sum n p F g h le all e =
-    e ∙ (ap (λ (m : ℕ). sum m (at (take n g))) (length-take-le n g h) ∙ sum-same n _ _ (λ k b. getD-take n g k nan b ∙ all .each k (omega arith)))
+total-sum n F g h all e =
+    e ∙ (ap (λ (m : ℕ). sum m (at (take n g))) (length-take-le n g h) ∙ sum-same n _ _ (λ k b. getD-take n g k nan b ∙ all .each k b))
 
--- the same with place i put right, where alone F and G may differ
-pub terms-put : (n p i : ℕ) (F G : ℕ → Float) (g : List Float) {v r : Float} → i < n → n ≤ length g → n ≤ p → ((k : ℕ) → k < n → (i ≡ k → ⊥) → F k ≡ G k) → v ≡ G i →
-    Filled F p g → r ≡ total (take n (set g i v)) → r ≡ sum n G
-terms-put n p i F G g {v} b h le off own all e =
-    terms-sum n n G (set g i v) (simp length-set h) (omega arith) (filled-put n i (omega arith) off own (filled-less le all)) e
+module _ {F : ℕ → Float} {n m p : ℕ} {g : List Float} (terms : Filling F n m p g) where
+  -- a loop that has filled an array's first n places leaves room for them, a store at i too
+  pub terms-room : (i : ℕ) (v : Float) → n ≤ length (set g i v)
+  terms-room i v = simp length-set (omega (arith, terms .room, terms .long))
+
+  pub terms-taken : (i : ℕ) (v : Float) → n ≡ length (take n (set g i v))
+  terms-taken i v = sym (length-take-le n (set g i v) (terms-room i v))
+
+  module _ (done : n ≤ p) where
+    pub terms-sum : {r : Float} → r ≡ total (take n g) → r ≡ sum n F
+    terms-sum e = total-sum n F g (omega (arith, terms .room, terms .long)) (filling-done done terms) e
+
+    -- the same with place i put right, where alone F and G may differ
+    pub terms-put : (i : ℕ) (G : ℕ → Float) {v r : Float} → i < n → ((k : ℕ) → k < n → (i ≡ k → ⊥) → F k ≡ G k) → v ≡ G i → r ≡ total (take n (set g i v)) → r ≡ sum n G
+    terms-put i G {v} b off own e =
+        total-sum n G (set g i v) (terms-room i v) (filled-put n i (omega (arith, terms .room, terms .long)) off own (filling-done done terms)) e
 
 pub unit-on : (i : ℕ) (row : ℕ → Float) → unitAt i row i ≡ one
 unfolding unitAt

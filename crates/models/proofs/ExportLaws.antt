@@ -1,6 +1,6 @@
--- Fractions in bytes: their sum and their faults, over plain variables.
+-- The exported calls, over plain variables: fractions in bytes, a model by its number, values in bytes, and more values than any model has.
 use mathlib.Core.Path.{_≡_, refl, sym, ap, _∙_}
-use mathlib.Core.Bool.{Bool, true, false, _&&_, cond, true≢false}
+use mathlib.Core.Bool.{Bool, true, false, _&&_, cond, and-eq-true-iff}
 use mathlib.Core.List.{List}
 use Prim.Native.Nat.{ℕ, zero, suc, _*_, _/_, _%_, _<_, _≤_}
 use native.Mathlib.Nat.{zero-add, mul-le-mul}
@@ -33,7 +33,7 @@ pub length-eights : (s : List ℕ) → length (floats s) ≡ length s / 8
 unfolding floats
 length-eights s = length-floats s 0 (length s / 8)
 
-pub eights-at : (s : List ℕ) (k : ℕ) → k < length s / 8 → at (floats s) k ≡ floatAt s (8 * k)
+eights-at : (s : List ℕ) (k : ℕ) → k < length s / 8 → at (floats s) k ≡ floatAt s (8 * k)
 unfolding floats
 eights-at s k h = floats-at s 0 (length s / 8) k h ∙ rw (zero-add (8 * k))
 
@@ -77,48 +77,48 @@ module _ (n : ℕ) (x : List ℕ) (q : Quantity) (R : ℕ) where
 
 module _ (m n ng : ℕ) (lens groups : List ℕ) (values : List Float) where
   module _ (e : m ≡ 1) where
-    pub load-wilson : {k : ℕ} → k ≡ shapeFault n (wilsonSize n) values → k ≡ loadFault m n ng lens groups values
+    pub load-wilson : {k : ℕ} → (k ≡ shapeFault n (wilsonSize n) values) × (k ≡ 0 → (n ≤ 12) × (wilsonSize n ≤ length values)) → (k ≡ loadFault m n ng lens groups values) × (k ≡ 0 → Ready m n ng lens groups values)
     unfolding loadFault
-    load-wilson p = rw (eq-eqb m 1 e) p
-
-    pub ready-wilson : n ≤ 12 → wilsonSize n ≤ length values → Ready m n ng lens groups values
-    ready-wilson h s = record { few = h; wilson = λ _. s; uniquac = λ d. absurd (omega arith); nrtl = λ d. absurd (omega arith); unifac = λ a b c. absurd (a e) }
+    load-wilson p = (
+      rw (eq-eqb m 1 e) (p .0),
+      λ z. record { few = p .1 z .0; wilson = λ _. p .1 z .1; uniquac = λ d. absurd (omega arith); nrtl = λ d. absurd (omega arith); unifac = λ a b c. absurd (a e) },
+    )
 
     pub value-wilson : (T : Float) (x : ℕ → Float) (q : Quantity) {v : Float} → v ≡ wilsonAt n (volumes n values) (energies n values) T x q → v ≡ valueAt m n ng lens groups values T x q
     unfolding valueAt
     value-wilson T x q p = rw (eq-eqb m 1 e) p
 
   module _ (e : m ≡ 2) where
-    pub load-uniquac : {k : ℕ} → k ≡ shapeFault n (uniquacSize n) values → k ≡ loadFault m n ng lens groups values
+    pub load-uniquac : {k : ℕ} → (k ≡ shapeFault n (uniquacSize n) values) × (k ≡ 0 → (n ≤ 12) × (uniquacSize n ≤ length values)) → (k ≡ loadFault m n ng lens groups values) × (k ≡ 0 → Ready m n ng lens groups values)
     unfolding loadFault
-    load-uniquac p = rw (e) p
-
-    pub ready-uniquac : n ≤ 12 → uniquacSize n ≤ length values → Ready m n ng lens groups values
-    ready-uniquac h s = record { few = h; wilson = λ d. absurd (omega arith); uniquac = λ _. s; nrtl = λ d. absurd (omega arith); unifac = λ a b c. absurd (b e) }
+    load-uniquac p = (
+      rw e (p .0),
+      λ z. record { few = p .1 z .0; wilson = λ d. absurd (omega arith); uniquac = λ _. p .1 z .1; nrtl = λ d. absurd (omega arith); unifac = λ a b c. absurd (b e) },
+    )
 
     pub value-uniquac : (T : Float) (x : ℕ → Float) (q : Quantity) {v : Float} → v ≡ uniquacAt n (rs n values) (qs n values) (energies n values) T x q → v ≡ valueAt m n ng lens groups values T x q
     unfolding valueAt
     value-uniquac T x q p = rw e p
 
   module _ (e : m ≡ 3) where
-    pub load-nrtl : {k : ℕ} → k ≡ shapeFault n (nrtlSize n) values → k ≡ loadFault m n ng lens groups values
+    pub load-nrtl : {k : ℕ} → (k ≡ shapeFault n (nrtlSize n) values) × (k ≡ 0 → (n ≤ 12) × (nrtlSize n ≤ length values)) → (k ≡ loadFault m n ng lens groups values) × (k ≡ 0 → Ready m n ng lens groups values)
     unfolding loadFault
-    load-nrtl p = rw e p
-
-    pub ready-nrtl : n ≤ 12 → nrtlSize n ≤ length values → Ready m n ng lens groups values
-    ready-nrtl h s = record { few = h; wilson = λ d. absurd (omega arith); uniquac = λ d. absurd (omega arith); nrtl = λ _. s; unifac = λ a b c. absurd (c e) }
+    load-nrtl p = (
+      rw e (p .0),
+      λ z. record { few = p .1 z .0; wilson = λ d. absurd (omega arith); uniquac = λ d. absurd (omega arith); nrtl = λ _. p .1 z .1; unifac = λ a b c. absurd (c e) },
+    )
 
     pub value-nrtl : (T : Float) (x : ℕ → Float) (q : Quantity) {v : Float} → v ≡ nrtlAt n (taus n values) (alphas n values) T x q → v ≡ valueAt m n ng lens groups values T x q
     unfolding valueAt
     value-nrtl T x q p = rw e p
 
   module _ (e : m ≡ 4) where
-    pub load-unifac : {k : ℕ} → k ≡ unifacFault n ng lens groups values → k ≡ loadFault m n ng lens groups values
+    pub load-unifac : {k : ℕ} → (k ≡ unifacFault n ng lens groups values) × (k ≡ 0 → Loaded n ng lens groups values) → (k ≡ loadFault m n ng lens groups values) × (k ≡ 0 → Ready m n ng lens groups values)
     unfolding loadFault
-    load-unifac p = rw e p
-
-    pub ready-unifac : Loaded n ng lens groups values → Ready m n ng lens groups values
-    ready-unifac l = record { few = l .few; wilson = λ d. absurd (omega arith); uniquac = λ d. absurd (omega arith); nrtl = λ d. absurd (omega arith); unifac = λ a b c. (e, l) }
+    load-unifac p = (
+      rw e (p .0),
+      λ z. record { few = p .1 z .few; wilson = λ d. absurd (omega arith); uniquac = λ d. absurd (omega arith); nrtl = λ d. absurd (omega arith); unifac = λ a b c. (e, p .1 z) },
+    )
 
     pub value-unifac : (T : Float) (x : ℕ → Float) (q : Quantity) {v : Float} →
         v ≡ unifacAt n ng (lists lens groups (from (countsAt ng) values)) (groupRs ng values) (groupQs ng values) (groupAs ng values) T x q → v ≡ valueAt m n ng lens groups values T x q
@@ -149,16 +149,11 @@ and-off : (b c : Bool) → (b ≡ true → c ≡ false) → b && c ≡ false
 and-off true c h = h refl
 and-off false c h = refl
 
-and-left : (a b : Bool) → a && b ≡ true → a ≡ true
-and-left true b h = refl
-and-left false b h = absurd (true≢false (sym h))
-
-and-right : (a b : Bool) → a && b ≡ true → b ≡ true
-and-right true b h = h
-and-right false b h = absurd (true≢false (sym h))
+both : (a b : Bool) → a && b ≡ true → (a ≡ true) × (b ≡ true)
+both a b = and-eq-true-iff a b .0
 
 below : (a b k : ℕ) → between a b k ≡ true → k ≤ b
-below a b k h = leb-true k b (and-right (leb a k) (leb k b) h)
+below a b k h = leb-true k b (both (leb a k) (leb k b) h .1)
 
 shape-long : (n size : ℕ) (values : List Float) → 5328 < length values → (n ≤ 12 → size ≤ 5328) → 2 ≡ shapeFault n size values
 unfolding shapeFault
@@ -169,9 +164,9 @@ start-small : (lens : List ℕ) (n : ℕ) → allTo n (λ i. leb (getD lens i 0)
 unfolding start allTo
 start-small lens zero h = omega arith
 start-small lens (suc n) h =
-    let p = allTo n (λ i. leb (getD lens i 0) 12) in
-    let a = start-small lens n (and-left p (leb (getD lens n 0) 12) h) in
-    let b = leb-true (getD lens n 0) 12 (and-right p (leb (getD lens n 0) 12) h) in
+    let p = both (allTo n (λ i. leb (getD lens i 0) 12)) (leb (getD lens n 0) 12) h in
+    let a = start-small lens n (p .0) in
+    let b = leb-true (getD lens n 0) 12 (p .1) in
     omega arith
 
 lists-long : (n ng : ℕ) (lens groups : List ℕ) (values : List Float) → 5328 < length values → 2 ≡ listsFault n ng lens groups values
@@ -186,11 +181,11 @@ lists-long n ng lens groups values h =
         let G = between 1 32 ng in
         let L = eqb (length lens) n in
         let A = allTo n (λ i. leb (getD lens i 0) 12) in
-        let most = and-left (N && G && L && A) (eqb (length groups) (start lens n)) b in
-        let counts = and-left (N && G) L (and-left (N && G && L) A most) in
-        let few = below 1 12 n (and-left N G counts) in
-        let some = below 1 32 ng (and-right N G counts) in
-        let lists = start-small lens n (and-right (N && G && L) A most) in
+        let most = both (N && G && L) A (both (N && G && L && A) (eqb (length groups) (start lens n)) b .0) in
+        let counts = both N G (both (N && G) L (most .0) .0) in
+        let few = below 1 12 n (counts .0) in
+        let some = below 1 32 ng (counts .1) in
+        let lists = start-small lens n (most .1) in
         let square = mul-le-mul some some in
         omega arith
 

@@ -9,15 +9,16 @@ use native.Mathlib.Nat.{eq-or-lt-of-le, le-of-suc-le-suc, le-antisymm}
 use native.Mathlib.Numerals.{add-one}
 use native.Mathlib.Omega.{arith}
 use lib.Dec.{leb, eqb}
-use lib.ListN.{length, getD, set, replicate, getD-replicate}
+use lib.ListN.{length, getD, set, replicate, length-set}
 use lib.Seq.{getD-set-same, getD-set-other, getD-take, getD-drop}
 use lib.Ieee.{Float, nan, binary64, ofBits, lt}
 use borrow.Author.Tests.{eqb-true, eqb-false}
-use Rattle.arithmetic.specs.Floats.{_⊕_, _⊖_, _⊗_, _⊘_, +0}
+use Rattle.arithmetic.specs.Floats.{_⊕_, _⊖_, _⊗_, _⊘_}
 use Rattle.arithmetic.specs.Sums.{fold, sum, total}
 use Rattle.arithmetic.specs.Tables.{at, from, part, Filled}
 use Rattle.arithmetic.proofs.SumLaws.{fold-more, sum-same}
 use Rattle.arithmetic.proofs.TableLaws.{part-length, part-at, from-length, by-place}
+use Rattle.models.proofs.ColumnLaws.{zeros}
 use Rattle.models.specs.Plain.{between, allTo, listsFault}
 use Rattle.models.specs.Unifac.{Groups, size, residual, counts, amount, amounts, fraction, pureCount, pureFraction}
 use Rattle.models.specs.Values.{start, countsAt, unifacSize, lists}
@@ -33,18 +34,13 @@ pub start-more : (lens : List ℕ) (i : ℕ) {s l : ℕ} → s ≡ start lens i 
 unfolding start
 start-more lens i p q = rw (add-one, p, q)
 
-pub start-next : (lens : List ℕ) (i : ℕ) → start lens i + getD lens i 0 ≡ start lens (i + 1)
+start-next : (lens : List ℕ) (i : ℕ) → start lens i + getD lens i 0 ≡ start lens (i + 1)
 start-next lens i = start-more lens i refl refl
 
 pub start-up : (lens : List ℕ) (i n : ℕ) → i ≤ n → start lens i ≤ start lens n
 unfolding start
 start-up lens i zero h = let e : i ≡ 0 = omega arith in rw e (omega arith)
 start-up lens i (suc n) h = ⊎-elim (λ e. rw e (omega arith)) (λ l. omega (arith, start-up lens i n (le-of-suc-le-suc l))) (eq-or-lt-of-le h)
-
-pub start-same : (lens lens′ : List ℕ) (n : ℕ) → ((i : ℕ) → i < n → getD lens i 0 ≡ getD lens′ i 0) → (i : ℕ) → i ≤ n → start lens i ≡ start lens′ i
-unfolding start
-start-same lens lens′ n e zero h = refl
-start-same lens lens′ n e (suc i) h = rw (start-same lens lens′ n e i (omega arith), e i h)
 
 -- ---- the places of a list
 
@@ -88,12 +84,12 @@ module _ (i : ℕ) {ng : ℕ} {lens groups : List ℕ} {counts : List Float} {s 
 
 -- ---- a sum kept for every group at once
 
-pub gathered-none : (group : ℕ → ℕ) (f : ℕ → Float → Float) (l : List Float) (m : ℕ) → Filled (λ k. gathered 0 group f k (at l k)) m l
+gathered-none : (group : ℕ → ℕ) (f : ℕ → Float → Float) (l : List Float) (m : ℕ) → Filled (λ k. gathered 0 group f k (at l k)) m l
 unfolding gathered fold
 gathered-none group f l m = record { each = λ k h. refl }
 
 -- the place p names g, whose number becomes f p of it
-pub gathered-more : (group : ℕ → ℕ) (f : ℕ → Float → Float) (old : ℕ → Float) (p m g : ℕ) {num : List Float} {v : Float} →
+gathered-more : (group : ℕ → ℕ) (f : ℕ → Float → Float) (old : ℕ → Float) (p m g : ℕ) {num : List Float} {v : Float} →
     g ≡ group p → g < length num → v ≡ f p (at num g) → m ≤ length num →
     Filled (λ k. gathered p group f k (old k)) m num → Filled (λ k. gathered (p + 1) group f k (old k)) m (set num g v)
 unfolding gathered
@@ -104,6 +100,26 @@ gathered-more group f old p m g {num} {v} e b w long all = record {
     by-test : (k : ℕ) (t : Bool) → eqb g k ≡ t → at (set num g v) k ≡ cond (eqb (group p) k) (f p (at num k)) (at num k)
     by-test k true t = let q : g ≡ k = eqb-true g k t in rw (← e, t, ← q) (getD-set-same num g v nan b ∙ w)
     by-test k false t = rw (← e, t) (getD-set-other num g k v nan (λ q. eqb-false g k t (sym q)))
+
+-- a loop over the places p of a list of len that gathers for every group at once
+pub record Gathering (group : ℕ → ℕ) (f : ℕ → Float → Float) (len : ℕ) (old : List Float) (p : ℕ) (num : List Float) : Type 0 where
+  pub within : p ≤ len
+  pub long : length num ≡ length old
+  pub numbers : Filled (λ k. gathered p group f k (at old k)) (length old) num
+
+module _ {group : ℕ → ℕ} {f : ℕ → Float → Float} {len : ℕ} {old : List Float} where
+  pub gathering-none : Gathering group f len old 0 old
+  gathering-none = record { within = omega arith; long = refl; numbers = gathered-none group f old (length old) }
+
+  pub gathering-more : {p g : ℕ} {num : List Float} {v : Float} → p < len → g ≡ group p → g < length num → v ≡ f p (at num g) → Gathering group f len old p num → Gathering group f len old (p + 1) (set num g v)
+  gathering-more {p} {g} h e b w all = record {
+    within = omega arith;
+    long = simp length-set (all .long);
+    numbers = gathered-more group f (at old) p (length old) g e b w (omega (arith, all .long)) (all .numbers);
+  }
+
+  pub gathering-done : {p : ℕ} {num : List Float} → len ≤ p → Gathering group f len old p num → Filled (λ k. gathered len group f k (at old k)) (length old) num
+  gathering-done h all = rw (← le-antisymm (all .within) h) (all .numbers)
 
 -- ---- an array that has F of the groups named
 
@@ -151,7 +167,7 @@ module _ (lens groups : List ℕ) (counts : List Float) (i : ℕ) {s : ℕ} (her
   unfolding lists
   put-is old all = rw here at all
 
--- a loop that adds the counts of the places from s to the list's end
+-- the sum of the part of the counts that is the list
 pub counts-is : (lens : List ℕ) (counts : List Float) (i : ℕ) {s : ℕ} {v : Float} → s ≡ start lens i → s + getD lens i 0 ≤ length counts →
     v ≡ total (part s (s + getD lens i 0) counts) → v ≡ sum (getD lens i 0) (λ p. at counts (start lens i + p))
 unfolding total
@@ -160,11 +176,6 @@ counts-is lens counts i {s} here ends e =
     e ∙ rw l (sum-same (getD lens i 0) _ _ (λ p h. part-at counts s (s + getD lens i 0) p (omega arith) ∙ rw here))
 
 -- ---- fractions
-
--- an array of zeros
-pub zeros : (m : ℕ) → Filled (λ k. +0) m (replicate m (ofBits binary64 0))
-unfolding ofBits
-zeros m = record { each = λ k h. getD-replicate m k +0 nan h }
 
 module _ (c : Groups) (x : ℕ → Float) where
   pub amount-none : Filled (amount 0 c x) 32 (replicate 32 (ofBits binary64 0))

@@ -15,7 +15,7 @@ use Rattle.arithmetic.specs.Parameters.{tdAt}
 use Rattle.arithmetic.specs.Tables.{at, grid, from, Filled, upTo}
 use Rattle.arithmetic.proofs.Differences.{either}
 use Rattle.arithmetic.proofs.SumLaws.{sum-same}
-use Rattle.arithmetic.proofs.TableLaws.{from-at, cell-lt}
+use Rattle.arithmetic.proofs.TableLaws.{from-at, cell-lt, Filling}
 use Rattle.models.specs.declared.answers.Quantity.{Quantity}
 use Rattle.models.specs.declared.answers.Quantity.the-variants.{LnGamma, Gamma, ExcessGibbs}
 use Rattle.models.specs.Answers.{indexFault}
@@ -43,10 +43,10 @@ terms-added n i x g t s s′ b h own all same =
 
 -- the terms of the second sum, that of the diagonal put right
 module _ (x g d u t : ℕ → Float) (i : ℕ) where
-  pub second-folded : (n p : ℕ) (l : List Float) {w r : Float} → i < n → n ≤ length l → n ≤ p → Filled (λ j. x j ⊗ g j ⊘ d j ⊗ (t j ⊖ u j ⊘ d j)) p l →
+  pub second-folded : {n m p : ℕ} {l : List Float} {w r : Float} → i < n → n ≤ p → Filling (λ j. x j ⊗ g j ⊘ d j ⊗ (t j ⊖ u j ⊘ d j)) n m p l →
       w ≡ x i ⊗ one ⊘ d i ⊗ (+0 ⊖ u i ⊘ d i) → r ≡ total (take n (set l i w)) → r ≡ sum n (λ j. x j ⊗ unitAt i g j ⊘ d j ⊗ (tauAt i t j ⊖ u j ⊘ d j))
-  second-folded n p l b h le terms own e =
-      terms-put n p i _ _ l b h le (λ k c ne. rw (unit-off i k g ne, tau-off i k t ne)) (own ∙ rw (unit-on i g, tau-on i t)) terms e
+  second-folded b done terms own e =
+      terms-put terms done i _ b (λ k c ne. rw (unit-off i k g ne, tau-off i k t ne)) (own ∙ rw (unit-on i g, tau-on i t)) e
 
 -- the row lent as a part gives the table's entry
 pub tau-row : (n : ℕ) (l : List Float) (i j : ℕ) → i * n + n ≤ length l → j < n → tauAt i (at (from (i * n) l)) j ≡ tau (grid n l) i j

@@ -1,5 +1,4 @@
 -- UNIFAC: what an exponential reads, rows lent as parts, sums worked out once, and equal inputs give equal values.
---
 use mathlib.Core.Path.{_≡_, refl, ap, _∙_}
 use mathlib.Core.Bool.{cond}
 use mathlib.Core.List.{List}
@@ -108,7 +107,7 @@ pub record SameList (ng : ℕ) (c d : Groups) (i : ℕ) : Type 0 where
   pub counts : (p : ℕ) → p < c .length i → c .count i p ≡ d .count i p
   pub below : (p : ℕ) → p < c .length i → c .group i p < ng
 
-pub same-self : (ng : ℕ) (c : Groups) (i : ℕ) → ((p : ℕ) → p < c .length i → c .group i p < ng) → SameList ng c c i
+same-self : (ng : ℕ) (c : Groups) (i : ℕ) → ((p : ℕ) → p < c .length i → c .group i p < ng) → SameList ng c c i
 same-self ng c i b = record { lengths = refl; groups = λ p h. refl; counts = λ p h. refl; below = b }
 
 -- at one component
@@ -203,11 +202,11 @@ shares-from n ng c R Q x rAll qAll rSum qSum tAll = record {
 }
 
 -- the residual sum reads ln Γ of the groups that i lists alone: g has that in the mixture, p in pure i
-pub residual-mixed : (c : Groups) (M : ℕ → Float) (P : ℕ → ℕ → Float) (i : ℕ) {g : List Float} → Named (c .length i) (c .group i) M g → residual c (at g) P i ≡ residual c M P i
+residual-mixed : (c : Groups) (M : ℕ → Float) (P : ℕ → ℕ → Float) (i : ℕ) {g : List Float} → Named (c .length i) (c .group i) M g → residual c (at g) P i ≡ residual c M P i
 unfolding residual
 residual-mixed c M P i all = sum-same (c .length i) _ _ (λ p h. rw (all .each p h))
 
-pub residual-pure : (c : Groups) (M : ℕ → Float) (P : ℕ → ℕ → Float) (i : ℕ) {g : List Float} → Named (c .length i) (c .group i) (P i) g → residual c M (λ j. at g) i ≡ residual c M P i
+residual-pure : (c : Groups) (M : ℕ → Float) (P : ℕ → ℕ → Float) (i : ℕ) {g : List Float} → Named (c .length i) (c .group i) (P i) g → residual c M (λ j. at g) i ≡ residual c M P i
 unfolding residual
 residual-pure c M P i all = sum-same (c .length i) _ _ (λ p h. rw (all .each p h))
 

@@ -11,7 +11,7 @@ use Rattle.arithmetic.specs.Logarithm.{logOf}
 use Rattle.arithmetic.specs.Sums.{sum, total}
 use Rattle.arithmetic.specs.Tables.{at, grid, from, flat, Filled}
 use Rattle.arithmetic.proofs.SumLaws.{sum-same}
-use Rattle.arithmetic.proofs.TableLaws.{filled-as, filled-cell, from-at}
+use Rattle.arithmetic.proofs.TableLaws.{filled-as, filled-cell, from-at, Filling}
 use Rattle.models.specs.declared.answers.Quantity.{Quantity}
 use Rattle.models.specs.Answers.{indexFault}
 use Rattle.models.specs.Columns.{unitAt, columnSum}
@@ -24,7 +24,7 @@ use Rattle.models.proofs.ColumnLaws.{unit-row, unit-same, column-same, 
 
 -- ---- equal entries, equal answers
 
-pub share-same : (n : ℕ) (s t x y : ℕ → Float) → ((i : ℕ) → i < n → s i ≡ t i) → ((i : ℕ) → i < n → x i ≡ y i) → (i : ℕ) → i < n → share n s x i ≡ share n t y i
+share-same : (n : ℕ) (s t x y : ℕ → Float) → ((i : ℕ) → i < n → s i ≡ t i) → ((i : ℕ) → i < n → x i ≡ y i) → (i : ℕ) → i < n → share n s x i ≡ share n t y i
 unfolding share
 share-same n s t x y es ex i b = rw (es i b, ex i b, sum-same n (λ j. x j ⊗ s j) (λ j. y j ⊗ t j) (λ j c. rw (es j c, ex j c)))
 
@@ -74,11 +74,11 @@ module _ (n : ℕ) (r s q p : ℕ → Float) (x y : ℕ → Float) (er : (i : �
 -- ---- what code works out
 
 -- the quotients of a residual part, that of the diagonal put right
-pub residual-folded : (n p : ℕ) (θ row sums : ℕ → Float) (i : ℕ) (g : List Float) (q l : Float) {w r : Float} → i < n → n ≤ length g → n ≤ p →
-    Filled (λ j. θ j ⊗ row j ⊘ sums j) p g → w ≡ θ i ⊗ one ⊘ sums i → r ≡ total (take n (set g i w)) →
+pub residual-folded : (θ row sums : ℕ → Float) (i : ℕ) (q l : Float) {n m p : ℕ} {g : List Float} {w r : Float} → i < n → n ≤ p →
+    Filling (λ j. θ j ⊗ row j ⊘ sums j) n m p g → w ≡ θ i ⊗ one ⊘ sums i → r ≡ total (take n (set g i w)) →
     q ⊗ (one ⊖ l ⊖ r) ≡ q ⊗ (one ⊖ l ⊖ sum n (λ j. θ j ⊗ unitAt i row j ⊘ sums j))
-residual-folded n p θ row sums i g q l {w} {r} b h le terms own t =
-    let S : r ≡ sum n (λ j. θ j ⊗ unitAt i row j ⊘ sums j) = terms-put n p i _ _ g b h le (λ k c ne. rw (unit-off i k row ne)) (own ∙ rw (unit-on i row)) terms t in
+residual-folded θ row sums i q l {n} {r = r} b done terms own t =
+    let S : r ≡ sum n (λ j. θ j ⊗ unitAt i row j ⊘ sums j) = terms-put terms done i _ b (λ k c ne. rw (unit-off i k row ne)) (own ∙ rw (unit-on i row)) t in
     rw S
 
 -- what all components share, from what the callees work out: the column sums are those over the shares that stand in a list

@@ -12,7 +12,7 @@ use Rattle.arithmetic.specs.Logarithm.{logOf}
 use Rattle.arithmetic.specs.Sums.{fold, sum, total}
 use Rattle.arithmetic.specs.Tables.{at, grid, from, flat, Filled, upTo}
 use Rattle.arithmetic.proofs.SumLaws.{fold-same, sum-same}
-use Rattle.arithmetic.proofs.TableLaws.{from-at, filled-cell, upto-below}
+use Rattle.arithmetic.proofs.TableLaws.{from-at, filled-cell, upto-below, Filling}
 use Rattle.models.specs.declared.answers.Quantity.{Quantity}
 use Rattle.models.specs.Answers.{indexFault}
 use Rattle.models.specs.Exponentials.{energy}
@@ -53,16 +53,16 @@ module _ (n : ℕ) (v w : ℕ → Float) (E F : ℕ → ℕ → Float) (x y : �
 
 -- ---- what code works out
 
--- the part that starts at row i gives the row's entries
-pub lambda-on : (v : ℕ → Float) (E : ℕ → ℕ → Float) (i : ℕ) → lambda v E i i ≡ one
+lambda-on : (v : ℕ → Float) (E : ℕ → ℕ → Float) (i : ℕ) → lambda v E i i ≡ one
 unfolding lambda
 lambda-on v E i = rw (eq-eqb i i refl)
 
-pub lambda-off : (v : ℕ → Float) (E : ℕ → ℕ → Float) (i k : ℕ) → (i ≡ k → ⊥) → lambda v E i k ≡ v k ⊘ v i ⊗ E i k
+lambda-off : (v : ℕ → Float) (E : ℕ → ℕ → Float) (i k : ℕ) → (i ≡ k → ⊥) → lambda v E i k ≡ v k ⊘ v i ⊗ E i k
 unfolding lambda
 lambda-off v E i k h = rw (ne-eqb i k h)
 
-pub lambda-row : (n : ℕ) (v : ℕ → Float) (e : List Float) (i j : ℕ) → i * n + j < length e → lambda v (λ _. at (from (i * n) e)) i j ≡ lambda v (grid n e) i j
+-- the part that starts at row i gives the row's entries
+lambda-row : (n : ℕ) (v : ℕ → Float) (e : List Float) (i j : ℕ) → i * n + j < length e → lambda v (λ _. at (from (i * n) e)) i j ≡ lambda v (grid n e) i j
 unfolding lambda
 lambda-row n v e i j h = rw (from-at e (i * n) j h)
 
@@ -71,11 +71,11 @@ unfolding rowSum
 rowSum-row n v e x i h = sum-same n _ _ (λ j b. rw (lambda-row n v e i j (omega arith)))
 
 -- the terms of a row sum, that of the diagonal put right
-pub row-folded : (n p : ℕ) (v row x : ℕ → Float) (i : ℕ) (g : List Float) {w r : Float} → i < n → n ≤ length g → n ≤ p →
-    Filled (λ j. x j ⊗ (v j ⊘ v i ⊗ row j)) p g → w ≡ x i ⊗ one → r ≡ total (take n (set g i w)) → r ≡ rowSum n v (λ _. row) x i
+pub row-folded : (v row x : ℕ → Float) (i : ℕ) {n m p : ℕ} {g : List Float} {w r : Float} → i < n → n ≤ p →
+    Filling (λ j. x j ⊗ (v j ⊘ v i ⊗ row j)) n m p g → w ≡ x i ⊗ one → r ≡ total (take n (set g i w)) → r ≡ rowSum n v (λ _. row) x i
 unfolding rowSum
-row-folded n p v row x i g b h le terms own e =
-    terms-put n p i _ _ g b h le (λ k c ne. rw (lambda-off v (λ _. row) i k ne)) (own ∙ rw (lambda-on v (λ _. row) i)) terms e
+row-folded v row x i b done terms own e =
+    terms-put terms done i _ b (λ k c ne. rw (lambda-off v (λ _. row) i k ne)) (own ∙ rw (lambda-on v (λ _. row) i)) e
 
 -- over row sums that stand in a list
 module _ (n : ℕ) (v : ℕ → Float) (e : List Float) (x : ℕ → Float) (sums : List Float) (all : Filled (rowSum n v (grid n e) x) n sums) (i : ℕ) (b : i < n) where
@@ -83,12 +83,12 @@ module _ (n : ℕ) (v : ℕ → Float) (e : List Float) (x : ℕ → Float) (sum
   ln-term k c ne = rw (lambda-off v (grid n e) k i (λ q. ne (sym q)), all .each k c)
 
   -- ln γ_i, its terms as those of a row sum
-  pub ln-folded : (p : ℕ) (g : List Float) {w l r : Float} → n ≤ length g → n ≤ p → Filled (λ k. x k ⊗ (v i ⊘ v k ⊗ grid n e k i) ⊘ at sums k) p g → w ≡ x i ⊗ one ⊘ at sums i →
+  pub ln-folded : {m p : ℕ} {g : List Float} {w l r : Float} → n ≤ p → Filling (λ k. x k ⊗ (v i ⊘ v k ⊗ grid n e k i) ⊘ at sums k) n m p g → w ≡ x i ⊗ one ⊘ at sums i →
       l ≡ logOf (at sums i) → r ≡ total (take n (set g i w)) → one ⊖ l ⊖ r ≡ lnGamma n v (grid n e) x i
   unfolding lnGamma
-  ln-folded p g {w} {l} {r} h le terms own log t =
+  ln-folded {r = r} done terms own log t =
       let S : r ≡ sum n (λ k. x k ⊗ lambda v (grid n e) k i ⊘ rowSum n v (grid n e) x k) =
-      terms-put n p i _ _ g b h le ln-term (own ∙ rw (lambda-on v (grid n e) i, all .each i b)) terms t in
+      terms-put terms done i _ b ln-term (own ∙ rw (lambda-on v (grid n e) i, all .each i b)) t in
       rw (log, all .each i b, S)
 
 -- the excess energy over logs that stand in a list

@@ -1,5 +1,4 @@
 -- Document 01's worked values hold: exp and log by arithmetic's facts, the checks by computing each sum step by step.
---
 use mathlib.Core.Path.{_≡_, refl}
 use mathlib.Core.Bool.{false}
 use mathlib.Core.List.{[], _∷_}

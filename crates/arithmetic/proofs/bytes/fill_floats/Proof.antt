@@ -1,13 +1,11 @@
 -- The loop keeps the floats written so far; at its end these are all.
-use Rattle.arithmetic.proofs.ByteLaws.{floats-done}
-use lib.ListN.{take, length-set}
+use Rattle.arithmetic.proofs.ByteLaws.{floats-done, floats-more}
+use lib.ListN.{take, length-set, length}
 use Rattle.arithmetic.specs.Bytes.{floatsAt}
-use Rattle.arithmetic.proofs.ByteLaws.{floats-more}
 use mathlib.Core.Path.{_≡_, refl}
 use Prim.Native.Nat.{_-_, _≤_}
 use native.Mathlib.Omega.{arith}
 use borrow.Author.Needs.{needs}
-use lib.ListN.{length}
 use Rattle.arithmetic.proofs.bytes.fill_floats.Statement.{statement}
 use Rattle.arithmetic.proofs.bytes.fill_floats.Tie as tie
 
@@ -27,9 +25,7 @@ loop-again c =
     (omega arith, simp length-set (l .inv .1), floats-more _ _ (l .a) (l .k) _ (omega arith) (l .inv .2) (c .float-at .ensures))
 
 returns : tie.Need-returns Inv-loop μ-loop
-returns c =
-    let l = c .before .loop in
-    floats-done _ _ _ (l .k) (l .a) (omega arith) (l .inv .2)
+returns c = let l = c .before .loop in floats-done _ _ _ (l .k) (l .a) (omega arith) (l .inv .2)
 
 pub fill-floats-spec : {M : Type 1} → statement M
 fill-floats-spec =

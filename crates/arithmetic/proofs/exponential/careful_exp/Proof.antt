@@ -1,8 +1,7 @@
 -- Each return is the line of `expOf` that the tests on the way pick.
-use mathlib.Core.Path.{_≡_, refl, sym, ap, _∙_, subst}
-use mathlib.Core.Bool.{Bool, true, false, not, _&&_}
+use mathlib.Core.Path.{_≡_, refl, ap, _∙_}
+use mathlib.Core.Bool.{true, false, _&&_}
 use mathlib.Core.Logic.{⊎-elim}
-use lib.Dec.{T}
 use lib.IntN.{negsuc}
 use lib.Ieee.{fin, binary64, ofBits, neg, round, lt, le, isNan, nanBits, ofInt}
 use mir.Syntax.{w64}
@@ -13,6 +12,7 @@ use Rattle.arithmetic.specs.Exponential.{highest, lowest, scaled, reduce
 use Rattle.arithmetic.proofs.Within.{near}
 use Rattle.arithmetic.proofs.Cutting.{cut-within, Inside}
 use Rattle.arithmetic.proofs.Powers.{Near}
+use Rattle.arithmetic.proofs.Tests.{failed, first-fails, second-fails}
 use Rattle.arithmetic.proofs.ByteLaws.{no-nan}
 use Rattle.arithmetic.proofs.ExpBranches.{a-nan, exp-nan, exp-high, exp-low, exp-tiny, exp-rest}
 use Rattle.arithmetic.proofs.exponential.careful_exp.Statement.{statement}
@@ -30,21 +30,12 @@ not-low : (c : tie.Else3) → lt (c .before .before .before .args .v) lowest ≡
 unfolding lowest dec round ofBits neg
 not-low c = c .if3 .left
 
-and-f : (a b : Bool) → a ≡ true → b ≡ false → a && b ≡ false
-and-f a b p q = rw (p, q)
-
-and-ff : (a b : Bool) → a ≡ false → a && b ≡ false
-and-ff a b p = rw p
-
 not-tiny : (c : tie.Joined4) → le (fin true 1 (negsuc 27)) (c .before .before .before .before .args .v) && le (c .before .before .before .before .args .v) (fin false 1 (negsuc 27)) ≡ false
 unfolding ofBits neg
-not-tiny c = ⊎-elim (λ w. and-f _ _ (w .0 .taken) (w .1 .left)) (λ w. and-ff _ _ (w .left)) (c .if4 .came)
-
-refuted : (b : Bool) → b ≡ false → T (not b)
-refuted b e = subst (λ (x : Bool). T (not x)) (sym e) tt
+not-tiny c = ⊎-elim (λ w. second-fails (w .0 .taken) (w .1 .left)) (λ w. first-fails _ (w .left)) (c .if4 .came)
 
 inside : (c : tie.Joined4) → Inside (c .before .before .before .before .args .v)
-inside c = (refuted _ (is-no-nan (c .before .before .before)), refuted _ (not-high (c .before .before)), refuted _ (not-low (c .before)))
+inside c = (failed (is-no-nan (c .before .before .before)), failed (not-high (c .before .before)), failed (not-low (c .before)))
 
 -- ---- the needs
 returns : tie.Need-returns

@@ -1,11 +1,12 @@
 -- The float n is k, so each return is the line of `expOf` that the last tests pick.
 use mathlib.Core.Path.{_≡_, ap, _∙_}
-use mathlib.Core.Bool.{Bool, true, false, _&&_}
+use mathlib.Core.Bool.{true, false, _&&_}
 use lib.IntN.{negsuc}
 use lib.Ieee.{fin, ofBits, neg, round, le}
 use Rattle.arithmetic.specs.Floats.{_⊗_, dec, one, two^}
 use Rattle.arithmetic.specs.Exponential.{exponent, reduced, scaled, reciprocal}
 use Rattle.arithmetic.specs.Nearest.{nearest}
+use Rattle.arithmetic.proofs.Tests.{first-fails, second-fails}
 use Rattle.arithmetic.proofs.Powers.{scaled-within}
 use Rattle.arithmetic.proofs.ExpBranches.{exp-tiny, exp-rest}
 use Rattle.arithmetic.proofs.EasyExp.{found, as-whole, wide-is, wide-fits, unscaled, easy-plain}
@@ -39,12 +40,6 @@ product-is c =
     rw (r .reduced .ensures (exponent v) (n-is n ∙ f .is))
     (scaled-within (reduced v (exponent v)) (c .power .result) (exponent v) (u .0) (u .1) (c .power .ensures ∙ ap two^ (wide-is v f (n .nearest .result) (n-is n))))
 
-and-f : (a b : Bool) → a ≡ true → b ≡ false → a && b ≡ false
-and-f a b p q = rw (p, q)
-
-and-ff : (a b : Bool) → a ≡ false → a && b ≡ false
-and-ff a b p = rw p
-
 returns : tie.Need-returns
 unfolding one dec round ofBits neg
 returns c =
@@ -54,11 +49,11 @@ returns c =
 
 tiny-left : (c : tie.Else2) → le (fin true 1 (negsuc 27)) (c .before .before .before .before .before .before .args .v) && le (c .before .before .before .before .before .before .args .v) (fin false 1 (negsuc 27)) ≡ false
 unfolding ofBits neg
-tiny-left c = and-f _ _ (c .before .if1 .taken) (c .if2 .left)
+tiny-left c = second-fails (c .before .if1 .taken) (c .if2 .left)
 
 below-tiny : (c : tie.Else1) → le (fin true 1 (negsuc 27)) (c .before .before .before .before .before .args .v) && le (c .before .before .before .before .before .args .v) (fin false 1 (negsuc 27)) ≡ false
 unfolding ofBits neg
-below-tiny c = and-ff _ _ (c .if1 .left)
+below-tiny c = first-fails _ (c .if1 .left)
 
 returns-2 : tie.Need-returns-2
 returns-2 c =

@@ -1,17 +1,14 @@
 -- 0 is given only where all four tests passed, which are what easy means.
-use mathlib.Core.Path.{_≡_, sym, subst}
-use mathlib.Core.Bool.{Bool, true}
+use mathlib.Core.Path.{subst}
 use native.Mathlib.Omega.{arith}
 use lib.Dec.{T}
 use lib.Ieee.{Float, ofBits, neg, lt, round}
 use Rattle.arithmetic.specs.Floats.{_⊖_, _⊗_, dec}
 use Rattle.arithmetic.specs.Exponential.{reciprocal}
 use Rattle.arithmetic.specs.Nearest.{margin}
+use Rattle.arithmetic.proofs.Tests.{passed}
 use Rattle.arithmetic.proofs.exponential.hard.Statement.{statement}
 use Rattle.arithmetic.proofs.exponential.hard.Tie as tie
-
-passed : (b : Bool) → b ≡ true → T b
-passed b e = subst T (sym e) tt
 
 returns : tie.Need-returns
 unfolding reciprocal dec round ofBits neg
@@ -22,24 +19,20 @@ returns c =
     let n = t1 .before in (
       omega arith,
       λ e. record {
-        least = passed _ (t1 .if1 .taken);
-        most = passed _ (t2 .if2 .taken);
-        above = subst (λ (z : Float). T (lt (neg margin) (reciprocal ⊗ n .before .args .v ⊖ z))) (n .nearest .ensures) (passed _ (t3 .if3 .taken));
-        below = subst (λ (z : Float). T (lt (reciprocal ⊗ n .before .args .v ⊖ z) margin)) (n .nearest .ensures) (passed _ (c .if4 .taken));
+        least = passed (t1 .if1 .taken);
+        most = passed (t2 .if2 .taken);
+        above = subst (λ (z : Float). T (lt (neg margin) (reciprocal ⊗ n .before .args .v ⊖ z))) (n .nearest .ensures) (passed (t3 .if3 .taken));
+        below = subst (λ (z : Float). T (lt (reciprocal ⊗ n .before .args .v ⊖ z) margin)) (n .nearest .ensures) (passed (c .if4 .taken));
       },
     )
 
-returns-2 : tie.Need-returns-2
-returns-2 c = (omega arith, λ e. absurd (omega arith))
-
-returns-3 : tie.Need-returns-3
-returns-3 c = (omega arith, λ e. absurd (omega arith))
-
-returns-4 : tie.Need-returns-4
-returns-4 c = (omega arith, λ e. absurd (omega arith))
-
-returns-5 : tie.Need-returns-5
-returns-5 c = (omega arith, λ e. absurd (omega arith))
-
 pub hard-spec : {M : Type 1} → statement M
-hard-spec = tie.close (tie.spec (λ c κs. tt) returns returns-2 returns-3 returns-4 returns-5)
+hard-spec =
+    tie.close
+    (tie.spec
+    (λ c κs. tt)
+    returns
+    (λ c. (omega arith, λ e. absurd (omega arith)))
+    (λ c. (omega arith, λ e. absurd (omega arith)))
+    (λ c. (omega arith, λ e. absurd (omega arith)))
+    (λ c. (omega arith, λ e. absurd (omega arith))))

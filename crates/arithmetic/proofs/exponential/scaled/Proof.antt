@@ -63,9 +63,7 @@ returns-2 c =
     (c .before .power3 .ensures ∙ ap two^ (rw (back s, toZ-ofZ w64 (k +ℤ pos 1000) (n .1)))) (c .power4 .ensures)
 
 power-requires-5 : tie.Need-power-requires-5
-power-requires-5 c κs =
-    let s = c .before .before in
-    rw (back s) (within (s .args .k) (s .fits .k) (not-over (c .before)) (not-under c) .0)
+power-requires-5 c κs = let s = c .before .before in rw (back s) (within (s .args .k) (s .fits .k) (not-over (c .before)) (not-under c) .0)
 
 returns-3 : tie.Need-returns-3
 returns-3 c =

@@ -1,18 +1,17 @@
 -- Each return is the line of `logOf` that the tests on the way pick.
-use mathlib.Core.Path.{_≡_, sym, _∙_, subst}
-use mathlib.Core.Bool.{Bool, false, not}
+use mathlib.Core.Path.{_≡_, _∙_}
+use mathlib.Core.Bool.{false}
 use Prim.Native.Nat.{ℕ, suc, _+_, _-_, _*_, _%_, _^_, _<_}
 use native.Mathlib.Omega.{arith}
-use lib.Dec.{T}
 use lib.IntN.{pos}
 use lib.Count.{leadingZeros, leading-le}
 use lib.Ieee.{Float, fin, inf, binary64, ofBits, toBits, lt, eq, isNan, nanBits, div, fits, round}
 use Rattle.arithmetic.specs.Floats.{dec, one}
-use Rattle.arithmetic.specs.Logarithm.{logOf}
+use Rattle.arithmetic.proofs.Tests.{passed, failed}
 use Rattle.arithmetic.proofs.ExpBranches.{a-nan}
 use Rattle.arithmetic.proofs.ByteLaws.{no-nan}
-use Rattle.arithmetic.proofs.LogBranches.{normal-of, rest, log-nan, is-inf, log-negative, log-zero, log-inf, log-one, log-rest}
-use Rattle.arithmetic.proofs.Decomposing.{Parts, parts-of, Q-low, Q-high, small-zeros, small-q, small-x, rest-is}
+use Rattle.arithmetic.proofs.LogBranches.{Positive, normal-of, log-nan, is-inf, log-negative, log-zero, log-inf, log-one, log-rest}
+use Rattle.arithmetic.proofs.Decomposing.{Parts, parts-of, q-range, small-zeros, small-q, small-x, rest-is}
 use Rattle.arithmetic.proofs.logarithm.careful_log.Statement.{statement}
 use Rattle.arithmetic.proofs.logarithm.careful_log.Tie as tie
 
@@ -32,6 +31,9 @@ not-inf : (c : tie.Else4) → eq (c .before .before .before .before .args .v) (i
 unfolding ofBits
 not-inf c = c .if4 .left
 
+positive : (c : tie.Else4) → Positive (c .before .before .before .before .args .v)
+positive c = (is-no-nan (c .before .before .before), not-negative (c .before .before), not-zero (c .before), not-inf c)
+
 not-one : (c : tie.Else5) → eq (c .before .before .before .before .before .args .v) one ≡ false
 unfolding ofBits one dec round
 not-one c = c .if5 .left
@@ -40,12 +42,7 @@ abbrev arg : tie.Else5 → Float
 arg c = c .before .before .before .before .before .args .v
 
 parts : (c : tie.Else5) → Parts (arg c)
-parts c =
-    parts-of (arg c) (is-no-nan (c .before .before .before .before)) (not-negative (c .before .before .before)) (not-zero (c .before .before)) (not-inf (c .before))
-    (subst T (sym (c .before .before .before .before .before .good .0 .1)) tt)
-
-is-rest : (c : tie.Else5) → rest (arg c) ≡ logOf (arg c)
-is-rest c = log-rest (arg c) (is-no-nan (c .before .before .before .before)) (not-negative (c .before .before .before)) (not-zero (c .before .before)) (not-inf (c .before)) (not-one c)
+parts c = parts-of (arg c) (positive (c .before)) (passed (c .before .before .before .before .before .good .0 .1))
 
 -- ---- the special values
 returns : tie.Need-returns
@@ -75,20 +72,14 @@ returns-4 c =
 
 returns-5 : tie.Need-returns-5
 unfolding ofBits one dec round
-returns-5 c =
-    log-one (c .before .before .before .before .before .args .v) (is-no-nan (c .before .before .before .before)) (not-negative (c .before .before .before)) (not-zero (c .before .before)) (not-inf (c .before)) (c .if5 .taken)
+returns-5 c = log-one (c .before .before .before .before .before .args .v) (positive (c .before)) (c .if5 .taken)
 
 float-to-bits-b : tie.Need-float-to-bits-b
-float-to-bits-b c = subst (λ (b : Bool). T (not b)) (sym (is-no-nan (c .before .before .before .before))) tt
+float-to-bits-b c = failed (is-no-nan (c .before .before .before .before))
 
 -- ---- from 2 ^ -1022 up
 easy-log-requires : tie.Need-easy-log-requires
-easy-log-requires c κs =
-    let e = c .before in
-    normal-of (arg e) (is-no-nan (e .before .before .before .before)) (not-negative (e .before .before .before)) (not-zero (e .before .before)) (not-inf (e .before)) (c .if6 .taken)
-
-returns-6 : tie.Need-returns-6
-returns-6 c = c .easy-log .ensures
+easy-log-requires c κs = let e = c .before in normal-of (arg e) (positive (e .before)) (c .if6 .taken)
 
 -- ---- below 2 ^ -1022
 module _ (c : tie.Else6) where
@@ -100,15 +91,15 @@ module _ (c : tie.Else6) where
 
   zeros : (leadingZeros 64 b ≡ 63 - (p .z + p .E)) × (p .z + p .E < 52)
   unfolding b
-  zeros = small-zeros (arg (c .before)) (p .m) (p .z) (p .E) (p .is) (p .o) (p .lo) (p .hi) (p .Z) (c .if6 .left)
+  zeros = small-zeros p (c .if6 .left)
 
   q-is : b * 2 ^ (leadingZeros 64 b - 11) % 18446744073709551616 ≡ p .m * 2 ^ (52 - p .z)
   unfolding b
-  q-is = small-q (arg (c .before)) (p .m) (p .z) (p .E) (p .is) (p .o) (p .lo) (p .hi) (p .Z) (c .if6 .left)
+  q-is = small-q p (c .if6 .left)
 
   x-is : 64 - leadingZeros 64 b ≡ suc (p .z + p .E)
   unfolding b
-  x-is = small-x (arg (c .before)) (p .m) (p .z) (p .E) (p .is) (p .o) (p .lo) (p .hi) (p .Z) (c .if6 .left)
+  x-is = small-x p (c .if6 .left)
 
 cast-z : tie.Need-cast-z
 cast-z c = let h = leading-le 64 (toBits binary64 (arg (c .before))) in record { fits = omega arith }
@@ -128,16 +119,16 @@ sub-from-digits-2 c = let a = zeros c .0 in omega arith
 from-digits-requires : tie.Need-from-digits-requires
 unfolding b
 from-digits-requires c κs =
-    let r = p c in
     let h = leading-le 64 (toBits binary64 (arg (c .before))) in
-    rw (q-is c) (Q-low (r .m) (r .z) (r .E) (r .o) (r .lo) (r .hi) (r .Z), Q-high (r .m) (r .z) (r .E) (r .o) (r .lo) (r .hi) (r .Z), omega arith)
+    let range = q-range (p c) in
+    rw (q-is c) (range .0, range .1, omega arith)
 
 returns-7 : tie.Need-returns-7
 unfolding b
 returns-7 c =
     let t = c .before in
-    let r = p t in
-    c .from-digits .ensures ∙ rest-is (arg (t .before)) (r .m) (r .z) (r .E) (r .is) (r .o) (r .lo) (r .hi) (r .Z) _ _ (q-is t) (x-is t) ∙ is-rest (t .before)
+    let e = t .before in
+    c .from-digits .ensures ∙ rest-is (p t) _ _ (q-is t) (x-is t) ∙ log-rest (arg e) (positive (e .before)) (not-one e)
 
 pub careful-log-spec : {M : Type 1} → statement M
 careful-log-spec =
@@ -152,7 +143,7 @@ careful-log-spec =
     returns-5
     float-to-bits-b
     easy-log-requires
-    returns-6
+    (λ c. c .easy-log .ensures)
     cast-z
     sub-from-digits
     shl-from-digits

@@ -69,9 +69,7 @@ float-from-bits-log-by c =
     rw (bias-at c) (digits-no-nan (a .args .q) (field (test (a .args .q))) (a .pre .0) (a .pre .1) (field-lt (test (a .args .q))))
 
 sub-log-by : tie.Need-sub-log-by
-sub-log-by c =
-    let a = c .before .before in
-    rw (places-at c) (diff-fits (a .args .x) (short (test (a .args .q))) (a .pre .2) (short-lt (test (a .args .q))))
+sub-log-by c = let a = c .before .before in rw (places-at c) (diff-fits (a .args .x) (short (test (a .args .q))) (a .pre .2) (short-lt (test (a .args .q))))
 
 returns : tie.Need-returns
 returns c =

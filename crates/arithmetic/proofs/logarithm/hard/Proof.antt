@@ -1,15 +1,12 @@
 -- 0 is given only where all three tests passed, which are what normal means.
-use mathlib.Core.Path.{_≡_, sym, subst}
-use mathlib.Core.Bool.{Bool, true, false, not}
+use mathlib.Core.Bool.{false, not}
 use native.Mathlib.Omega.{arith}
 use lib.Dec.{T}
 use lib.IntN.{pos}
 use lib.Ieee.{Float, nan, inf, fin, lt, isNan, ofBits, nanBits}
+use Rattle.arithmetic.proofs.Tests.{passed}
 use Rattle.arithmetic.proofs.logarithm.hard.Statement.{statement}
 use Rattle.arithmetic.proofs.logarithm.hard.Tie as tie
-
-passed : (b : Bool) → b ≡ true → T b
-passed b e = subst T (sym e) tt
 
 above-no-nan : (v : Float) → T (lt (fin false 0 (pos 0)) v) → T (not (isNan v))
 unfolding lt isNan
@@ -23,22 +20,19 @@ float-from-bits-if2 c = tt
 
 float-to-bits-if3 : tie.Need-float-to-bits-if3
 unfolding ofBits
-float-to-bits-if3 c = above-no-nan _ (passed _ (c .before .if1 .taken))
+float-to-bits-if3 c = above-no-nan _ (passed (c .before .if1 .taken))
 
 returns : tie.Need-returns
 unfolding ofBits
-returns c = (omega arith, λ e. record { above = passed _ (c .before .before .if1 .taken); below = passed _ (c .before .if2 .taken); field = c .if3 .taken })
-
-returns-2 : tie.Need-returns-2
-returns-2 c = (omega arith, λ e. absurd (omega arith))
-
-returns-3 : tie.Need-returns-3
-returns-3 c = (omega arith, λ e. absurd (omega arith))
-
-returns-4 : tie.Need-returns-4
-returns-4 c = (omega arith, λ e. absurd (omega arith))
+returns c = (omega arith, λ e. record { above = passed (c .before .before .if1 .taken); below = passed (c .before .if2 .taken); field = c .if3 .taken })
 
 pub hard-spec : {M : Type 1} → statement M
 hard-spec =
     tie.close
-    (tie.spec float-from-bits-if2 float-to-bits-if3 returns returns-2 returns-3 returns-4)
+    (tie.spec
+    float-from-bits-if2
+    float-to-bits-if3
+    returns
+    (λ c. (omega arith, λ e. absurd (omega arith)))
+    (λ c. (omega arith, λ e. absurd (omega arith)))
+    (λ c. (omega arith, λ e. absurd (omega arith))))

@@ -4,7 +4,6 @@ use borrow.Author.Needs.{needs}
 use denote.Ref.{now}
 use lib.Ieee.{round, ofBits}
 use Rattle.arithmetic.specs.Floats.{dec, one}
-use Rattle.arithmetic.specs.Tables.{at}
 use Rattle.models.proofs.ColumnLaws.{unit-added}
 use Rattle.models.proofs.columns.add_unit_row.Statement.{statement}
 use Rattle.models.proofs.columns.add_unit_row.Tie as tie
@@ -14,7 +13,7 @@ unfolding one dec round ofBits
 returns c =
     let s = c .before .before .before .before .before .before .before in
     let row = c .before .before in
-    unit-added (s .args .n) (s .args .i) (s .args .w) (at (now (s .args .row))) (now (s .args .sums)) _ (s .pre .2) (s .pre .0) refl (row .add-row .ensures) (row .add-row .kept .1 .1 .1 .0)
+    unit-added _ _ _ _ (now (s .args .sums)) _ (s .pre .2) (s .pre .0) refl (row .add-row .ensures) (row .add-row .kept .1 .1 .1 .0)
 
 pub add-unit-row-spec : {M : Type 1} → statement M
 add-unit-row-spec =

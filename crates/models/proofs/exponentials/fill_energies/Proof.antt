@@ -8,6 +8,7 @@ use denote.Ref.{now}
 use lib.Ieee.{neg}
 use lib.ListN.{length}
 use borrow.Rule.Slice.PartMut.{same-len-mid}
+use borrow.Author.Needs.{needs}
 use Rattle.arithmetic.specs.Floats.{_⊖_, _⊘_}
 use Rattle.arithmetic.specs.Tables.{grid, flat, Filled}
 use Rattle.arithmetic.proofs.TableLaws.{row-end, from-length, filled-none}
@@ -31,35 +32,14 @@ ends c = (row-end _ (entry c .args .n) _ (c .loop-test .taken), mul-le-mul (entr
 loop-holds : tie.Need-loop-holds Inv-loop μ-loop
 loop-holds c = (omega arith, refl, filled-none (omega arith))
 
-mul-at : tie.Need-mul-at Inv-loop μ-loop
-mul-at c = omega (arith, ends c)
-
-mul-fill-arguments : tie.Need-mul-fill-arguments Inv-loop μ-loop
-mul-fill-arguments c = omega (arith, ends c)
-
-sub-fill-arguments : tie.Need-sub-fill-arguments Inv-loop μ-loop
-sub-fill-arguments c = omega (arith, ends c)
-
-part-fill-arguments-start : tie.Need-part-fill-arguments-start Inv-loop μ-loop
-part-fill-arguments-start c = omega (arith, ends c)
-
-mul-fill-arguments-2 : tie.Need-mul-fill-arguments-2 Inv-loop μ-loop
-mul-fill-arguments-2 c = omega (arith, ends (c .before))
-
-sub-fill-arguments-2 : tie.Need-sub-fill-arguments-2 Inv-loop μ-loop
-sub-fill-arguments-2 c = omega (arith, ends (c .before))
-
-part-fill-arguments-start-2 : tie.Need-part-fill-arguments-start-2 Inv-loop μ-loop
-part-fill-arguments-start-2 c = omega (arith, ends (c .before))
-
 fill-arguments-requires : tie.Need-fill-arguments-requires Inv-loop μ-loop
 fill-arguments-requires c κs =
     let turn = c .before .before in
-    let s = turn .before .loop .i * entry turn .args .n in (
-      omega (arith, from-length s (now (entry turn .args .values)), ends turn),
-      omega (arith, from-length s (turn .before .loop .out), ends turn),
-      turn .loop-test .taken,
-    )
+    let place = turn .before .loop .i * entry turn .args .n in
+    let end = ends turn in
+    let row = from-length place (now (entry turn .args .values)) in
+    let out-row = from-length place (turn .before .loop .out) in
+    search needs
 
 loop-again : tie.Need-loop-again Inv-loop μ-loop
 loop-again c =
@@ -79,9 +59,6 @@ loop-again c =
 mul-exp-each : tie.Need-mul-exp-each Inv-loop μ-loop
 mul-exp-each c = let start = c .before .before .before .before .before in omega (arith, mul-le-mul (start .pre .0) (start .pre .0))
 
-same-length : tie.Need-same-length Inv-loop μ-loop
-same-length c = c .before .before .exp-each .kept .0 ∙ c .before .before .before .before .before .loop .inv .1
-
 returns : tie.Need-returns Inv-loop μ-loop
 returns c =
     let each = c .before .before in
@@ -95,14 +72,14 @@ fill-energies-spec =
     Inv-loop
     μ-loop
     loop-holds
-    mul-at
-    mul-fill-arguments
-    sub-fill-arguments
-    part-fill-arguments-start
+    (λ c. omega (arith, ends c))
+    (λ c. omega (arith, ends c))
+    (λ c. omega (arith, ends c))
+    (λ c. omega (arith, ends c))
     (λ c. omega arith)
-    mul-fill-arguments-2
-    sub-fill-arguments-2
-    part-fill-arguments-start-2
+    (λ c. omega (arith, ends (c .before)))
+    (λ c. omega (arith, ends (c .before)))
+    (λ c. omega (arith, ends (c .before)))
     (λ c. omega arith)
     fill-arguments-requires
     (λ c. omega arith)
@@ -110,5 +87,5 @@ fill-energies-spec =
     loop-again
     mul-exp-each
     (λ c κs. omega arith)
-    same-length
+    (λ c. c .before .before .exp-each .kept .0 ∙ c .before .before .before .before .before .loop .inv .1)
     returns)

@@ -11,18 +11,20 @@ use Rattle.models.proofs.exports.call.Statement.{statement}
 use Rattle.models.proofs.exports.call.Tie as tie
 
 returns : tie.Need-returns
-returns c = exported-rest (c .before .before .before .before .before .args .model) (c .before .before .before .before .before .args .n) (c .before .before .before .before .before .args .ng) (now (c .before .before .before .before .before .args .lens)) (now (c .before .before .before .before .before .args .groups)) (now (c .before .before .before .before .before .args .values)) (c .before .before .before .before .before .args .t) (now (c .before .before .before .before .before .args .x)) (c .before .before .before .before .before .args .q) (c .if1 .taken)
+returns c = exported-rest _ _ _ _ _ _ _ _ _ (c .if1 .taken)
 
 returns-2 : tie.Need-returns-2
-returns-2 c = exported-whole (c .before .before .before .before .before .before .args .model) (c .before .before .before .before .before .before .args .n) (c .before .before .before .before .before .before .args .ng) (now (c .before .before .before .before .before .before .args .lens)) (now (c .before .before .before .before .before .before .args .groups)) (now (c .before .before .before .before .before .before .args .values)) (c .before .before .before .before .before .before .args .t) (now (c .before .before .before .before .before .before .args .x)) (c .before .before .before .before .before .before .args .q) (c .before .if1 .left) (exported-long _ _ _ _ _ _ _ _ _ (omega (arith, length-eights (now (c .before .before .before .before .before .before .args .values)))))
+returns-2 c =
+    let values = now (c .before .before .before .before .before .before .args .values) in
+    exported-whole _ _ _ _ _ values _ _ _ (c .before .if1 .left) (exported-long _ _ _ _ _ _ _ _ _ (omega (arith, length-eights values)))
 
 returns-3 : tie.Need-returns-3
 returns-3 c =
     let whole = c .before .before .before .before .before .before .if1 .left in
-    exported-whole (c .before .before .before .before .before .before .before .before .before .before .before .args .model) (c .before .before .before .before .before .before .before .before .before .before .before .args .n) (c .before .before .before .before .before .before .before .before .before .before .before .args .ng) (now (c .before .before .before .before .before .before .before .before .before .before .before .args .lens)) (now (c .before .before .before .before .before .before .before .before .before .before .before .args .groups)) (now (c .before .before .before .before .before .before .before .before .before .before .before .args .values)) (c .before .before .before .before .before .before .before .before .before .before .before .args .t) (now (c .before .before .before .before .before .before .before .before .before .before .before .args .x)) (c .before .before .before .before .before .before .before .before .before .before .before .args .q) whole
-    (c .call-with .ensures
-    ∙ ap (λ (l : List Float). exportedBy (c .before .before .before .before .before .before .before .before .before .before .before .args .model) (c .before .before .before .before .before .before .before .before .before .before .before .args .n) (c .before .before .before .before .before .before .before .before .before .before .before .args .ng) (now (c .before .before .before .before .before .before .before .before .before .before .before .args .lens)) (now (c .before .before .before .before .before .before .before .before .before .before .before .args .groups)) l (c .before .before .before .before .before .before .before .before .before .before .before .args .t) (now (c .before .before .before .before .before .before .before .before .before .before .before .args .x)) (c .before .before .before .before .before .before .before .before .before .before .before .args .q))
-    (c .before .before .before .fill-floats .ensures .1 ∙ whole-eights (now (c .before .before .before .before .before .before .before .before .before .before .before .args .values)) _ (omega (arith, whole))))
+    let a = c .before .before .before .before .before .before .before .before .before .before .before .args in
+    let decoded = c .before .before .before .fill-floats .ensures .1 ∙ whole-eights (now (a .values)) _ (omega (arith, whole)) in
+    exported-whole _ _ _ _ _ (now (a .values)) _ _ _ whole
+    (c .call-with .ensures ∙ ap (λ (l : List Float). exportedBy (a .model) (a .n) (a .ng) (now (a .lens)) (now (a .groups)) l (a .t) (now (a .x)) (a .q)) decoded)
 
 pub call-spec : {M : Type 1} → statement M
 call-spec =

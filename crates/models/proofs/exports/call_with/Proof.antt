@@ -34,12 +34,13 @@ value-at-requires c κs =
 returns-3 : tie.Need-returns-3
 unfolding exportedBy
 returns-3 c =
-    let load = c .before .before .before .before .before .before .before .before .load-fault in
-    let given = c .before .before .before .before .before .before .fractions-fault in
-    answer-value (first-right (load .ensures .0) (c .before .before .before .before .before .before .before .if1 .left) (given .ensures .0)) (c .before .before .before .before .before .if2 .left)
-    (c .value-at .ensures
-    ∙ ap (λ (l : List Float). valueAt (c .before .before .before .before .before .before .before .before .before .before .before .before .before .args .model) (c .before .before .before .before .before .before .before .before .before .before .before .before .before .args .n) (c .before .before .before .before .before .before .before .before .before .before .before .before .before .args .ng) (now (c .before .before .before .before .before .before .before .before .before .before .before .before .before .args .lens)) (now (c .before .before .before .before .before .before .before .before .before .before .before .before .before .args .groups)) (now (c .before .before .before .before .before .before .before .before .before .before .before .before .before .args .values)) (c .before .before .before .before .before .before .before .before .before .before .before .before .before .args .t) (at l) (c .before .before .before .before .before .before .before .before .before .before .before .before .before .args .q))
-    (c .before .before .before .fill-floats .ensures .1 ∙ whole-eights (now (c .before .before .before .before .before .before .before .before .before .before .before .before .before .args .x)) (c .before .before .before .before .before .before .before .before .before .before .before .before .before .args .n) (given .ensures .1 (c .before .before .before .before .before .if2 .left) .0)))
+    let passed = c .before .before .before .before .before in
+    let load = passed .before .before .before in
+    let given = passed .before .fractions-fault .ensures in
+    let a = load .before .before .before .before .before .args in
+    let decoded = c .before .before .before .fill-floats .ensures .1 ∙ whole-eights (now (a .x)) (a .n) (given .1 (passed .if2 .left) .0) in
+    answer-value (first-right (load .load-fault .ensures .0) (passed .before .before .if1 .left) (given .0)) (passed .if2 .left)
+    (c .value-at .ensures ∙ ap (λ (l : List Float). valueAt (a .model) (a .n) (a .ng) (now (a .lens)) (now (a .groups)) (now (a .values)) (a .t) (at l) (a .q)) decoded)
 
 pub call-with-spec : {M : Type 1} → statement M
 call-with-spec =

@@ -1,7 +1,6 @@
 -- The first of 5, 6 and 7, by the laws on fractions in bytes; a 0 has whole eights, n of them.
 use mathlib.Core.Path.{sym, _∙_}
 use native.Mathlib.Omega.{arith}
-use denote.Ref.{now}
 use lib.Ieee.{round, ofBits}
 use borrow.Author.Tests.{eq-eqb, ne-eqb}
 use Rattle.arithmetic.specs.Floats.{dec}
@@ -11,32 +10,48 @@ use Rattle.models.proofs.exports.fractions_fault.Statement.{statement}
 use Rattle.models.proofs.exports.fractions_fault.Tie as tie
 
 returns : tie.Need-returns
-returns c = (eights-empty (c .before .before .args .n) (now (c .before .before .args .x)) (c .before .before .args .q) _ (c .if1 .taken), λ e. absurd (omega arith))
+returns c = (eights-empty _ _ _ _ (c .if1 .taken), λ e. absurd (omega arith))
 
 returns-2 : tie.Need-returns-2
 unfolding tolerance dec round ofBits
-returns-2 c = (eights-off (c .before .before .before .before .before .args .n) (now (c .before .before .before .before .before .args .x)) (c .before .before .before .before .before .args .q) _ (omega arith) (c .before .before .sum-floats .ensures) (c .before .sum-fault .ensures) (c .if2 .taken), λ e. absurd (c .if2 .taken e))
+returns-2 c = (eights-off _ _ _ _ (omega arith) (c .before .before .sum-floats .ensures) (c .before .sum-fault .ensures) (c .if2 .taken), λ e. absurd (c .if2 .taken e))
 
 returns-3 : tie.Need-returns-3
 unfolding tolerance dec round ofBits
-returns-3 c = (eights-length (c .before .before .before .before .before .before .args .n) (now (c .before .before .before .before .before .before .args .x)) (c .before .before .before .before .before .before .args .q) _ (omega arith) (c .before .before .before .sum-floats .ensures) (c .before .before .sum-fault .ensures) (c .before .if2 .left) (c .if3 .taken), λ e. absurd (omega arith))
+returns-3 c =
+    let sum = c .before .before in
+    (eights-length _ _ _ _ (omega arith) (sum .before .sum-floats .ensures) (sum .sum-fault .ensures) (c .before .if2 .left) (c .if3 .taken), λ e. absurd (omega arith))
 
 returns-4 : tie.Need-returns-4
 unfolding tolerance dec round ofBits
 returns-4 c =
-    (eights-index (c .before .before .before .before .before .before .before .before .args .n) (now (c .before .before .before .before .before .before .before .before .args .x)) (c .before .before .before .before .before .before .before .before .args .q) _ (omega arith) (c .before .before .before .before .before .sum-floats .ensures) (c .before .before .before .before .sum-fault .ensures) (c .before .before .before .if2 .left) (c .before .before .if3 .left) (c .before .index-fault .ensures) (c .if4 .taken), λ e. absurd (c .if4 .taken e))
+    let length = c .before .before in
+    let sum = length .before .before in (
+      eights-index _ _ _ _ (omega arith) (sum .before .sum-floats .ensures) (sum .sum-fault .ensures) (length .before .if2 .left) (length .if3 .left)
+          (c .before .index-fault .ensures) (c .if4 .taken),
+      λ e. absurd (c .if4 .taken e),
+    )
 
 returns-5 : tie.Need-returns-5
 unfolding tolerance dec round ofBits
 returns-5 c =
-    (eights-rest (c .before .before .before .before .before .before .before .before .before .args .n) (now (c .before .before .before .before .before .before .before .before .before .args .x)) (c .before .before .before .before .before .before .before .before .before .args .q) _ (omega arith) (c .before .before .before .before .before .before .sum-floats .ensures) (c .before .before .before .before .before .sum-fault .ensures) (c .before .before .before .before .if2 .left) (c .before .before .before .if3 .left) (c .before .before .index-fault .ensures) (c .before .if4 .left) (rw (ne-eqb _ _ (c .if5 .taken))), λ e. absurd (omega arith))
+    let length = c .before .before .before in
+    let sum = length .before .before in (
+      eights-rest _ _ _ _ (omega arith) (sum .before .sum-floats .ensures) (sum .sum-fault .ensures) (length .before .if2 .left) (length .if3 .left)
+          (c .before .before .index-fault .ensures) (c .before .if4 .left) (rw (ne-eqb _ _ (c .if5 .taken))),
+      λ e. absurd (omega arith),
+    )
 
 returns-6 : tie.Need-returns-6
 unfolding tolerance dec round ofBits
-returns-6 c = (
-  eights-rest (c .before .before .before .before .before .before .before .before .before .args .n) (now (c .before .before .before .before .before .before .before .before .before .args .x)) (c .before .before .before .before .before .before .before .before .before .args .q) _ (omega arith) (c .before .before .before .before .before .before .sum-floats .ensures) (c .before .before .before .before .before .sum-fault .ensures) (c .before .before .before .before .if2 .left) (c .before .before .before .if3 .left) (c .before .before .index-fault .ensures) (c .before .if4 .left) (rw (eq-eqb _ _ (c .if5 .left))),
-  λ e. (omega (arith, c .before .before .before .if3 .left, c .if5 .left), sym (c .before .before .index-fault .ensures) ∙ c .before .if4 .left),
-)
+returns-6 c =
+    let length = c .before .before .before in
+    let sum = length .before .before in
+    let index = c .before .before .index-fault .ensures in (
+      eights-rest _ _ _ _ (omega arith) (sum .before .sum-floats .ensures) (sum .sum-fault .ensures) (length .before .if2 .left) (length .if3 .left)
+          index (c .before .if4 .left) (rw (eq-eqb _ _ (c .if5 .left))),
+      λ e. (omega (arith, length .if3 .left, c .if5 .left), sym index ∙ c .before .if4 .left),
+    )
 
 pub fractions-fault-spec : {M : Type 1} → statement M
 fractions-fault-spec =

@@ -1,10 +1,9 @@
 -- The loop keeps the sum of the floats passed; at its end these are all.
 use mathlib.Core.Path.{_≡_, refl, _∙_}
-use Prim.Native.Nat.{_*_, _-_, _≤_}
+use Prim.Native.Nat.{_*_, _-_, _≤_, _/_}
 use native.Mathlib.Omega.{arith}
 use borrow.Author.Needs.{needs}
 use lib.ListN.{length}
-use Prim.Native.Nat.{_/_}
 use Rattle.arithmetic.specs.Bytes.{floatAt}
 use Rattle.arithmetic.specs.Sums.{sum}
 use Rattle.arithmetic.proofs.SumLaws.{sum-none, sum-more, sum-done}

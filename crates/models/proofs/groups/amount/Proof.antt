@@ -22,7 +22,8 @@ loop-holds : tie.Need-loop-holds Inv-loop μ-loop
 loop-holds c = (omega arith, refl, amount-none _ _)
 
 add-counts-requires : tie.Need-add-counts-requires Inv-loop μ-loop
-add-counts-requires c κs = (listed-less (c .before .before .before .before .before .before .before .before .pre .0) (c .before .before .before .loop .i) _ (c .before .before .loop-test .taken) (omega arith), omega arith)
+add-counts-requires c κs =
+    (listed-less (c .before .before .before .before .before .before .before .before .pre .0) (c .before .before .before .loop .i) _ (c .before .before .loop-test .taken) (omega arith), omega arith)
 
 loop-again : tie.Need-loop-again Inv-loop μ-loop
 loop-again c =

@@ -3,6 +3,7 @@ use mathlib.Core.Path.{_≡_}
 use Prim.Native.Nat.{_+_, _-_, _≤_}
 use native.Mathlib.Omega.{arith}
 use lib.ListN.{getD}
+use borrow.Author.Needs.{needs}
 use Rattle.arithmetic.specs.Tables.{at}
 use Rattle.arithmetic.specs.Sums.{sum}
 use Rattle.arithmetic.specs.Floats.{_⊗_}
@@ -24,9 +25,8 @@ loop-holds c = (omega arith, sum-none _)
 
 count-sum-requires : tie.Need-count-sum-requires Inv-loop μ-loop
 count-sum-requires c κs =
-    let start = c .before .before .before .before .before .before .before in
-    let list = listed-less (start .pre .0) (c .before .before .loop .i) 32 (c .before .loop-test .taken) (omega arith) in
-    (list .many, list .counted, omega arith)
+    let list = listed-less (c .before .before .before .before .before .before .before .pre .0) (c .before .before .loop .i) 32 (c .before .loop-test .taken) (omega arith) in
+    search needs
 
 loop-again : tie.Need-loop-again Inv-loop μ-loop
 loop-again c = (omega arith, sum-more _ _ (c .before .before .before .loop .inv .1) (rw (c .count-sum .ensures)))

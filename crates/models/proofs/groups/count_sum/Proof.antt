@@ -12,18 +12,6 @@ use Rattle.models.proofs.groups.count_sum.Tie as tie
 ends : (c : tie.After-shared-slice-known3) → c .before .start-of .result + getD (now (c .before .before .before .before .args .lens)) (c .before .before .before .before .args .i) 0 ≤ length (now (c .before .before .before .before .args .counts))
 ends c = let start = c .before .before .before .before in omega (arith, start-more (now (start .args .lens)) (start .args .i) (c .before .start-of .ensures) refl, start .pre .1)
 
-cast-end : tie.Need-cast-end
-cast-end c = omega (arith, c .shared-slice-known3 .given (c .before .before .before .before .args .i))
-
-add-end : tie.Need-add-end
-add-end c = omega (arith, ends c, c .before .before .before .before .good)
-
-mul-sum : tie.Need-mul-sum
-mul-sum c = omega (arith, ends c, c .before .before .before .before .good)
-
-part-sum-end : tie.Need-part-sum-end
-part-sum-end c = omega (arith, ends c)
-
 returns : tie.Need-returns
 returns c = let known = c .before .before in counts-is _ _ (known .before .before .before .before .args .i) (known .before .start-of .ensures) (ends known) (c .sum .ensures)
 
@@ -33,11 +21,11 @@ count-sum-spec =
     (tie.spec
     (λ c κs. search needs)
     (λ c. search needs)
-    cast-end
-    add-end
-    mul-sum
+    (λ c. omega (arith, c .shared-slice-known3 .given (c .before .before .before .before .args .i)))
+    (λ c. omega (arith, ends c, c .before .before .before .before .good))
+    (λ c. omega (arith, ends c, c .before .before .before .before .good))
     (λ c. search needs)
     (λ c. search needs)
-    part-sum-end
+    (λ c. omega (arith, ends c))
     (λ c κs. tt)
     returns)

@@ -7,18 +7,9 @@ use Rattle.models.specs.Values.{countsAt}
 use Rattle.models.proofs.groups.counts_at.Statement.{statement}
 use Rattle.models.proofs.groups.counts_at.Tie as tie
 
-mul-result : tie.Need-mul-result
-mul-result c = omega (arith, mul-le-mul (c .pre) (c .pre))
-
-mul-result-2 : tie.Need-mul-result-2
-mul-result-2 c = omega (arith, mul-le-mul (c .pre) (c .pre))
-
-add-result-2 : tie.Need-add-result-2
-add-result-2 c = omega (arith, mul-le-mul (c .pre) (c .pre))
-
 returns : tie.Need-returns
 unfolding countsAt
 returns c = (refl, omega (arith, mul-le-mul (c .pre) (c .pre)))
 
 pub counts-at-spec : {M : Type 1} → statement M
-counts-at-spec = tie.close (tie.spec (λ c. search needs) mul-result mul-result-2 add-result-2 returns)
+counts-at-spec = tie.close (tie.spec (λ c. search needs) (λ c. omega (arith, mul-le-mul (c .pre) (c .pre))) (λ c. omega (arith, mul-le-mul (c .pre) (c .pre))) (λ c. omega (arith, mul-le-mul (c .pre) (c .pre))) returns)

@@ -8,7 +8,9 @@ use Rattle.models.proofs.groups.group_fractions_pure.Tie as tie
 
 returns : tie.Need-returns
 unfolding Unifac.counts lists
-returns c = pure-over _ (c .before .before .before .before .before .before .before .before .before .args .i) _ (c .before .before .count-sum .ensures) (c .before .before .before .before .before .before .before .before .before .pre .2) (c .before .before .before .before .put-counts .ensures) (c .over .ensures)
+returns c =
+    let start = c .before .before .before .before .before .before .before .before .before in
+    pure-over _ (start .args .i) _ (c .before .before .count-sum .ensures) (start .pre .2) (c .before .before .before .before .put-counts .ensures) (c .over .ensures)
 
 pub group-fractions-pure-spec : {M : Type 1} → statement M
 group-fractions-pure-spec =

@@ -22,9 +22,6 @@ abbrev μ-loop : tie.MeasureT-loop
 loop-holds : tie.Need-loop-holds Inv-loop μ-loop
 loop-holds c = (omega arith, first-none _, λ k h. absurd (omega arith))
 
-cast-if1 : tie.Need-cast-if1 Inv-loop μ-loop
-cast-if1 c = omega (arith, c .shared-slice-known .given (c .before .before .loop .p))
-
 returns : tie.Need-returns Inv-loop μ-loop
 unfolding groupsFault placeFault ofBits
 returns c =
@@ -57,7 +54,7 @@ groups-fault-spec =
     μ-loop
     loop-holds
     (λ c. omega arith)
-    cast-if1
+    (λ c. omega (arith, c .shared-slice-known .given (c .before .before .loop .p)))
     returns
     (λ c. omega arith)
     (λ c. omega arith)

@@ -1,22 +1,21 @@
 -- The four tests in order; a return of true has passed them all.
-use mathlib.Core.Path.{_≡_}
-use Prim.Native.Nat.{ℕ}
-use native.Mathlib.Omega.{arith}
+use mathlib.Core.Path.{sym}
+use mathlib.Core.Bool.{true≢false}
 use borrow.Author.Tests.{le-leb, lt-leb}
 use Rattle.models.proofs.groups.in_range.Statement.{statement}
 use Rattle.models.proofs.groups.in_range.Tie as tie
 
 returns : tie.Need-returns
-returns c = (simp (lt-leb _ _ (c .if1 .taken)), λ e. let z : _≡_ {A = ℕ} 0 1 = cc in absurd (omega arith))
+returns c = (simp (lt-leb _ _ (c .if1 .taken)), λ e. absurd (true≢false (sym e)))
 
 returns-2 : tie.Need-returns-2
-returns-2 c = (simp (le-leb _ _ (c .before .if1 .left), lt-leb _ _ (c .if2 .taken)), λ e. let z : _≡_ {A = ℕ} 0 1 = cc in absurd (omega arith))
+returns-2 c = (simp (le-leb _ _ (c .before .if1 .left), lt-leb _ _ (c .if2 .taken)), λ e. absurd (true≢false (sym e)))
 
 returns-3 : tie.Need-returns-3
-returns-3 c = (simp (le-leb _ _ (c .before .before .if1 .left), le-leb _ _ (c .before .if2 .left), lt-leb _ _ (c .if3 .taken)), λ e. let z : _≡_ {A = ℕ} 0 1 = cc in absurd (omega arith))
+returns-3 c = (simp (le-leb _ _ (c .before .before .if1 .left), le-leb _ _ (c .before .if2 .left), lt-leb _ _ (c .if3 .taken)), λ e. absurd (true≢false (sym e)))
 
 returns-4 : tie.Need-returns-4
-returns-4 c = (simp (le-leb _ _ (c .before .before .before .if1 .left), le-leb _ _ (c .before .before .if2 .left), le-leb _ _ (c .before .if3 .left), lt-leb _ _ (c .if4 .taken)), λ e. let z : _≡_ {A = ℕ} 0 1 = cc in absurd (omega arith))
+returns-4 c = (simp (le-leb _ _ (c .before .before .before .if1 .left), le-leb _ _ (c .before .before .if2 .left), le-leb _ _ (c .before .if3 .left), lt-leb _ _ (c .if4 .taken)), λ e. absurd (true≢false (sym e)))
 
 returns-5 : tie.Need-returns-5
 returns-5 c = (simp (le-leb _ _ (c .before .before .before .if1 .left), le-leb _ _ (c .before .before .if2 .left), le-leb _ _ (c .before .if3 .left), le-leb _ _ (c .if4 .left)), λ e. (c .before .before .before .if1 .left, c .before .before .if2 .left, c .before .if3 .left, c .if4 .left))

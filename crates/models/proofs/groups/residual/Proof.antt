@@ -14,7 +14,7 @@ use Rattle.models.proofs.groups.residual.Statement.{statement}
 use Rattle.models.proofs.groups.residual.Tie as tie
 
 abbrev Inv-loop : tie.InvT-loop
-Inv-loop lens groups counts m p i start len resid₀ k₀ resid k = (k ≤ len) × (start + len ≤ length groups) × (start + len ≤ length counts) × (resid ≡ sum k (λ k. at counts (start + k) ⊗ (at m (getD groups (start + k) 0) ⊖ at p (getD groups (start + k) 0))))
+Inv-loop lens groups counts m p i start len resid₀ k₀ resid k = ((start + len ≤ length groups) × (start + len ≤ length counts)) × (k ≤ len) × (resid ≡ sum k (λ k. at counts (start + k) ⊗ (at m (getD groups (start + k) 0) ⊖ at p (getD groups (start + k) 0))))
 
 abbrev μ-loop : tie.MeasureT-loop
 μ-loop lens groups counts m p i start len resid₀ k₀ resid k = len - k
@@ -22,41 +22,22 @@ abbrev μ-loop : tie.MeasureT-loop
 abbrev entry : tie.In-loop Inv-loop μ-loop → tie.Start Inv-loop μ-loop
 entry c = c .before .before .before .before .before .before .before .before .before
 
+-- the group of place k lies within m
 group : (c : tie.In-loop Inv-loop μ-loop) → getD (now (entry c .args .groups)) (c .before .before .before .start-of .result + c .before .loop .k) 0 < length (now (entry c .args .m))
 group c = list-group (entry c .args .i) (entry c .pre .0) (c .before .before .before .start-of .ensures) (c .before .loop .k) (c .loop-test .taken)
-
-cast-len : tie.Need-cast-len Inv-loop μ-loop
-cast-len c = omega (arith, c .shared-slice-known6 .given (c .before .before .before .before .before .before .before .args .i))
 
 loop-holds : tie.Need-loop-holds Inv-loop μ-loop
 loop-holds c =
     let start = c .before .before .before .before .before .before .before in
-    let ends = list-ends (start .args .i) (start .pre .0) (c .before .start-of .ensures) in
-    (omega arith, ends .0, ends .1, sum-none _)
-
-cast-g : tie.Need-cast-g Inv-loop μ-loop
-cast-g c = omega (arith, group (c .before))
-
-mul-resid-2 : tie.Need-mul-resid-2 Inv-loop μ-loop
-mul-resid-2 c = omega (arith, group (c .before .before))
-
-shared-slice-read-resid-2 : tie.Need-shared-slice-read-resid-2 Inv-loop μ-loop
-shared-slice-read-resid-2 c = omega (arith, group (c .before .before .before))
-
-mul-resid-3 : tie.Need-mul-resid-3 Inv-loop μ-loop
-mul-resid-3 c = omega (arith, group (c .before .before .before))
-
-shared-slice-read-resid-3 : tie.Need-shared-slice-read-resid-3 Inv-loop μ-loop
-shared-slice-read-resid-3 c = omega (arith, group (c .before .before .before .before))
+    (list-ends (start .args .i) (start .pre .0) (c .before .start-of .ensures), omega arith, sum-none _)
 
 loop-again : tie.Need-loop-again Inv-loop μ-loop
-loop-again c = (omega arith, c .before .before .before .before .before .loop .inv .1, c .before .before .before .before .before .loop .inv .2, search (sum-more, needs))
+loop-again c = (c .before .before .before .before .before .loop .inv .0, omega arith, search (sum-more, needs))
 
 returns : tie.Need-returns Inv-loop μ-loop
 returns c =
-    let start = c .before .before .before .before .before .before .before .before .before in
-    residual-is _ _ _ (start .args .i) (c .before .before .before .start-of .ensures) (at (now (start .args .m))) (at (now (start .args .p)))
-    (sum-done _ _ _ (c .before .loop .inv .3) (c .before .loop .inv .0) (c .loop-test .left))
+    residual-is _ _ _ _ (c .before .before .before .start-of .ensures) _ _
+    (sum-done _ _ _ (c .before .loop .inv .2) (c .before .loop .inv .1) (c .loop-test .left))
 
 pub residual-spec : {M : Type 1} → statement M
 residual-spec =
@@ -66,17 +47,17 @@ residual-spec =
     μ-loop
     (λ c κs. search needs)
     (λ c. omega arith)
-    cast-len
+    (λ c. omega (arith, c .shared-slice-known6 .given (c .before .before .before .before .before .before .before .args .i)))
     loop-holds
     (λ c. omega arith)
     (λ c. omega arith)
-    cast-g
+    (λ c. omega (arith, group (c .before)))
     (λ c. omega arith)
     (λ c. omega arith)
-    mul-resid-2
-    shared-slice-read-resid-2
-    mul-resid-3
-    shared-slice-read-resid-3
+    (λ c. omega (arith, group (c .before .before)))
+    (λ c. omega (arith, group (c .before .before .before)))
+    (λ c. omega (arith, group (c .before .before .before)))
+    (λ c. omega (arith, group (c .before .before .before .before)))
     (λ c. omega arith)
     (λ c. omega arith)
     loop-again

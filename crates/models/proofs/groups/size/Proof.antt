@@ -15,7 +15,7 @@ use Rattle.models.proofs.groups.size.Statement.{statement}
 use Rattle.models.proofs.groups.size.Tie as tie
 
 abbrev Inv-loop : tie.InvT-loop
-Inv-loop lens groups counts s i start len r-i₀ p₀ r-i p = (p ≤ len) × (start + len ≤ length groups) × (start + len ≤ length counts) × (r-i ≡ sum p (λ p. at counts (start + p) ⊗ at s (getD groups (start + p) 0)))
+Inv-loop lens groups counts s i start len r-i₀ p₀ r-i p = ((start + len ≤ length groups) × (start + len ≤ length counts)) × (p ≤ len) × (r-i ≡ sum p (λ p. at counts (start + p) ⊗ at s (getD groups (start + p) 0)))
 
 abbrev μ-loop : tie.MeasureT-loop
 μ-loop lens groups counts s i start len r-i₀ p₀ r-i p = len - p
@@ -23,34 +23,21 @@ abbrev μ-loop : tie.MeasureT-loop
 abbrev entry : tie.In-loop Inv-loop μ-loop → tie.Start Inv-loop μ-loop
 entry c = c .before .before .before .before .before .before .before .before
 
+-- the group of place p lies within s
 group : (c : tie.In-loop Inv-loop μ-loop) → getD (now (entry c .args .groups)) (c .before .before .before .start-of .result + c .before .loop .p) 0 < length (now (entry c .args .s))
 group c = list-group (entry c .args .i) (entry c .pre .0) (c .before .before .before .start-of .ensures) (c .before .loop .p) (c .loop-test .taken)
-
-cast-len : tie.Need-cast-len Inv-loop μ-loop
-cast-len c = omega (arith, c .shared-slice-known5 .given (c .before .before .before .before .before .before .args .i))
 
 loop-holds : tie.Need-loop-holds Inv-loop μ-loop
 loop-holds c =
     let start = c .before .before .before .before .before .before in
-    let ends = list-ends (start .args .i) (start .pre .0) (c .before .start-of .ensures) in
-    (omega arith, ends .0, ends .1, sum-none _)
-
-cast-g : tie.Need-cast-g Inv-loop μ-loop
-cast-g c = omega (arith, group (c .before))
-
-mul-r-i-2 : tie.Need-mul-r-i-2 Inv-loop μ-loop
-mul-r-i-2 c = omega (arith, group (c .before .before))
-
-shared-slice-read-r-i-2 : tie.Need-shared-slice-read-r-i-2 Inv-loop μ-loop
-shared-slice-read-r-i-2 c = omega (arith, group (c .before .before .before))
+    (list-ends (start .args .i) (start .pre .0) (c .before .start-of .ensures), omega arith, sum-none _)
 
 loop-again : tie.Need-loop-again Inv-loop μ-loop
-loop-again c = (omega arith, c .before .before .before .before .loop .inv .1, c .before .before .before .before .loop .inv .2, search (sum-more, needs))
+loop-again c = (c .before .before .before .before .loop .inv .0, omega arith, search (sum-more, needs))
 
 returns : tie.Need-returns Inv-loop μ-loop
 returns c =
-    let start = c .before .before .before .before .before .before .before .before in
-    size-is _ _ _ (start .args .i) (c .before .before .before .start-of .ensures) (at (now (start .args .s))) (sum-done _ _ _ (c .before .loop .inv .3) (c .before .loop .inv .0) (c .loop-test .left))
+    size-is _ _ _ _ (c .before .before .before .start-of .ensures) _ (sum-done _ _ _ (c .before .loop .inv .2) (c .before .loop .inv .1) (c .loop-test .left))
 
 pub size-spec : {M : Type 1} → statement M
 size-spec =
@@ -60,15 +47,15 @@ size-spec =
     μ-loop
     (λ c κs. search needs)
     (λ c. omega arith)
-    cast-len
+    (λ c. omega (arith, c .shared-slice-known5 .given (c .before .before .before .before .before .before .args .i)))
     loop-holds
     (λ c. omega arith)
     (λ c. omega arith)
-    cast-g
+    (λ c. omega (arith, group (c .before)))
     (λ c. omega arith)
     (λ c. omega arith)
-    mul-r-i-2
-    shared-slice-read-r-i-2
+    (λ c. omega (arith, group (c .before .before)))
+    (λ c. omega (arith, group (c .before .before .before)))
     (λ c. omega arith)
     (λ c. omega arith)
     loop-again

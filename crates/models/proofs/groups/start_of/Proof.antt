@@ -18,12 +18,6 @@ abbrev μ-loop : tie.MeasureT-loop
 loop-holds : tie.Need-loop-holds Inv-loop μ-loop
 loop-holds c = (omega arith, omega arith, start-none _)
 
-cast-s : tie.Need-cast-s Inv-loop μ-loop
-cast-s c = omega (arith, c .shared-slice-known .given (c .before .before .loop .k))
-
-add-s : tie.Need-add-s Inv-loop μ-loop
-add-s c = omega (arith, c .shared-slice-known .given (c .before .before .loop .k))
-
 loop-again : tie.Need-loop-again Inv-loop μ-loop
 loop-again c = (omega arith, omega (arith, c .shared-slice-known .given (c .before .before .loop .k)), start-more _ _ (c .before .before .loop .inv .2) refl)
 
@@ -38,8 +32,8 @@ start-of-spec =
     μ-loop
     loop-holds
     (λ c. omega arith)
-    cast-s
-    add-s
+    (λ c. omega (arith, c .shared-slice-known .given (c .before .before .loop .k)))
+    (λ c. omega (arith, c .shared-slice-known .given (c .before .before .loop .k)))
     (λ c. omega arith)
     (λ c. omega arith)
     loop-again

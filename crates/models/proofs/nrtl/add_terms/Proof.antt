@@ -4,7 +4,6 @@ use borrow.Author.Needs.{needs}
 use denote.Ref.{now}
 use lib.Ieee.{round, ofBits}
 use Rattle.arithmetic.specs.Floats.{dec, one}
-use Rattle.arithmetic.specs.Tables.{at}
 use Rattle.models.proofs.NrtlLaws.{terms-added}
 use Rattle.models.proofs.nrtl.add_terms.Statement.{statement}
 use Rattle.models.proofs.nrtl.add_terms.Tie as tie
@@ -14,7 +13,7 @@ unfolding one dec round ofBits
 returns c =
     let s = c .before .before .before .before .before .before .before .before in
     let row = c .before .before in
-    terms-added (s .args .n) (s .args .i) (s .args .x) (at (now (s .args .g))) (at (now (s .args .tau))) (now (s .args .sums)) _ (s .pre .3) (s .pre .0) refl (row .add-products .ensures) (row .add-products .kept .0)
+    terms-added _ _ _ _ _ (now (s .args .sums)) _ (s .pre .3) (s .pre .0) refl (row .add-products .ensures) (row .add-products .kept .0)
 
 pub add-terms-spec : {M : Type 1} → statement M
 add-terms-spec =

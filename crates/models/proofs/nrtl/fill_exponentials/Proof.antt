@@ -1,39 +1,31 @@
 -- The arguments are written place by place, then each takes its exp.
-use mathlib.Core.Path.{_≡_, refl, _∙_}
-use Prim.Native.Nat.{_-_, _≤_}
+use mathlib.Core.Path.{refl, _∙_}
+use Prim.Native.Nat.{_-_}
 use native.Mathlib.Omega.{arith}
 use lib.Ieee.{neg}
-use lib.ListN.{length, length-set}
+use lib.ListN.{length}
 use Rattle.arithmetic.specs.Exponential.{expOf}
 use Rattle.arithmetic.specs.Floats.{_⊗_}
-use Rattle.arithmetic.specs.Tables.{at, Filled}
-use Rattle.arithmetic.proofs.TableLaws.{filled-none, filled-more, filled-less}
+use Rattle.arithmetic.specs.Tables.{at}
+use Rattle.arithmetic.proofs.TableLaws.{Filling, filling-none, filling-more, filling-done}
 use Rattle.models.proofs.ExponentialLaws.{each-filled}
 use Rattle.models.proofs.nrtl.fill_exponentials.Statement.{statement}
 use Rattle.models.proofs.nrtl.fill_exponentials.Tie as tie
 
 abbrev Inv-loop : tie.InvT-loop
-Inv-loop alpha tau count out₀ k₀ out k = (k ≤ count) × (length out ≡ length out₀) × Filled (λ k. neg (at alpha k) ⊗ at tau k) k out
+Inv-loop alpha tau count out₀ k₀ out k = Filling (λ k. neg (at alpha k) ⊗ at tau k) count (length out₀) k out
 
 abbrev μ-loop : tie.MeasureT-loop
 μ-loop alpha tau count out₀ k₀ out k = count - k
 
-loop-holds : tie.Need-loop-holds Inv-loop μ-loop
-loop-holds c = (omega arith, refl, filled-none (omega arith))
-
 loop-again : tie.Need-loop-again Inv-loop μ-loop
-loop-again c =
-    let top = c .before .before .before in
-    (omega arith, simp length-set (top .loop .inv .1), filled-more (omega arith) (omega arith) (top .loop .inv .2) refl)
-
-same-length : tie.Need-same-length Inv-loop μ-loop
-same-length c = c .before .before .exp-each .kept .0 ∙ c .before .before .before .before .before .loop .inv .1
+loop-again c = filling-more (omega arith) (c .before .before .before .loop .inv) refl
 
 returns : tie.Need-returns Inv-loop μ-loop
 returns c =
     let each = c .before .before in
     let done = each .before .before in
-    each-filled expOf _ _ (omega arith) (λ k b. refl) (filled-less (done .loop-test .left) (done .before .loop .inv .2)) (each .exp-each .ensures)
+    each-filled expOf _ _ (omega arith) (λ k b. refl) (filling-done (done .loop-test .left) (done .before .loop .inv)) (each .exp-each .ensures)
 
 pub fill-exponentials-spec : {M : Type 1} → statement M
 fill-exponentials-spec =
@@ -41,7 +33,7 @@ fill-exponentials-spec =
     (tie.spec
     Inv-loop
     μ-loop
-    loop-holds
+    (λ c. filling-none (omega arith) refl)
     (λ c. omega arith)
     (λ c. omega arith)
     (λ c. omega arith)
@@ -52,5 +44,5 @@ fill-exponentials-spec =
     (λ c. omega arith)
     loop-again
     (λ c κs. omega arith)
-    same-length
+    (λ c. c .before .before .exp-each .kept .0 ∙ c .before .before .before .before .before .loop .inv .long)
     returns)

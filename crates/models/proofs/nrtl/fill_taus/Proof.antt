@@ -5,9 +5,6 @@ use Rattle.models.specs.Values.{nrtlSize}
 use Rattle.models.proofs.nrtl.fill_taus.Statement.{statement}
 use Rattle.models.proofs.nrtl.fill_taus.Tie as tie
 
-mul-fill-values : tie.Need-mul-fill-values
-mul-fill-values c = omega (arith, mul-le-mul (c .before .before .pre .0) (c .before .before .pre .0))
-
 fill-values-requires : tie.Need-fill-values-requires
 unfolding nrtlSize
 fill-values-requires c κs =
@@ -15,11 +12,8 @@ fill-values-requires c κs =
     let small = mul-le-mul (start .pre .0) (start .pre .0) in
     (omega (arith, start .pre .1), start .pre .2, omega (arith, small))
 
-same-length : tie.Need-same-length
-same-length c = c .before .before .fill-values .kept .1 .1 .1 .0
-
 returns : tie.Need-returns
 returns c = c .before .before .fill-values .ensures
 
 pub fill-taus-spec : {M : Type 1} → statement M
-fill-taus-spec = tie.close (tie.spec mul-fill-values fill-values-requires same-length returns)
+fill-taus-spec = tie.close (tie.spec (λ c. omega (arith, mul-le-mul (c .before .before .pre .0) (c .before .before .pre .0))) fill-values-requires (λ c. c .before .before .fill-values .kept .1 .1 .1 .0) returns)

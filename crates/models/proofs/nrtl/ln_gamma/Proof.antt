@@ -3,69 +3,46 @@ use Prim.Native.Nat.{_+_, _*_, _≤_}
 use native.Mathlib.Omega.{arith}
 use borrow.Author.Needs.{needs}
 use denote.Ref.{now}
-use native.Mathlib.Nat.{mul-le-mul}
-use Rattle.arithmetic.specs.Tables.{at}
-use Rattle.arithmetic.proofs.TableLaws.{row-end, from-length}
+use native.Mathlib.Nat.{le-trans, mul-le-mul}
+use Rattle.arithmetic.proofs.TableLaws.{row-end, from-room}
 use Rattle.models.proofs.NrtlLaws.{second-rows}
 use Rattle.models.proofs.nrtl.ln_gamma.Statement.{statement}
 use Rattle.models.proofs.nrtl.ln_gamma.Tie as tie
 
--- the row i ends within the tables, and these within 144 places
-ends : (c : tie.Start) → c .args .i * c .args .n + c .args .n ≤ c .args .n * c .args .n
-ends c = row-end _ (c .args .n) _ (c .pre .1)
-
-small : (c : tie.Start) → c .args .n * c .args .n ≤ 144
-small c = mul-le-mul (c .pre .0) (c .pre .0)
-
-mul-start : tie.Need-mul-start
-mul-start c = omega (arith, ends (c .before .before .before .before .before), small (c .before .before .before .before .before))
-
-mul-second : tie.Need-mul-second
-mul-second c = omega (arith, ends (c .before .before .before .before .before .before .before), small (c .before .before .before .before .before .before .before))
-
-sub-second : tie.Need-sub-second
-sub-second c = omega (arith, ends (c .before .before .before .before .before .before .before), small (c .before .before .before .before .before .before .before))
-
-part-second-start : tie.Need-part-second-start
-part-second-start c = omega (arith, ends (c .before .before .before .before .before .before .before), small (c .before .before .before .before .before .before .before))
-
-mul-second-2 : tie.Need-mul-second-2
-mul-second-2 c = omega (arith, ends (c .before .before .before .before .before .before .before .before), small (c .before .before .before .before .before .before .before .before))
-
-sub-second-2 : tie.Need-sub-second-2
-sub-second-2 c = omega (arith, ends (c .before .before .before .before .before .before .before .before), small (c .before .before .before .before .before .before .before .before))
-
-part-second-start-2 : tie.Need-part-second-start-2
-part-second-start-2 c = omega (arith, ends (c .before .before .before .before .before .before .before .before), small (c .before .before .before .before .before .before .before .before))
+-- row i ends within the tables, and these within 144 places
+ends : (c : tie.Start) → (c .args .i * c .args .n + c .args .n ≤ c .args .n * c .args .n) × (c .args .n * c .args .n ≤ 144)
+ends c = (row-end _ (c .args .n) _ (c .pre .1), mul-le-mul (c .pre .0) (c .pre .0))
 
 second-requires : tie.Need-second-requires
 second-requires c κs =
     let start = c .before .before .before .before .before .before .before .before .before in
-    let at-row = start .args .i * start .args .n in
-    (omega (arith, from-length at-row (now (start .args .tau)), ends start), omega (arith, from-length at-row (now (start .args .g)), ends start), omega arith, omega arith, omega arith, start .pre .1, start .pre .0)
+    let pre = start .pre in
+    let tau-row = from-room (start .args .i * start .args .n) _ (now (start .args .tau)) (le-trans (ends start .0) (pre .2)) in
+    let g-row = from-room (start .args .i * start .args .n) _ (now (start .args .g)) (le-trans (ends start .0) (pre .3)) in
+    (tau-row, g-row, pre .4, pre .5, pre .6, pre .1, pre .0)
 
 returns : tie.Need-returns
 returns c =
     let start = c .before .before .before .before .before .before .before .before .before .before in
-    second-rows (start .args .n) (now (start .args .tau)) (now (start .args .g)) (at (now (start .args .u))) (at (now (start .args .d))) (at (now (start .args .x))) (start .args .i)
+    second-rows _ (now (start .args .tau)) (now (start .args .g)) _ _ _ _
     (omega (arith, ends start)) (omega (arith, ends start)) (c .second .ensures)
 
 pub ln-gamma-spec : {M : Type 1} → statement M
 ln-gamma-spec =
     tie.close
     (tie.spec
-    mul-start
+    (λ c. omega (arith, ends (c .before .before .before .before .before)))
     (λ c. search needs)
     (λ c. search needs)
     (λ c. search needs)
     (λ c. search needs)
-    mul-second
-    sub-second
-    part-second-start
+    (λ c. omega (arith, ends (c .before .before .before .before .before .before .before)))
+    (λ c. omega (arith, ends (c .before .before .before .before .before .before .before)))
+    (λ c. omega (arith, ends (c .before .before .before .before .before .before .before)))
     (λ c. search needs)
-    mul-second-2
-    sub-second-2
-    part-second-start-2
+    (λ c. omega (arith, ends (c .before .before .before .before .before .before .before .before)))
+    (λ c. omega (arith, ends (c .before .before .before .before .before .before .before .before)))
+    (λ c. omega (arith, ends (c .before .before .before .before .before .before .before .before)))
     (λ c. search needs)
     second-requires
     returns)

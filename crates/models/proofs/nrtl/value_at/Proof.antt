@@ -17,41 +17,23 @@ unfolding nrtlSize
 fits c = (c .pre .1, mul-le-mul (c .pre .0) (c .pre .0))
 
 fill-taus-requires : tie.Need-fill-taus-requires
-fill-taus-requires c κs = let start = c .before .before .before in (start .pre .0, start .pre .1, omega (arith, fits start))
-
-mul-at : tie.Need-mul-at
-mul-at c = omega (arith, fits (c .before .before .before .before .before))
-
-mul-at-2 : tie.Need-mul-at-2
-mul-at-2 c = omega (arith, fits (c .before .before .before .before .before))
-
-mul-fill-exponentials : tie.Need-mul-fill-exponentials
-mul-fill-exponentials c = omega (arith, fits (c .before .before .before .before .before))
-
-sub-fill-exponentials : tie.Need-sub-fill-exponentials
-sub-fill-exponentials c = omega (arith, fits (c .before .before .before .before .before))
-
-part-fill-exponentials-start : tie.Need-part-fill-exponentials-start
-part-fill-exponentials-start c = omega (arith, fits (c .before .before .before .before .before))
-
-mul-fill-exponentials-2 : tie.Need-mul-fill-exponentials-2
-mul-fill-exponentials-2 c = omega (arith, fits (c .before .before .before .before .before .before .before))
+fill-taus-requires c κs = let room = fits (c .before .before .before) in search needs
 
 fill-exponentials-requires : tie.Need-fill-exponentials-requires
 fill-exponentials-requires c κs =
     let start = c .before .before .before .before .before .before .before .before in
     let n = start .args .n in
-    (omega (arith, from-length (n * n * 5) (now (start .args .values)), fits start), omega (arith, c .before .before .before .before .fill-taus .kept .1 .1 .1 .0, fits start), omega (arith, fits start))
+    let room = fits start in
+    let part = from-length (n * n * 5) (now (start .args .values)) in
+    search needs
 
 value-over-requires : tie.Need-value-over-requires
-value-over-requires c κs =
-    let start = c .before .before .before .before .before .before .before .before .before .before .before .before in
-    (start .pre .0, omega (arith, c .before .before .before .before .before .before .before .before .fill-taus .kept .1 .1 .1 .0, fits start), omega (arith, c .before .before .before .fill-exponentials .kept .1 .1 .1 .0, fits start), start .pre .2, start .pre .3)
+value-over-requires c κs = let room = fits (c .before .before .before .before .before .before .before .before .before .before .before .before) in search needs
 
 returns : tie.Need-returns
 returns c =
     let start = c .before .before .before .before .before .before .before .before .before .before .before .before .before in
-    nrtl-from (start .args .n) (now (start .args .values)) _ _ _ _ _ (fits start .0) (start .pre .3) (c .before .before .before .before .before .before .before .before .before .fill-taus .ensures) (c .before .before .before .before .fill-exponentials .ensures) (c .value-over .ensures)
+    nrtl-from _ _ _ _ _ _ _ (fits start .0) (start .pre .3) (c .before .before .before .before .before .before .before .before .before .fill-taus .ensures) (c .before .before .before .before .fill-exponentials .ensures) (c .value-over .ensures)
 
 pub value-at-spec : {M : Type 1} → statement M
 value-at-spec =
@@ -59,14 +41,14 @@ value-at-spec =
     (tie.spec
     (λ c. search needs)
     fill-taus-requires
-    mul-at
-    mul-at-2
-    mul-fill-exponentials
-    sub-fill-exponentials
-    part-fill-exponentials-start
+    (λ c. omega (arith, fits (c .before .before .before .before .before)))
+    (λ c. omega (arith, fits (c .before .before .before .before .before)))
+    (λ c. omega (arith, fits (c .before .before .before .before .before)))
+    (λ c. omega (arith, fits (c .before .before .before .before .before)))
+    (λ c. omega (arith, fits (c .before .before .before .before .before)))
     (λ c. search needs)
     (λ c. search needs)
-    mul-fill-exponentials-2
+    (λ c. omega (arith, fits (c .before .before .before .before .before .before .before)))
     (λ c. search needs)
     fill-exponentials-requires
     (λ c. search needs)

@@ -1,11 +1,8 @@
 -- The sums once, then the quantity asked for, by the laws that let them be worked out once.
-use native.Mathlib.Omega.{arith}
 use borrow.Author.Needs.{needs}
-use denote.Ref.{now}
-use Rattle.arithmetic.specs.Tables.{at, grid}
 use Rattle.arithmetic.proofs.TableLaws.{filled-less}
 use Rattle.models.proofs.AnswerLaws.{index-ln, index-gamma}
-use Rattle.models.proofs.ListLaws.{zeros}
+use Rattle.models.proofs.ColumnLaws.{zeros}
 use Rattle.models.proofs.NrtlLaws.{nrtl-ln, nrtl-gamma, nrtl-excess}
 use Rattle.models.proofs.nrtl.value_over.Statement.{statement}
 use Rattle.models.proofs.nrtl.value_over.Tie as tie
@@ -14,46 +11,32 @@ abbrev entry : tie.After-column-sums → tie.Start
 entry c = c .before .before .before .before .before .before
 
 column-sums-requires : tie.Need-column-sums-requires
-column-sums-requires c κs =
-    let pre = c .before .before .before .before .before .pre in
-    let start = filled-less (pre .0) (zeros 12) in
-    (pre .1, pre .2, pre .3, omega (arith, pre .0), omega (arith, pre .0), start, start)
+column-sums-requires c κs = let zero = filled-less (c .before .before .before .before .before .pre .0) (zeros 12) in search needs
 
 ln-gamma-requires : tie.Need-ln-gamma-requires
 ln-gamma-requires c κs =
-    let sums = c .before .before .before .before .before .before .before in
-    let pre = entry sums .pre in
-    (pre .0, index-ln (c .before .before .before .q .given .1) (pre .4), pre .1, pre .2, omega (arith, sums .column-sums .kept .1 .1 .1 .1 .0, pre .0), omega (arith, sums .column-sums .kept .1 .1 .1 .1 .1 .0, pre .0), pre .3)
+    let here = index-ln (c .before .before .before .q .given .1) (entry (c .before .before .before .before .before .before .before) .pre .4) in
+    search needs
 
 ln-gamma-requires-2 : tie.Need-ln-gamma-requires-2
 ln-gamma-requires-2 c κs =
-    let sums = c .before .before .before .before .before .before .before in
-    let pre = entry sums .pre in
-    (pre .0, index-gamma (c .before .before .before .q2 .given .1) (pre .4), pre .1, pre .2, omega (arith, sums .column-sums .kept .1 .1 .1 .1 .0, pre .0), omega (arith, sums .column-sums .kept .1 .1 .1 .1 .1 .0, pre .0), pre .3)
-
-excess-by-requires : tie.Need-excess-by-requires
-excess-by-requires c κs =
-    let sums = c .before .before .before .before .before .before in
-    let pre = entry sums .pre in
-    (omega (arith, sums .column-sums .kept .1 .1 .1 .1 .0, pre .0), omega (arith, sums .column-sums .kept .1 .1 .1 .1 .1 .0, pre .0), pre .3)
+    let here = index-gamma (c .before .before .before .q2 .given .1) (entry (c .before .before .before .before .before .before .before) .pre .4) in
+    search needs
 
 returns : tie.Need-returns
 returns c =
     let sums = c .before .before .before .before .before .before .before .before in
-    let a = entry sums .args in
-    nrtl-ln (a .n) (grid (a .n) (now (a .tau))) (grid (a .n) (now (a .g))) (at (now (a .x))) (sums .column-sums .ensures .0) (sums .column-sums .ensures .1) (c .before .before .before .before .q .given .1) (entry sums .pre .4) (c .ln-gamma .ensures)
+    nrtl-ln _ _ _ _ (sums .column-sums .ensures .0) (sums .column-sums .ensures .1) (c .before .before .before .before .q .given .1) (entry sums .pre .4) (c .ln-gamma .ensures)
 
 returns-2 : tie.Need-returns-2
 returns-2 c =
     let sums = c .before .before .before .before .before .before .before .before .before in
-    let a = entry sums .args in
-    nrtl-gamma (a .n) (grid (a .n) (now (a .tau))) (grid (a .n) (now (a .g))) (at (now (a .x))) (sums .column-sums .ensures .0) (sums .column-sums .ensures .1) (c .before .before .before .before .before .q2 .given .1) (entry sums .pre .4) (c .before .ln-gamma2 .ensures) (c .exp .ensures)
+    nrtl-gamma _ _ _ _ (sums .column-sums .ensures .0) (sums .column-sums .ensures .1) (c .before .before .before .before .before .q2 .given .1) (entry sums .pre .4) (c .before .ln-gamma2 .ensures) (c .exp .ensures)
 
 returns-3 : tie.Need-returns-3
 returns-3 c =
     let sums = c .before .before .before .before .before .before .before in
-    let a = entry sums .args in
-    nrtl-excess (a .n) (grid (a .n) (now (a .tau))) (grid (a .n) (now (a .g))) (at (now (a .x))) (sums .column-sums .ensures .0) (sums .column-sums .ensures .1) (c .before .before .before .enum-told .given .1) (c .excess-by .ensures)
+    nrtl-excess _ _ _ _ (sums .column-sums .ensures .0) (sums .column-sums .ensures .1) (c .before .before .before .enum-told .given .1) (c .excess-by .ensures)
 
 pub value-over-spec : {M : Type 1} → statement M
 value-over-spec =
@@ -74,7 +57,7 @@ value-over-spec =
     (λ c. search needs)
     (λ c. search needs)
     (λ c. search needs)
-    excess-by-requires
+    (λ c κs. search needs)
     returns
     returns-2
     returns-3)

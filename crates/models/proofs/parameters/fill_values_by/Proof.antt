@@ -1,38 +1,23 @@
--- Each turn writes one entry.
-use mathlib.Core.Path.{_≡_, refl, _∙_}
-use Prim.Native.Nat.{_*_, _-_, _≤_}
+-- Each turn writes the next entry at T; at the end these are all.
+use mathlib.Core.Path.{refl, _∙_}
+use Prim.Native.Nat.{_*_, _-_}
 use native.Mathlib.Omega.{arith}
 use borrow.Author.Needs.{needs}
-use lib.ListN.{length, length-set}
+use lib.ListN.{length}
 use Rattle.arithmetic.specs.Parameters.{tdBy}
-use Rattle.arithmetic.specs.Tables.{Filled}
-use Rattle.arithmetic.proofs.TableLaws.{filled-none, filled-more, filled-less}
+use Rattle.arithmetic.proofs.TableLaws.{Filling, filling-none, filling-more, filling-done}
 use Rattle.models.specs.Values.{fiveAt}
 use Rattle.models.proofs.parameters.fill_values_by.Statement.{statement}
 use Rattle.models.proofs.parameters.fill_values_by.Tie as tie
 
 abbrev Inv-loop : tie.InvT-loop
-Inv-loop fives count t ln out₀ k₀ out k = (k ≤ count) × (length out ≡ length out₀) × Filled (λ k. tdBy (fiveAt fives (k * 5)) t ln) k out
+Inv-loop fives count t ln out₀ k₀ out k = Filling (λ k. tdBy (fiveAt fives (k * 5)) t ln) count (length out₀) k out
 
 abbrev μ-loop : tie.MeasureT-loop
 μ-loop fives count t ln out₀ k₀ out k = count - k
 
-loop-holds : tie.Need-loop-holds Inv-loop μ-loop
-loop-holds c = (omega arith, refl, filled-none (omega arith))
-
 loop-again : tie.Need-loop-again Inv-loop μ-loop
-loop-again c =
-    let top = c .before .before .before in (
-      omega arith,
-      simp length-set (top .loop .inv .1),
-      filled-more (omega arith) (omega arith) (top .loop .inv .2) (c .value-by .ensures ∙ rw (c .before .five-at .ensures) refl),
-    )
-
-same-length : tie.Need-same-length Inv-loop μ-loop
-same-length c = c .before .loop .inv .1
-
-returns : tie.Need-returns Inv-loop μ-loop
-returns c = filled-less (c .loop-test .left) (c .before .loop .inv .2)
+loop-again c = filling-more (omega arith) (c .before .before .before .loop .inv) (c .value-by .ensures ∙ rw (c .before .five-at .ensures) refl)
 
 pub fill-values-by-spec : {M : Type 1} → statement M
 fill-values-by-spec =
@@ -40,7 +25,7 @@ fill-values-by-spec =
     (tie.spec
     Inv-loop
     μ-loop
-    loop-holds
+    (λ c. filling-none (omega arith) refl)
     (λ c. omega arith)
     (λ c κs. search needs)
     (λ c κs. tt)
@@ -49,5 +34,5 @@ fill-values-by-spec =
     (λ c. omega arith)
     (λ c. omega arith)
     loop-again
-    same-length
-    returns)
+    (λ c. c .before .loop .inv .long)
+    (λ c. filling-done (c .loop-test .left) (c .before .loop .inv)))

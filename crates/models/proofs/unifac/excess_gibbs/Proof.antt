@@ -17,7 +17,7 @@ use Rattle.models.proofs.unifac.excess_gibbs.Tie as tie
 
 abbrev Inv-loop : tie.InvT-loop
 Inv-loop s lens groups counts q psi x n ng r-each q-each gamma total₀ i₀ total i =
-    (i ≤ n) × (length r-each ≡ 12) × (length q-each ≡ 12) × (length gamma ≡ 32)
+    ((length r-each ≡ 12) × (length q-each ≡ 12) × (length gamma ≡ 32)) × (i ≤ n)
     × (total ≡ sum i (λ k. at x k ⊗ lnFrom s ng (lists lens groups counts) (at q) (grid ng psi) k))
 
 abbrev μ-loop : tie.MeasureT-loop
@@ -30,13 +30,13 @@ gamma-k-requires c κs =
     (start .pre .2, start .pre .3, omega (arith, long, start .pre .2), start .pre .4)
 
 loop-holds : tie.Need-loop-holds Inv-loop μ-loop
-loop-holds c = (omega arith, search needs, search needs, search needs, sum-none _)
+loop-holds c = ((search needs, search needs, search needs), omega arith, sum-none _)
 
 ln-gamma-by-requires : tie.Need-ln-gamma-by-requires Inv-loop μ-loop
 ln-gamma-by-requires c κs =
     let start = c .before .before .before .before .before .before .before .before .before .before .before .before .before .before .before in
     let top = c .before .before .before in
-    (listed-less (start .pre .0) (top .loop .i) (start .args .ng) (c .before .before .loop-test .taken) (omega arith), omega arith, start .pre .2, start .pre .3, start .pre .4, top .loop .inv .3)
+    (listed-less (start .pre .0) (top .loop .i) (start .args .ng) (c .before .before .loop-test .taken) (omega arith), omega arith, start .pre .2, start .pre .3, start .pre .4, top .loop .inv .0 .2)
 
 loop-again : tie.Need-loop-again Inv-loop μ-loop
 loop-again c =
@@ -44,10 +44,10 @@ loop-again c =
     let start = c .before .before .before .before .before .before .before .before .before .before .before .before .before .before .before .before in
     let inv = top .loop .inv in
     let below = listed-same (start .pre .0) (top .loop .i) (c .before .before .before .loop-test .taken) .below in
-    (omega arith, inv .1, inv .2, inv .3, sum-more _ _ (inv .4) (rw (ln-from (start .args .s) _ _ _ _ (top .loop .i) (filled-named _ _ _ _ below (top .before .gamma-k .ensures)) (c .ln-gamma-by .ensures))))
+    (inv .0, omega arith, sum-more _ _ (inv .2) (rw (ln-from (start .args .s) _ _ _ _ (top .loop .i) (filled-named _ _ _ _ below (top .before .gamma-k .ensures)) (c .ln-gamma-by .ensures))))
 
 returns : tie.Need-returns Inv-loop μ-loop
-returns c = sum-done _ _ _ (c .before .loop .inv .4) (c .before .loop .inv .0) (c .loop-test .left)
+returns c = sum-done _ _ _ (c .before .loop .inv .2) (c .before .loop .inv .1) (c .loop-test .left)
 
 pub excess-gibbs-spec : {M : Type 1} → statement M
 excess-gibbs-spec =

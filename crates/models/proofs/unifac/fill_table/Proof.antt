@@ -10,9 +10,6 @@ use Rattle.models.proofs.UnifacLaws.{table-filled}
 use Rattle.models.proofs.unifac.fill_table.Statement.{statement}
 use Rattle.models.proofs.unifac.fill_table.Tie as tie
 
-mul-count : tie.Need-mul-count
-mul-count c = omega (arith, mul-le-mul (c .before .before .pre .0) (c .before .before .pre .0))
-
 sub-fill-values : tie.Need-sub-fill-values
 unfolding countsAt
 sub-fill-values c = omega (arith, c .before .before .pre .1)
@@ -40,7 +37,7 @@ fill-table-spec =
     tie.close
     (tie.spec
     (λ c. omega arith)
-    mul-count
+    (λ c. omega (arith, mul-le-mul (c .before .before .pre .0) (c .before .before .pre .0)))
     (λ c. omega arith)
     sub-fill-values
     part-fill-values-start

@@ -1,33 +1,24 @@
 -- ln Γ group by group, over column sums and logs worked out once.
 use mathlib.Core.Path.{_≡_, refl, _∙_}
-use Prim.Native.Nat.{_-_, _≤_}
+use Prim.Native.Nat.{_-_}
 use native.Mathlib.Omega.{arith}
-use denote.Ref.{now}
-use lib.ListN.{length-set, length}
+use lib.ListN.{length}
 use borrow.Author.Needs.{needs}
-use Rattle.arithmetic.specs.Tables.{at, grid, Filled}
-use Rattle.arithmetic.proofs.TableLaws.{filled-none, filled-more, filled-less, upto-below}
+use Rattle.arithmetic.specs.Tables.{at, grid}
+use Rattle.arithmetic.proofs.TableLaws.{Filling, filling-none, filling-more, filling-done, upto-below}
 use Rattle.models.specs.Unifac.{lnGroup}
 use Rattle.models.proofs.UnifacLaws.{group-hoisted}
 use Rattle.models.proofs.unifac.gamma_k.Statement.{statement}
 use Rattle.models.proofs.unifac.gamma_k.Tie as tie
 
 abbrev Inv-loop : tie.InvT-loop
-Inv-loop q theta psi ng denom logs gamma₀ k₀ gamma k = (k ≤ ng) × (length gamma ≡ 32) × (length logs ≡ 32) × Filled (lnGroup ng (at q) (grid ng psi) (at theta)) k gamma
+Inv-loop q theta psi ng denom logs gamma₀ k₀ gamma k = (length logs ≡ 32) × Filling (lnGroup ng (at q) (grid ng psi) (at theta)) ng 32 k gamma
 
 abbrev μ-loop : tie.MeasureT-loop
 μ-loop q theta psi ng denom logs gamma₀ k₀ gamma k = ng - k
 
-log-each-requires : tie.Need-log-each-requires Inv-loop μ-loop
-log-each-requires c κs = omega (arith, c .before .column-sums .ok, c .before .before .before .before .before .pre .0)
-
 loop-holds : tie.Need-loop-holds Inv-loop μ-loop
-loop-holds c = (omega arith, refl, omega (arith, c .before .log-each .kept .0, c .before .before .before .column-sums .ok), filled-none (omega arith))
-
-group-gamma-requires : tie.Need-group-gamma-requires Inv-loop μ-loop
-group-gamma-requires c κs =
-    let start = c .before .before .before .before .before .before .before .before .before .before .before in
-    (start .pre .0, c .before .before .loop-test .taken, start .pre .2, start .pre .3, omega (arith, start .pre .0, c .before .before .before .before .before .before .before .column-sums .ok))
+loop-holds c = (omega (arith, c .before .log-each .kept .0, c .before .before .before .column-sums .ok), filling-none (omega arith) refl)
 
 loop-again : tie.Need-loop-again Inv-loop μ-loop
 loop-again c =
@@ -36,16 +27,11 @@ loop-again c =
     let sums = turn .before .before .before .before .before in
     let start = sums .before .before .before .before in
     let log = turn .before .before .before .log-each .ensures .each _ (omega (arith, sums .column-sums .ok, start .pre .0, turn .loop-test .taken)) ∙ upto-below _ _ _ _ (turn .loop-test .taken) in (
-      omega arith,
-      simp length-set (top .loop .inv .1),
-      top .loop .inv .2,
-      filled-more (omega arith) (omega arith) (top .loop .inv .3)
-          (group-hoisted (start .args .ng) (at (now (start .args .q))) (at (now (start .args .theta))) (grid (start .args .ng) (now (start .args .psi))) (top .loop .k)
+      top .loop .inv .0,
+      filling-more (turn .loop-test .taken) (top .loop .inv .1)
+          (group-hoisted _ _ _ _ _
           (turn .loop-test .taken) (sums .column-sums .ensures) log (c .group-gamma .ensures)),
     )
-
-returns : tie.Need-returns Inv-loop μ-loop
-returns c = filled-less (c .loop-test .left) (c .before .loop .inv .3)
 
 pub gamma-k-spec : {M : Type 1} → statement M
 gamma-k-spec =
@@ -55,17 +41,17 @@ gamma-k-spec =
     μ-loop
     (λ c κs. search needs)
     (λ c. search needs)
-    log-each-requires
+    (λ c κs. omega (arith, c .before .column-sums .ok, c .before .before .before .before .before .pre .0))
     loop-holds
     (λ c. omega arith)
     (λ c. omega arith)
     (λ c. omega arith)
     (λ c. omega arith)
     (λ c. search needs)
-    group-gamma-requires
+    (λ c κs. search needs)
     (λ c. omega arith)
     (λ c. omega arith)
     (λ c. omega arith)
     (λ c. omega arith)
     loop-again
-    returns)
+    (λ c. filling-done (c .loop-test .left) (c .before .loop .inv .1)))

@@ -30,43 +30,18 @@ below c = (entry c .pre .4 _ (omega (arith, c .loop-test .taken, c .before .loop
 loop-holds : tie.Need-loop-holds Inv-loop μ-loop
 loop-holds c = (omega arith, refl, refl, named-none _ _ _)
 
-cast-k : tie.Need-cast-k Inv-loop μ-loop
-cast-k c = omega (arith, below (c .before))
-
-mul-log : tie.Need-mul-log Inv-loop μ-loop
-mul-log c = omega (arith, below (c .before))
-
-array-read-log : tie.Need-array-read-log Inv-loop μ-loop
-array-read-log c = omega (arith, below (c .before))
-
-mul-group-gamma : tie.Need-mul-group-gamma Inv-loop μ-loop
-mul-group-gamma c = omega (arith, below (c .before .before))
-
-shared-slice-read-group-gamma : tie.Need-shared-slice-read-group-gamma Inv-loop μ-loop
-shared-slice-read-group-gamma c = omega (arith, below (c .before .before .before))
-
 group-gamma-requires : tie.Need-group-gamma-requires Inv-loop μ-loop
-group-gamma-requires c κs =
-    let turn = c .before .before .before .before in
-    let start = entry turn in
-    (start .pre .0, below turn .0, start .pre .2, start .pre .3, omega (arith, below turn))
-
-mul-gamma : tie.Need-mul-gamma Inv-loop μ-loop
-mul-gamma c = omega (arith, below (c .before .before .before .before .before))
-
-array-write-gamma : tie.Need-array-write-gamma Inv-loop μ-loop
-array-write-gamma c = omega (arith, below (c .before .before .before .before .before))
+group-gamma-requires c κs = let here = below (c .before .before .before .before) in search needs
 
 loop-again : tie.Need-loop-again Inv-loop μ-loop
 loop-again c =
     let turn = c .before .before .before .before .before in
-    let top = turn .before in
-    let start = entry turn in (
+    let top = turn .before in (
       omega arith,
       top .loop .inv .1,
       simp length-set (top .loop .inv .2),
       named-more _ _ (top .loop .p) _ refl (omega (arith, below turn, top .loop .inv .2))
-          (group-hoisted (start .args .ng) (at (now (start .args .q))) (at (now (start .args .theta))) (grid (start .args .ng) (now (start .args .psi))) _
+          (group-hoisted _ _ _ _ _
           (below turn .0) (top .before .column-sums .ensures) (c .before .before .before .log .ensures) (c .group-gamma .ensures))
           (top .loop .inv .3),
     )
@@ -83,16 +58,16 @@ gammas-of-spec =
     (λ c κs. search needs)
     loop-holds
     (λ c. omega arith)
-    cast-k
-    mul-log
-    array-read-log
+    (λ c. omega (arith, below (c .before)))
+    (λ c. omega (arith, below (c .before)))
+    (λ c. omega (arith, below (c .before)))
     (λ c κs. search needs)
-    mul-group-gamma
-    shared-slice-read-group-gamma
+    (λ c. omega (arith, below (c .before .before)))
+    (λ c. omega (arith, below (c .before .before .before)))
     (λ c. search needs)
     group-gamma-requires
-    mul-gamma
-    array-write-gamma
+    (λ c. omega (arith, below (c .before .before .before .before .before)))
+    (λ c. omega (arith, below (c .before .before .before .before .before)))
     (λ c. omega arith)
     (λ c. omega arith)
     loop-again

@@ -9,37 +9,20 @@ use lib.Ieee.{ofBits, round}
 use borrow.Author.Needs.{needs}
 use Rattle.arithmetic.specs.Floats.{one, dec}
 use Rattle.arithmetic.specs.Tables.{at}
-use Rattle.arithmetic.proofs.TableLaws.{row-end, from-length}
+use Rattle.arithmetic.proofs.TableLaws.{row-end, from-room}
 use Rattle.models.proofs.UnifacLaws.{row-lent}
 use Rattle.models.proofs.unifac.group_gamma.Statement.{statement}
 use Rattle.models.proofs.unifac.group_gamma.Tie as tie
 
 -- row k ends within the table, and starts within 1,024 places
 ends : (c : tie.Start) → (c .args .k * c .args .ng + c .args .ng ≤ length (now (c .args .psi))) × (c .args .k * c .args .ng ≤ 1024)
-ends c =
-    let row = row-end _ (c .args .ng) _ (c .pre .1) in
-    (omega (arith, row, c .pre .3), omega (arith, row, mul-le-mul (c .pre .0) (c .pre .0)))
-
-mul-place : tie.Need-mul-place
-mul-place c = omega (arith, ends (c .before .before .before))
-
-mul-row-sum : tie.Need-mul-row-sum
-mul-row-sum c = omega (arith, ends (c .before .before .before))
-
-sub-row-sum : tie.Need-sub-row-sum
-sub-row-sum c = omega (arith, ends (c .before .before .before))
-
-part-row-sum-start : tie.Need-part-row-sum-start
-part-row-sum-start c = omega (arith, ends (c .before .before .before))
+ends c = let row = row-end _ (c .args .ng) _ (c .pre .1) in (omega (arith, row, c .pre .3), omega (arith, row, mul-le-mul (c .pre .0) (c .pre .0)))
 
 row-sum-requires : tie.Need-row-sum-requires
 row-sum-requires c κs =
-    let start = c .before .before .before .before in (
-      omega (arith, start .pre .2, start .pre .4),
-      omega (arith, from-length (start .args .k * start .args .ng) (now (start .args .psi)), ends start),
-      omega (arith, start .pre .2, start .pre .4),
-      start .pre .0,
-    )
+    let start = c .before .before .before .before in
+    let row = from-room (start .args .k * start .args .ng) _ (now (start .args .psi)) (ends start .0) in
+    (start .pre .2, row, start .pre .4, start .pre .0)
 
 returns : tie.Need-returns
 unfolding one dec round ofBits
@@ -51,10 +34,10 @@ pub group-gamma-spec : {M : Type 1} → statement M
 group-gamma-spec =
     tie.close
     (tie.spec
-    mul-place
-    mul-row-sum
-    sub-row-sum
-    part-row-sum-start
+    (λ c. omega (arith, ends (c .before .before .before)))
+    (λ c. omega (arith, ends (c .before .before .before)))
+    (λ c. omega (arith, ends (c .before .before .before)))
+    (λ c. omega (arith, ends (c .before .before .before)))
     (λ c. search needs)
     row-sum-requires
     returns)

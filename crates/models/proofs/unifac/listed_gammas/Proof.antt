@@ -1,4 +1,4 @@
--- The list of i is lent as a part of the groups.
+-- The list of i is lent as a part of the groups, so the groups named there are those that i lists.
 use Prim.Native.Nat.{_+_, _≤_}
 use native.Mathlib.Omega.{arith}
 use denote.Ref.{now}
@@ -14,19 +14,11 @@ entry c = c .before .before .before .before .before .before .before .before
 ends : (c : tie.After-shared-slice-known7) → c .before .start-of .result + getD (now (entry c .args .lens)) (entry c .args .i) 0 ≤ length (now (entry c .args .groups))
 ends c = list-ends (entry c .args .i) (entry c .pre .0) (c .before .start-of .ensures) .0
 
-cast-end : tie.Need-cast-end
-cast-end c = omega (arith, c .shared-slice-known7 .given (entry c .args .i))
-
-add-end : tie.Need-add-end
-add-end c = omega (arith, ends c, entry c .good)
-
-part-gammas-of-end : tie.Need-part-gammas-of-end
-part-gammas-of-end c = omega (arith, ends c)
-
 gammas-of-requires : tie.Need-gammas-of-requires
 gammas-of-requires c κs =
     let start = entry (c .before) in
-    (start .pre .2, start .pre .3, start .pre .4, start .pre .5, list-part-group (start .args .i) (start .pre .0) (c .before .before .start-of .ensures))
+    let below = list-part-group (start .args .i) (start .pre .0) (c .before .before .start-of .ensures) in
+    search needs
 
 returns : tie.Need-returns
 returns c =
@@ -39,10 +31,10 @@ listed-gammas-spec =
     (tie.spec
     (λ c κs. search needs)
     (λ c. search needs)
-    cast-end
-    add-end
+    (λ c. omega (arith, c .shared-slice-known7 .given (entry c .args .i)))
+    (λ c. omega (arith, ends c, entry c .good))
     (λ c. search needs)
     (λ c. search needs)
-    part-gammas-of-end
+    (λ c. omega (arith, ends c))
     gammas-of-requires
     returns)

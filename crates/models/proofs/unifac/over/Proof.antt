@@ -10,12 +10,14 @@ use Rattle.models.proofs.unifac.over.Tie as tie
 ln-gamma-requires : tie.Need-ln-gamma-requires
 ln-gamma-requires c κs =
     let start = c .before .before .before .before .before .before .before .before .before .before .before in
-    (listed-less (start .pre .0) _ (start .args .ng) (index-ln (c .before .asked .given .1) (start .pre .7)) (omega arith), omega (arith, index-ln (c .before .asked .given .1) (start .pre .7), start .pre .1), start .pre .2, start .pre .4, start .pre .5)
+    let here = index-ln (c .before .asked .given .1) (start .pre .7) in
+    (listed-less (start .pre .0) _ (start .args .ng) here (omega arith), omega (arith, here, start .pre .1), start .pre .2, start .pre .4, start .pre .5)
 
 ln-gamma-requires-2 : tie.Need-ln-gamma-requires-2
 ln-gamma-requires-2 c κs =
     let start = c .before .before .before .before .before .before .before .before .before .before .before in
-    (listed-less (start .pre .0) _ (start .args .ng) (index-gamma (c .before .asked2 .given .1) (start .pre .7)) (omega arith), omega (arith, index-gamma (c .before .asked2 .given .1) (start .pre .7), start .pre .1), start .pre .2, start .pre .4, start .pre .5)
+    let here = index-gamma (c .before .asked2 .given .1) (start .pre .7) in
+    (listed-less (start .pre .0) _ (start .args .ng) here (omega arith), omega (arith, here, start .pre .1), start .pre .2, start .pre .4, start .pre .5)
 
 returns : tie.Need-returns
 returns c =

@@ -8,7 +8,8 @@ use Rattle.models.proofs.unifac.pure_listed.Statement.{statement}
 use Rattle.models.proofs.unifac.pure_listed.Tie as tie
 
 group-fractions-pure-requires : tie.Need-group-fractions-pure-requires
-group-fractions-pure-requires c κs = let start = c .before .before .before .before .before in (listed-wider (start .pre .0) 32 (start .pre .2), start .pre .1, start .pre .2)
+group-fractions-pure-requires c κs =
+    let start = c .before .before .before .before .before in let wider = listed-wider (start .pre .0) 32 (start .pre .2) in search needs
 
 returns : tie.Need-returns
 unfolding Unifac.pure

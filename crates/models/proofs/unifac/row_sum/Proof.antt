@@ -1,37 +1,26 @@
 -- The quotients are filled in place by place; the sum is their fold.
-use mathlib.Core.Path.{_≡_, refl, sym}
-use Prim.Native.Nat.{_-_, _≤_}
+use mathlib.Core.Path.{refl, sym}
+use Prim.Native.Nat.{_-_}
 use native.Mathlib.Omega.{arith}
-use lib.ListN.{length, length-set}
 use lib.Seq.{length-take-le}
 use Rattle.arithmetic.specs.Floats.{_⊗_, _⊘_}
-use Rattle.arithmetic.specs.Tables.{at, Filled}
-use Rattle.arithmetic.proofs.TableLaws.{filled-none, filled-more}
+use Rattle.arithmetic.specs.Tables.{at}
+use Rattle.arithmetic.proofs.TableLaws.{Filling, filling-none, filling-more}
 use Rattle.models.proofs.ColumnLaws.{terms-sum}
 use Rattle.models.proofs.unifac.row_sum.Statement.{statement}
 use Rattle.models.proofs.unifac.row_sum.Tie as tie
 
 abbrev Inv-loop : tie.InvT-loop
-Inv-loop theta row denom ng terms₀ m₀ terms m = (m ≤ ng) × (length terms ≡ 32) × Filled (λ m. at theta m ⊗ at row m ⊘ at denom m) m terms
+Inv-loop theta row denom ng terms₀ m₀ terms m = Filling (λ m. at theta m ⊗ at row m ⊘ at denom m) ng 32 m terms
 
 abbrev μ-loop : tie.MeasureT-loop
 μ-loop theta row denom ng terms₀ m₀ terms m = ng - m
 
-loop-holds : tie.Need-loop-holds Inv-loop μ-loop
-loop-holds c = (omega arith, refl, filled-none (omega arith))
-
 loop-again : tie.Need-loop-again Inv-loop μ-loop
-loop-again c =
-    let top = c .before .before .before .before in
-    (omega arith, simp length-set (top .loop .inv .1), filled-more (omega arith) (omega arith) (top .loop .inv .2) refl)
-
-slice-aggregate-sum : tie.Need-slice-aggregate-sum Inv-loop μ-loop
-slice-aggregate-sum c = sym (length-take-le _ _ (omega arith))
+loop-again c = filling-more (omega arith) (c .before .before .before .before .loop .inv) refl
 
 returns : tie.Need-returns Inv-loop μ-loop
-returns c =
-    let done = c .before .before in
-    terms-sum _ _ _ _ (omega (arith, done .before .loop .inv .1, done .before .before .before .before .before .pre .3)) (done .loop-test .left) (done .before .loop .inv .2) (c .sum .ensures)
+returns c = let done = c .before .before in terms-sum (done .before .loop .inv) (done .loop-test .left) (c .sum .ensures)
 
 pub row-sum-spec : {M : Type 1} → statement M
 row-sum-spec =
@@ -39,7 +28,7 @@ row-sum-spec =
     (tie.spec
     Inv-loop
     μ-loop
-    loop-holds
+    (λ c. filling-none (omega arith) refl)
     (λ c. omega arith)
     (λ c. omega arith)
     (λ c. omega arith)
@@ -52,6 +41,6 @@ row-sum-spec =
     (λ c. omega arith)
     loop-again
     (λ c. omega arith)
-    slice-aggregate-sum
+    (λ c. sym (length-take-le _ _ (omega arith)))
     (λ c κs. tt)
     returns)

@@ -6,7 +6,8 @@ use Rattle.models.proofs.unifac.theta_mixed.Statement.{statement}
 use Rattle.models.proofs.unifac.theta_mixed.Tie as tie
 
 group-fractions-requires : tie.Need-group-fractions-requires
-group-fractions-requires c κs = let start = c .before .before .before .before .before in (listed-wider (start .pre .0) 32 (start .pre .2), start .pre .1, start .pre .4, start .pre .2)
+group-fractions-requires c κs =
+    let start = c .before .before .before .before .before in let wider = listed-wider (start .pre .0) 32 (start .pre .2) in search needs
 
 returns : tie.Need-returns
 returns c = theta-from _ _ _ (c .before .before .group-fractions .ensures) (c .theta .ensures)

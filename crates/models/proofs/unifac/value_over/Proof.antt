@@ -16,12 +16,6 @@ before-counts : (c : tie.Start) → c .args .ng + c .args .ng ≤ length (now (c
 unfolding countsAt
 before-counts c = omega (arith, c .pre .0 .tables)
 
-sub-over-2 : tie.Need-sub-over-2
-sub-over-2 c = omega (arith, before-counts (c .before .before .before .before .before .before .before))
-
-part-over-start-2 : tie.Need-part-over-start-2
-part-over-start-2 c = omega (arith, before-counts (c .before .before .before .before .before .before .before))
-
 over-requires : tie.Need-over-requires
 over-requires c κs =
     let start = c .before .before .before .before .before .before .before .before in
@@ -51,8 +45,8 @@ value-over-spec =
     (λ c. search needs)
     (λ c. search needs)
     (λ c. search needs)
-    sub-over-2
-    part-over-start-2
+    (λ c. omega (arith, before-counts (c .before .before .before .before .before .before .before)))
+    (λ c. omega (arith, before-counts (c .before .before .before .before .before .before .before)))
     (λ c. search needs)
     over-requires
     returns)

@@ -12,7 +12,7 @@ use Rattle.arithmetic.specs.Logarithm.{logOf}
 use Rattle.arithmetic.specs.Sums.{sum}
 use Rattle.arithmetic.specs.Tables.{at, grid}
 use Rattle.arithmetic.proofs.SumLaws.{sum-none, sum-more, sum-done}
-use Rattle.arithmetic.proofs.TableLaws.{row-end, from-length}
+use Rattle.arithmetic.proofs.TableLaws.{row-end, from-room}
 use Rattle.models.specs.Uniquac.{lnGamma, excess}
 use Rattle.models.proofs.ExponentialLaws.{each-filled}
 use Rattle.models.proofs.UniquacLaws.{lnGamma-hoisted}
@@ -21,7 +21,7 @@ use Rattle.models.proofs.uniquac.excess_gibbs.Tie as tie
 
 abbrev Inv-loop : tie.InvT-loop
 Inv-loop n r q e x rx lx theta sums segments lnAreas lnSegments lnSums s₀ i₀ s i =
-    (i ≤ n) × (n ≤ length segments) × (n ≤ length lnAreas) × (n ≤ length lnSegments) × (n ≤ length lnSums) × (s ≡ sum i (λ k. at x k ⊗ lnGamma n (at r) (at q) (grid n e) (at x) k))
+    ((n ≤ length segments) × (n ≤ length lnAreas) × (n ≤ length lnSegments) × (n ≤ length lnSums)) × (i ≤ n) × (s ≡ sum i (λ k. at x k ⊗ lnGamma n (at r) (at q) (grid n e) (at x) k))
 
 abbrev μ-loop : tie.MeasureT-loop
 μ-loop n r q e x rx lx theta sums segments lnAreas lnSegments lnSums s₀ i₀ s i = n - i
@@ -50,12 +50,15 @@ log-each-requires c κs =
 loop-holds : tie.Need-loop-holds Inv-loop μ-loop
 loop-holds c =
     let made = c .before .before .before .before .before .before .before .before .before .before .before .before in
-    let le = start made .pre .7 in (
+    let le = start made .pre .7 in
+    let kept = made .fill-ratios .kept .1 .1 .1 .1 .1 in (
+      (
+        omega (arith, kept .0, le),
+        omega (arith, c .before .log-each .kept .0, kept .1 .0, le),
+        omega (arith, c .before .before .before .before .before .before .before .fill-logs .kept .1 .1 .0, le),
+        omega (arith, c .before .before .before .before .fill-logs2 .kept .1 .1 .0, le),
+      ),
       omega arith,
-      omega (arith, made .fill-ratios .kept .1 .1 .1 .1 .1 .0, le),
-      omega (arith, c .before .log-each .kept .0, made .fill-ratios .kept .1 .1 .1 .1 .1 .1 .0, le),
-      omega (arith, c .before .before .before .before .before .before .before .fill-logs .kept .1 .1 .0, le),
-      omega (arith, c .before .before .before .before .fill-logs2 .kept .1 .1 .0, le),
       sum-none _,
     )
 
@@ -65,18 +68,12 @@ mul-at c = let turn = c .before .before .before in omega (arith, ends turn, star
 mul-residual-2 : tie.Need-mul-residual-2 Inv-loop μ-loop
 mul-residual-2 c = let turn = c .before .before .before .before .before in omega (arith, ends turn, start (ratios (turn .before)) .good)
 
-sub-residual : tie.Need-sub-residual Inv-loop μ-loop
-sub-residual c = omega (arith, ends (c .before .before .before .before .before))
-
-part-residual-start : tie.Need-part-residual-start Inv-loop μ-loop
-part-residual-start c = omega (arith, ends (c .before .before .before .before .before))
-
 residual-requires : tie.Need-residual-requires Inv-loop μ-loop
 residual-requires c κs =
     let turn = c .before .before .before .before .before .before in
     let begun = start (ratios (turn .before)) in
-    let row = from-length (turn .before .loop .i * begun .args .n) (now (begun .args .e)) in
-    (omega (arith, row, ends turn), begun .pre .4, begun .pre .5, turn .loop-test .taken, begun .pre .7)
+    let row = from-room (turn .before .loop .i * begun .args .n) _ (now (begun .args .e)) (ends turn) in
+    (row, begun .pre .4, begun .pre .5, turn .loop-test .taken, begun .pre .7)
 
 loop-again : tie.Need-loop-again Inv-loop μ-loop
 loop-again c =
@@ -88,21 +85,18 @@ loop-again c =
     let i = top .loop .i in
     let b = turn .loop-test .taken in
     let areas = each-filled logOf (a .n) _ (omega (arith, made .fill-ratios .kept .1 .1 .1 .1 .1 .1 .0, begun .pre .7)) (λ k b. refl) (made .fill-ratios .ensures .1) (top .before .before .log-each .ensures) in (
+      top .loop .inv .0,
       omega arith,
-      top .loop .inv .1,
-      top .loop .inv .2,
-      top .loop .inv .3,
-      top .loop .inv .4,
-      sum-more _ _ (top .loop .inv .5)
+      sum-more _ _ (top .loop .inv .2)
           (ap (λ (v : Float). at (now (a .x)) i ⊗ v)
-          (lnGamma-hoisted (a .n) (at (now (a .r))) (at (now (a .q))) (now (a .e)) (at (now (a .x))) (a .rx) (a .lx) (now (a .theta)) (now (a .sums)) (begun .pre .6) i b (ends turn)
+          (lnGamma-hoisted _ _ _ (now (a .e)) _ _ _ _ _ (begun .pre .6) i b (ends turn)
           (made .fill-ratios .ensures .0 .each i b) (top .before .before .before .before .before .before .before .before .fill-logs .ensures .each i b) (areas .each i b)
           (top .before .before .before .before .before .fill-logs2 .ensures .each i b) (c .before .before .before .before .combinatorial .ensures) (c .residual .ensures))),
     )
 
 returns : tie.Need-returns Inv-loop μ-loop
 unfolding excess
-returns c = sum-done _ _ _ (c .before .loop .inv .5) (c .before .loop .inv .0) (c .loop-test .left)
+returns c = sum-done _ _ _ (c .before .loop .inv .2) (c .before .loop .inv .1) (c .loop-test .left)
 
 pub excess-gibbs-spec : {M : Type 1} → statement M
 excess-gibbs-spec =
@@ -138,8 +132,8 @@ excess-gibbs-spec =
     (λ c. omega arith)
     (λ c. omega arith)
     mul-residual-2
-    sub-residual
-    part-residual-start
+    (λ c. omega (arith, ends (c .before .before .before .before .before)))
+    (λ c. omega (arith, ends (c .before .before .before .before .before)))
     (λ c. omega arith)
     (λ c. omega arith)
     (λ c. omega arith)

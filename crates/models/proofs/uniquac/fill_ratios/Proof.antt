@@ -1,44 +1,25 @@
--- The loop has filled both ratios below i.
-use mathlib.Core.Path.{_≡_, refl}
-use Prim.Native.Nat.{_-_, _≤_}
+-- The loop has filled both ratios below i; at its end these are all.
+use mathlib.Core.Path.{refl}
+use Prim.Native.Nat.{_-_}
 use native.Mathlib.Omega.{arith}
-use lib.ListN.{length, length-set}
+use lib.ListN.{length}
 use Rattle.arithmetic.specs.Floats.{_⊗_, _⊘_}
-use Rattle.arithmetic.specs.Tables.{at, Filled}
-use Rattle.arithmetic.proofs.TableLaws.{filled-none, filled-more, filled-less}
+use Rattle.arithmetic.specs.Tables.{at}
+use Rattle.arithmetic.proofs.TableLaws.{Filling, filling-none, filling-more, filling-done}
 use Rattle.models.proofs.uniquac.fill_ratios.Statement.{statement}
 use Rattle.models.proofs.uniquac.fill_ratios.Tie as tie
 
 abbrev Inv-loop : tie.InvT-loop
 Inv-loop n r x rx theta segments₀ areas₀ i₀ segments areas i =
-    (i ≤ n) × (length segments ≡ length segments₀) × (length areas ≡ length areas₀) × Filled (λ k. at x k ⊗ at r k ⊘ rx ⊘ at x k) i segments × Filled (λ k. at theta k ⊘ (at x k ⊗ at r k ⊘ rx)) i areas
+    Filling (λ k. at x k ⊗ at r k ⊘ rx ⊘ at x k) n (length segments₀) i segments × Filling (λ k. at theta k ⊘ (at x k ⊗ at r k ⊘ rx)) n (length areas₀) i areas
 
 abbrev μ-loop : tie.MeasureT-loop
 μ-loop n r x rx theta segments₀ areas₀ i₀ segments areas i = n - i
 
-loop-holds : tie.Need-loop-holds Inv-loop μ-loop
-loop-holds c = (omega arith, refl, refl, filled-none (omega arith), filled-none (omega arith))
-
 loop-again : tie.Need-loop-again Inv-loop μ-loop
 loop-again c =
-    let inv = c .before .before .before .before .before .loop .inv in (
-      omega arith,
-      simp length-set (inv .1),
-      simp length-set (inv .2),
-      filled-more (omega arith) (omega arith) (inv .3) refl,
-      filled-more (omega arith) (omega arith) (inv .4) refl,
-    )
-
-same-length : tie.Need-same-length Inv-loop μ-loop
-same-length c = c .before .loop .inv .1
-
-same-length-2 : tie.Need-same-length-2 Inv-loop μ-loop
-same-length-2 c = c .before .loop .inv .2
-
-returns : tie.Need-returns Inv-loop μ-loop
-returns c =
-    let inv = c .before .loop .inv in
-    (filled-less (c .loop-test .left) (inv .3), filled-less (c .loop-test .left) (inv .4))
+    let inv = c .before .before .before .before .before .loop .inv in
+    (filling-more (omega arith) (inv .0) refl, filling-more (omega arith) (inv .1) refl)
 
 pub fill-ratios-spec : {M : Type 1} → statement M
 fill-ratios-spec =
@@ -46,7 +27,7 @@ fill-ratios-spec =
     (tie.spec
     Inv-loop
     μ-loop
-    loop-holds
+    (λ c. (filling-none (omega arith) refl, filling-none (omega arith) refl))
     (λ c. omega arith)
     (λ c. omega arith)
     (λ c. omega arith)
@@ -62,6 +43,6 @@ fill-ratios-spec =
     (λ c. omega arith)
     (λ c. omega arith)
     loop-again
-    same-length
-    same-length-2
-    returns)
+    (λ c. c .before .loop .inv .0 .long)
+    (λ c. c .before .loop .inv .1 .long)
+    (λ c. let inv = c .before .loop .inv in (filling-done (c .loop-test .left) (inv .0), filling-done (c .loop-test .left) (inv .1))))

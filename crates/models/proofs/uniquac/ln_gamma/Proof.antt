@@ -5,8 +5,7 @@ use native.Mathlib.Omega.{arith}
 use denote.Ref.{now}
 use lib.ListN.{length}
 use borrow.Author.Needs.{needs}
-use Rattle.arithmetic.specs.Tables.{at}
-use Rattle.arithmetic.proofs.TableLaws.{row-end, from-length}
+use Rattle.arithmetic.proofs.TableLaws.{row-end, from-room}
 use Rattle.models.proofs.UniquacLaws.{lnGamma-hoisted}
 use Rattle.models.proofs.uniquac.ln_gamma.Statement.{statement}
 use Rattle.models.proofs.uniquac.ln_gamma.Tie as tie
@@ -18,30 +17,18 @@ entry c = c .before .before .before .before .before .before .before .before .bef
 ends : (c : tie.Start) → c .args .i * c .args .n + c .args .n ≤ length (now (c .args .e))
 ends c = omega (arith, row-end (c .args .n) (c .args .n) (c .args .i) (c .pre .6))
 
-mul-at : tie.Need-mul-at
-mul-at c = omega (arith, ends (entry c))
-
-mul-residual-2 : tie.Need-mul-residual-2
-mul-residual-2 c = omega (arith, ends (entry (c .before)))
-
-sub-residual : tie.Need-sub-residual
-sub-residual c = omega (arith, ends (entry (c .before)))
-
-part-residual-start : tie.Need-part-residual-start
-part-residual-start c = omega (arith, ends (entry (c .before)))
-
 residual-requires : tie.Need-residual-requires
 residual-requires c κs =
     let start = entry (c .before .before .before .before) in
-    let row = from-length (start .args .i * start .args .n) (now (start .args .e)) in
-    (omega (arith, row, ends start), start .pre .4, start .pre .5, start .pre .6, start .pre .8)
+    let row = from-room (start .args .i * start .args .n) _ (now (start .args .e)) (ends start) in
+    (row, start .pre .4, start .pre .5, start .pre .6, start .pre .8)
 
 returns : tie.Need-returns
 returns c =
     let made = c .before .before .before .before .before in
     let start = entry made in
     let a = start .args in
-    lnGamma-hoisted (a .n) (at (now (a .r))) (at (now (a .q))) (now (a .e)) (at (now (a .x))) (a .rx) (a .lx) (now (a .theta)) (now (a .sums)) (start .pre .7) (a .i) (start .pre .6) (ends start) refl
+    lnGamma-hoisted _ _ _ (now (a .e)) _ _ _ _ _ (start .pre .7) _ (start .pre .6) (ends start) refl
     (made .before .before .before .before .before .log .ensures) (made .before .before .before .log2 .ensures) (c .before .log3 .ensures) (made .combinatorial .ensures) (c .residual .ensures)
 
 pub ln-gamma-spec : {M : Type 1} → statement M
@@ -63,12 +50,12 @@ ln-gamma-spec =
     (λ c. search needs)
     (λ c. search needs)
     (λ c κs. tt)
-    mul-at
+    (λ c. omega (arith, ends (entry c)))
     (λ c. search needs)
     (λ c. search needs)
-    mul-residual-2
-    sub-residual
-    part-residual-start
+    (λ c. omega (arith, ends (entry (c .before))))
+    (λ c. omega (arith, ends (entry (c .before))))
+    (λ c. omega (arith, ends (entry (c .before))))
     (λ c. search needs)
     (λ c. search needs)
     (λ c. search needs)

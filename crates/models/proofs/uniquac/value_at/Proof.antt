@@ -18,44 +18,21 @@ unfolding uniquacSize
 fits c = (c .pre .1, mul-le-mul (c .pre .0) (c .pre .0))
 
 fill-energies-requires : tie.Need-fill-energies-requires
-fill-energies-requires c κs = let start = c .before .before .before in (start .pre .0, omega (arith, fits start), omega (arith, fits start))
-
-mul-at : tie.Need-mul-at
-mul-at c = omega (arith, fits (c .before .before .before .before .before))
-
-add-qs-at : tie.Need-add-qs-at
-add-qs-at c = omega (arith, fits (c .before .before .before .before .before))
-
-mul-value-over : tie.Need-mul-value-over
-mul-value-over c = omega (arith, fits (c .before .before .before .before .before))
-
-sub-value-over : tie.Need-sub-value-over
-sub-value-over c = omega (arith, fits (c .before .before .before .before .before))
-
-part-value-over-start : tie.Need-part-value-over-start
-part-value-over-start c = omega (arith, fits (c .before .before .before .before .before))
-
-mul-value-over-2 : tie.Need-mul-value-over-2
-mul-value-over-2 c = omega (arith, fits (c .before .before .before .before .before .before))
-
-sub-value-over-2 : tie.Need-sub-value-over-2
-sub-value-over-2 c = omega (arith, fits (c .before .before .before .before .before .before))
-
-part-value-over-start-2 : tie.Need-part-value-over-start-2
-part-value-over-start-2 c = omega (arith, fits (c .before .before .before .before .before .before))
+fill-energies-requires c κs = let room = fits (c .before .before .before) in search needs
 
 value-over-requires : tie.Need-value-over-requires
 value-over-requires c κs =
     let start = c .before .before .before .before .before .before .before .before in
     let n = start .args .n in
+    let room = fits start in
     let r-part = from-length (n * n) (now (start .args .values)) in
     let q-part = from-length (n * n + n) (now (start .args .values)) in
-    (start .pre .0, omega (arith, r-part, fits start), omega (arith, q-part, fits start), omega (arith, c .before .before .before .before .fill-energies .kept .1 .1 .1 .0, fits start), start .pre .2, start .pre .3)
+    search needs
 
 returns : tie.Need-returns
 returns c =
     let start = c .before .before .before .before .before .before .before .before .before in
-    uniquac-from (start .args .n) (now (start .args .values)) _ _ _ _ (fits start .0) (start .pre .3) (c .before .before .before .before .before .fill-energies .ensures) (c .value-over .ensures)
+    uniquac-from _ _ _ _ _ _ (fits start .0) (start .pre .3) (c .before .before .before .before .before .fill-energies .ensures) (c .value-over .ensures)
 
 pub value-at-spec : {M : Type 1} → statement M
 value-at-spec =
@@ -63,15 +40,15 @@ value-at-spec =
     (tie.spec
     (λ c. search needs)
     fill-energies-requires
-    mul-at
-    add-qs-at
-    mul-value-over
-    sub-value-over
-    part-value-over-start
+    (λ c. omega (arith, fits (c .before .before .before .before .before)))
+    (λ c. omega (arith, fits (c .before .before .before .before .before)))
+    (λ c. omega (arith, fits (c .before .before .before .before .before)))
+    (λ c. omega (arith, fits (c .before .before .before .before .before)))
+    (λ c. omega (arith, fits (c .before .before .before .before .before)))
     (λ c. search needs)
-    mul-value-over-2
-    sub-value-over-2
-    part-value-over-start-2
+    (λ c. omega (arith, fits (c .before .before .before .before .before .before)))
+    (λ c. omega (arith, fits (c .before .before .before .before .before .before)))
+    (λ c. omega (arith, fits (c .before .before .before .before .before .before)))
     (λ c. search needs)
     (λ c. search needs)
     value-over-requires

@@ -1,10 +1,15 @@
 -- Each quantity from what all components share, which is worked out once.
+use Prim.Native.Nat.{_≤_}
 use native.Mathlib.Omega.{arith}
+use denote.Ref.{now}
+use lib.ListN.{length}
 use borrow.Author.Needs.{needs}
+use Rattle.arithmetic.specs.Tables.{at, grid}
 use Rattle.arithmetic.proofs.TableLaws.{filled-less}
+use Rattle.models.specs.Shared.{UniquacShared}
 use Rattle.models.specs.Uniquac.{uniquac}
 use Rattle.models.proofs.AnswerLaws.{index-ln, index-gamma, quantity-ln, quantity-gamma, quantity-excess}
-use Rattle.models.proofs.ListLaws.{zeros}
+use Rattle.models.proofs.ColumnLaws.{zeros}
 use Rattle.models.proofs.UniquacLaws.{shared}
 use Rattle.models.proofs.uniquac.value_over.Statement.{statement}
 use Rattle.models.proofs.uniquac.value_over.Tie as tie
@@ -14,58 +19,37 @@ entry c = c .before .before .before .before .before .before .before .before .bef
 
 unit-column-sums-requires : tie.Need-unit-column-sums-requires
 unit-column-sums-requires c κs =
-    let start = c .before .before .before .before .before .before .before .before .before .before .before in
-    (start .pre .3, omega (arith, c .before .before .before .shares .kept .1 .1 .1 .0, start .pre .0), omega (arith, start .pre .0), filled-less (start .pre .0) (zeros 12))
+    let zero = filled-less (c .before .before .before .before .before .before .before .before .before .before .before .pre .0) (zeros 12) in
+    search needs
+
+-- what all components share, and how long its lists are
+known : (c : tie.After-unit-column-sums) → let a = entry c .args in let theta = c .before .before .before .before .shares .last .1 .1 .1 .0 in let sums = c .unit-column-sums .last .1 .1 .1 .0 in
+    (a .n ≤ length theta) × (a .n ≤ length sums)
+    × UniquacShared (a .n) (at (now (a .r))) (at (now (a .q))) (grid (a .n) (now (a .e))) (at (now (a .x))) (c .before .before .before .before .before .before .before .dot .result) (c .before .before .before .before .before .before .l-sum .result) theta sums
+known c =
+    let theta = c .before .before .before .before .shares in
+    let sums = c .unit-column-sums in (
+      omega (arith, theta .kept .1 .1 .1 .0, entry c .pre .0),
+      omega (arith, sums .kept .1 .1 .1 .0, entry c .pre .0),
+      shared _ _ _ _ _ (c .before .before .before .before .before .before .before .dot .ensures) (c .before .before .before .before .before .before .l-sum .ensures) (theta .ensures) (sums .ensures),
+    )
 
 ln-gamma-requires : tie.Need-ln-gamma-requires
 ln-gamma-requires c κs =
     let all = c .before .before .before .before .before .before in
     let pre = entry all .pre in
-    let theta = all .before .before .before .before .shares in
-    let sums = all .unit-column-sums in (
-      pre .1,
-      pre .2,
-      pre .3,
-      pre .4,
-      omega (arith, theta .kept .1 .1 .1 .0, pre .0),
-      omega (arith, sums .kept .1 .1 .1 .0, pre .0),
-      index-ln (c .before .before .before .k .given .1) (pre .5),
-      shared _ _ _ _ _ (all .before .before .before .before .before .before .before .dot .ensures) (all .before .before .before .before .before .before .l-sum .ensures) (theta .ensures) (sums .ensures),
-      pre .0,
-    )
+    let k = known all in
+    (pre .1, pre .2, pre .3, pre .4, k .0, k .1, index-ln (c .before .before .before .k .given .1) (pre .5), k .2, pre .0)
 
 ln-gamma-requires-2 : tie.Need-ln-gamma-requires-2
 ln-gamma-requires-2 c κs =
     let all = c .before .before .before .before .before .before in
     let pre = entry all .pre in
-    let theta = all .before .before .before .before .shares in
-    let sums = all .unit-column-sums in (
-      pre .1,
-      pre .2,
-      pre .3,
-      pre .4,
-      omega (arith, theta .kept .1 .1 .1 .0, pre .0),
-      omega (arith, sums .kept .1 .1 .1 .0, pre .0),
-      index-gamma (c .before .before .before .k2 .given .1) (pre .5),
-      shared _ _ _ _ _ (all .before .before .before .before .before .before .before .dot .ensures) (all .before .before .before .before .before .before .l-sum .ensures) (theta .ensures) (sums .ensures),
-      pre .0,
-    )
+    let k = known all in
+    (pre .1, pre .2, pre .3, pre .4, k .0, k .1, index-gamma (c .before .before .before .k2 .given .1) (pre .5), k .2, pre .0)
 
 excess-gibbs-requires : tie.Need-excess-gibbs-requires
-excess-gibbs-requires c κs =
-    let all = c .before .before .before .before .before in
-    let pre = entry all .pre in
-    let theta = all .before .before .before .before .shares in
-    let sums = all .unit-column-sums in (
-      pre .1,
-      pre .2,
-      pre .3,
-      pre .4,
-      omega (arith, theta .kept .1 .1 .1 .0, pre .0),
-      omega (arith, sums .kept .1 .1 .1 .0, pre .0),
-      shared _ _ _ _ _ (all .before .before .before .before .before .before .before .dot .ensures) (all .before .before .before .before .before .before .l-sum .ensures) (theta .ensures) (sums .ensures),
-      pre .0,
-    )
+excess-gibbs-requires c κs = let k = known (c .before .before .before .before .before) in search needs
 
 returns : tie.Need-returns
 unfolding uniquac

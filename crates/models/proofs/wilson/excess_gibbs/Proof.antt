@@ -27,9 +27,6 @@ loop-holds c = (omega arith, omega (arith, c .before .before .log-each .kept .0,
 loop-again : tie.Need-loop-again Inv-loop μ-loop
 loop-again c = let top = c .before .before .before in (omega arith, top .loop .inv .1, fold-more _ _ _ (top .loop .inv .2) refl)
 
-same-length : tie.Need-same-length Inv-loop μ-loop
-same-length c = c .before .before .before .before .log-each .kept .0
-
 returns : tie.Need-returns Inv-loop μ-loop
 returns c =
     let inv = c .before .loop .inv in
@@ -52,5 +49,5 @@ excess-gibbs-spec =
     (λ c. omega arith)
     (λ c. omega arith)
     loop-again
-    same-length
+    (λ c. c .before .before .before .before .log-each .kept .0)
     returns)

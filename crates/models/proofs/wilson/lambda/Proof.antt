@@ -11,18 +11,6 @@ use Rattle.models.proofs.wilson.lambda.Tie as tie
 cell : (c : tie.Start) → (c .args .i * c .args .n + c .args .j < c .args .n * c .args .n) × (c .args .n * c .args .n ≤ 144)
 cell c = (cell-lt (c .args .n) (c .args .n) (c .args .i) (c .args .j) (c .pre .3) (c .pre .4), mul-le-mul (c .pre .0) (c .pre .0))
 
-mul-result-3 : tie.Need-mul-result-3
-mul-result-3 c = omega (arith, cell (c .before .before))
-
-add-result : tie.Need-add-result
-add-result c = omega (arith, cell (c .before .before))
-
-mul-result-4 : tie.Need-mul-result-4
-mul-result-4 c = omega (arith, cell (c .before .before))
-
-shared-slice-read-result-3 : tie.Need-shared-slice-read-result-3
-shared-slice-read-result-3 c = omega (arith, cell (c .before .before .before))
-
 returns : tie.Need-returns
 returns c = refl
 
@@ -34,8 +22,8 @@ lambda-spec =
     (λ c. omega arith)
     (λ c. omega arith)
     (λ c. omega arith)
-    mul-result-3
-    add-result
-    mul-result-4
-    shared-slice-read-result-3
+    (λ c. omega (arith, cell (c .before .before)))
+    (λ c. omega (arith, cell (c .before .before)))
+    (λ c. omega (arith, cell (c .before .before)))
+    (λ c. omega (arith, cell (c .before .before .before)))
     returns)

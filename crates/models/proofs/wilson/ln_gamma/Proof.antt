@@ -1,42 +1,27 @@
 -- The terms are the definition's off the diagonal, whose own is put right; the row sums are the definition's, as the caller
 -- shows.
-use mathlib.Core.Path.{_≡_, refl, sym}
-use Prim.Native.Nat.{_-_, _≤_}
+use mathlib.Core.Path.{refl}
+use Prim.Native.Nat.{_-_}
 use native.Mathlib.Omega.{arith}
 use borrow.Author.Needs.{needs}
 use denote.Ref.{now}
 use lib.Ieee.{round, ofBits}
-use lib.ListN.{length, length-set}
-use lib.Seq.{length-take-le}
 use Rattle.arithmetic.specs.Floats.{_⊗_, _⊘_, dec, one}
-use Rattle.arithmetic.specs.Tables.{at, grid, Filled}
-use Rattle.arithmetic.proofs.TableLaws.{filled-none, filled-more}
+use Rattle.arithmetic.specs.Tables.{at, grid}
+use Rattle.arithmetic.proofs.TableLaws.{Filling, filling-none, filling-more}
 use Rattle.models.proofs.WilsonLaws.{ln-folded}
+use Rattle.models.proofs.ColumnLaws.{terms-room, terms-taken}
 use Rattle.models.proofs.wilson.ln_gamma.Statement.{statement}
 use Rattle.models.proofs.wilson.ln_gamma.Tie as tie
 
 abbrev Inv-loop : tie.InvT-loop
-Inv-loop n v e x sums i terms₀ k₀ terms k = (k ≤ n) × (length terms ≡ 12) × Filled (λ k. at x k ⊗ (at v i ⊘ at v k ⊗ grid n e k i) ⊘ at sums k) k terms
+Inv-loop n v e x sums i terms₀ k₀ terms k = Filling (λ k. at x k ⊗ (at v i ⊘ at v k ⊗ grid n e k i) ⊘ at sums k) n 12 k terms
 
 abbrev μ-loop : tie.MeasureT-loop
 μ-loop n v e x sums i terms₀ k₀ terms k = n - k
 
-loop-holds : tie.Need-loop-holds Inv-loop μ-loop
-loop-holds c = (omega arith, refl, filled-none (omega arith))
-
 loop-again : tie.Need-loop-again Inv-loop μ-loop
-loop-again c =
-    let top = c .before .before .before .before in
-    (omega arith, simp length-set (top .loop .inv .1), filled-more (omega arith) (omega arith) (top .loop .inv .2) (rw (c .before .lambda .ensures)))
-
-array-write-terms-2 : tie.Need-array-write-terms-2 Inv-loop μ-loop
-array-write-terms-2 c = omega (arith, c .before .before .before .loop .inv .1, c .before .before .before .before .before .before .before .before .pre .4, c .before .before .before .before .before .before .before .before .pre .5)
-
-array-share-prefix-terms : tie.Need-array-share-prefix-terms Inv-loop μ-loop
-array-share-prefix-terms c = simp length-set (omega (arith, c .before .before .before .before .before .loop .inv .1, c .before .before .before .before .before .before .before .before .before .before .pre .5))
-
-slice-aggregate-sum : tie.Need-slice-aggregate-sum Inv-loop μ-loop
-slice-aggregate-sum c = sym (length-take-le _ _ (simp length-set (omega (arith, c .before .before .before .before .before .before .loop .inv .1, c .before .before .before .before .before .before .before .before .before .before .before .pre .5))))
+loop-again c = filling-more (omega arith) (c .before .before .before .before .loop .inv) (rw (c .before .lambda .ensures))
 
 returns : tie.Need-returns Inv-loop μ-loop
 unfolding one dec round ofBits
@@ -44,8 +29,7 @@ returns c =
     let done = c .before .before .before .before .before .before in
     let start = done .before .before .before .before .before .before in
     let a = start .args in
-    ln-folded (a .n) (at (now (a .v))) (now (a .e)) (at (now (a .x))) (now (a .sums)) (start .pre .6) (a .i) (start .pre .4) _ _ (omega (arith, done .before .loop .inv .1, start .pre .5)) (done .loop-test .left)
-    (done .before .loop .inv .2) refl (c .before .before .log .ensures) (c .sum .ensures)
+    ln-folded _ _ (now (a .e)) _ _ (start .pre .6) _ (start .pre .4) (done .loop-test .left) (done .before .loop .inv) refl (c .before .before .log .ensures) (c .sum .ensures)
 
 pub ln-gamma-spec : {M : Type 1} → statement M
 ln-gamma-spec =
@@ -53,7 +37,7 @@ ln-gamma-spec =
     (tie.spec
     Inv-loop
     μ-loop
-    loop-holds
+    (λ c. filling-none (omega arith) refl)
     (λ c. omega arith)
     (λ c. omega arith)
     (λ c κs. search needs)
@@ -69,11 +53,11 @@ ln-gamma-spec =
     (λ c. omega arith)
     (λ c. omega arith)
     (λ c. omega arith)
-    array-write-terms-2
+    (λ c. omega (arith, c .before .before .before .loop .inv, c .before .before .before .before .before .before .before .before .pre .4))
     (λ c. omega arith)
     (λ c. omega arith)
     (λ c κs. tt)
-    array-share-prefix-terms
-    slice-aggregate-sum
+    (λ c. terms-room (c .before .before .before .before .before .loop .inv) _ _)
+    (λ c. terms-taken (c .before .before .before .before .before .before .loop .inv) _ _)
     (λ c κs. tt)
     returns)

@@ -1,18 +1,18 @@
--- The loop has filled the sums of the rows above i.
-use mathlib.Core.Path.{_≡_, refl, _∙_}
+-- The loop has filled the sums of the rows above i; at its end these are all.
+use mathlib.Core.Path.{refl, _∙_}
 use Prim.Native.Nat.{_+_, _*_, _-_, _≤_}
 use native.Mathlib.Omega.{arith}
 use denote.Ref.{now}
-use lib.ListN.{length-set, length}
-use Rattle.arithmetic.specs.Tables.{at, grid, Filled}
-use Rattle.arithmetic.proofs.TableLaws.{row-end, from-length, filled-none, filled-more, filled-less}
+use lib.ListN.{length}
+use Rattle.arithmetic.specs.Tables.{at, grid}
+use Rattle.arithmetic.proofs.TableLaws.{row-end, from-room, Filling, filling-none, filling-more, filling-done}
 use Rattle.models.specs.Wilson.{rowSum}
 use Rattle.models.proofs.WilsonLaws.{rowSum-row}
 use Rattle.models.proofs.wilson.row_sums.Statement.{statement}
 use Rattle.models.proofs.wilson.row_sums.Tie as tie
 
 abbrev Inv-loop : tie.InvT-loop
-Inv-loop n v e x sums₀ i₀ sums i = (i ≤ n) × (length sums ≡ length sums₀) × Filled (rowSum n (at v) (grid n e) (at x)) i sums
+Inv-loop n v e x sums₀ i₀ sums i = Filling (rowSum n (at v) (grid n e) (at x)) n (length sums₀) i sums
 
 abbrev μ-loop : tie.MeasureT-loop
 μ-loop n v e x sums₀ i₀ sums i = n - i
@@ -23,27 +23,12 @@ ends c =
     let start = c .before .before .before .before .before .before in
     omega (arith, row-end (start .args .n) (start .args .n) (c .before .loop .i) (c .loop-test .taken))
 
-loop-holds : tie.Need-loop-holds Inv-loop μ-loop
-loop-holds c = (omega arith, refl, filled-none (omega arith))
-
-mul-at : tie.Need-mul-at Inv-loop μ-loop
-mul-at c = omega (arith, ends c)
-
-mul-row-sum : tie.Need-mul-row-sum Inv-loop μ-loop
-mul-row-sum c = omega (arith, ends c)
-
-sub-row-sum : tie.Need-sub-row-sum Inv-loop μ-loop
-sub-row-sum c = omega (arith, ends c)
-
-part-row-sum-start : tie.Need-part-row-sum-start Inv-loop μ-loop
-part-row-sum-start c = omega (arith, ends c)
-
 row-sum-requires : tie.Need-row-sum-requires Inv-loop μ-loop
 row-sum-requires c κs =
     let turn = c .before in
     let start = turn .before .before .before .before .before .before in
-    let row = from-length (turn .before .loop .i * start .args .n) (now (start .args .e)) in
-    (start .pre .1, omega (arith, row, ends turn), start .pre .3, turn .loop-test .taken, start .pre .0)
+    let row = from-room (turn .before .loop .i * start .args .n) _ (now (start .args .e)) (ends turn) in
+    (start .pre .1, row, start .pre .3, turn .loop-test .taken, start .pre .0)
 
 loop-again : tie.Need-loop-again Inv-loop μ-loop
 loop-again c =
@@ -51,13 +36,7 @@ loop-again c =
     let start = turn .before .before .before .before .before .before in
     let i = turn .before .loop .i in
     let row = rowSum-row (start .args .n) (at (now (start .args .v))) (now (start .args .e)) (at (now (start .args .x))) i (ends turn) in
-    (omega arith, simp length-set (turn .before .loop .inv .1), filled-more (omega arith) (omega arith) (turn .before .loop .inv .2) (c .row-sum .ensures ∙ row))
-
-same-length : tie.Need-same-length Inv-loop μ-loop
-same-length c = c .before .loop .inv .1
-
-returns : tie.Need-returns Inv-loop μ-loop
-returns c = filled-less (c .loop-test .left) (c .before .loop .inv .2)
+    filling-more (omega arith) (turn .before .loop .inv) (c .row-sum .ensures ∙ row)
 
 pub row-sums-spec : {M : Type 1} → statement M
 row-sums-spec =
@@ -65,11 +44,11 @@ row-sums-spec =
     (tie.spec
     Inv-loop
     μ-loop
-    loop-holds
-    mul-at
-    mul-row-sum
-    sub-row-sum
-    part-row-sum-start
+    (λ c. filling-none (omega arith) refl)
+    (λ c. omega (arith, ends c))
+    (λ c. omega (arith, ends c))
+    (λ c. omega (arith, ends c))
+    (λ c. omega (arith, ends c))
     (λ c. omega arith)
     row-sum-requires
     (λ c. omega arith)
@@ -77,5 +56,5 @@ row-sums-spec =
     (λ c. omega arith)
     (λ c. omega arith)
     loop-again
-    same-length
-    returns)
+    (λ c. c .before .loop .inv .long)
+    (λ c. filling-done (c .loop-test .left) (c .before .loop .inv)))

@@ -7,15 +7,15 @@ use Rattle.models.specs.Values.{wilsonSize}
 use Rattle.models.proofs.wilson.size.Statement.{statement}
 use Rattle.models.proofs.wilson.size.Tie as tie
 
-mul-result : tie.Need-mul-result
-mul-result c = omega (arith, mul-le-mul (c .if1 .left) (c .if1 .left))
-
-add-result : tie.Need-add-result
-add-result c = omega (arith, mul-le-mul (c .if1 .left) (c .if1 .left))
-
 returns-2 : tie.Need-returns-2
 unfolding wilsonSize
 returns-2 c = λ _. refl
 
 pub size-spec : {M : Type 1} → statement M
-size-spec = tie.close (tie.spec (λ c. search needs) mul-result add-result returns-2)
+size-spec =
+    tie.close
+    (tie.spec
+    (λ c. search needs)
+    (λ c. omega (arith, mul-le-mul (c .if1 .left) (c .if1 .left)))
+    (λ c. omega (arith, mul-le-mul (c .if1 .left) (c .if1 .left)))
+    returns-2)

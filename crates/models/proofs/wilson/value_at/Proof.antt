@@ -17,30 +17,19 @@ unfolding wilsonSize
 fits c = (c .pre .1, mul-le-mul (c .pre .0) (c .pre .0))
 
 fill-energies-requires : tie.Need-fill-energies-requires
-fill-energies-requires c κs = let start = c .before .before .before in (start .pre .0, omega (arith, fits start), omega (arith, fits start))
-
-mul-at : tie.Need-mul-at
-mul-at c = omega (arith, fits (c .before .before .before .before .before))
-
-mul-value-over : tie.Need-mul-value-over
-mul-value-over c = omega (arith, fits (c .before .before .before .before .before))
-
-sub-value-over : tie.Need-sub-value-over
-sub-value-over c = omega (arith, fits (c .before .before .before .before .before))
-
-part-value-over-start : tie.Need-part-value-over-start
-part-value-over-start c = omega (arith, fits (c .before .before .before .before .before))
+fill-energies-requires c κs = let room = fits (c .before .before .before) in search needs
 
 value-over-requires : tie.Need-value-over-requires
 value-over-requires c κs =
     let start = c .before .before .before .before .before .before .before in
-    let n = start .args .n in
-    (start .pre .0, omega (arith, from-length (n * n) (now (start .args .values)), fits start), omega (arith, c .before .before .before .fill-energies .kept .1 .1 .1 .0, fits start), start .pre .2, start .pre .3)
+    let room = fits start in
+    let part = from-length (start .args .n * start .args .n) (now (start .args .values)) in
+    search needs
 
 returns : tie.Need-returns
 returns c =
     let start = c .before .before .before .before .before .before .before .before in
-    wilson-from (start .args .n) (now (start .args .values)) _ _ _ _ (fits start .0) (start .pre .3) (c .before .before .before .before .fill-energies .ensures) (c .value-over .ensures)
+    wilson-from _ _ _ _ _ _ (fits start .0) (start .pre .3) (c .before .before .before .before .fill-energies .ensures) (c .value-over .ensures)
 
 pub value-at-spec : {M : Type 1} → statement M
 value-at-spec =
@@ -48,10 +37,10 @@ value-at-spec =
     (tie.spec
     (λ c. search needs)
     fill-energies-requires
-    mul-at
-    mul-value-over
-    sub-value-over
-    part-value-over-start
+    (λ c. omega (arith, fits (c .before .before .before .before .before)))
+    (λ c. omega (arith, fits (c .before .before .before .before .before)))
+    (λ c. omega (arith, fits (c .before .before .before .before .before)))
+    (λ c. omega (arith, fits (c .before .before .before .before .before)))
     (λ c. search needs)
     (λ c. search needs)
     value-over-requires

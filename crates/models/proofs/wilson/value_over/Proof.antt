@@ -1,24 +1,32 @@
 -- Each quantity from the row sums: ln γ and the excess energy over them are the definition's.
 use mathlib.Core.Path.{_∙_}
+use Prim.Native.Nat.{_≤_}
 use native.Mathlib.Omega.{arith}
 use borrow.Author.Needs.{needs}
+use lib.ListN.{length}
 use Rattle.models.specs.Wilson.{wilson}
 use Rattle.models.proofs.AnswerLaws.{index-ln, index-gamma, quantity-ln, quantity-gamma, quantity-excess}
 use Rattle.models.proofs.WilsonLaws.{excess-hoisted}
 use Rattle.models.proofs.wilson.value_over.Statement.{statement}
 use Rattle.models.proofs.wilson.value_over.Tie as tie
 
+abbrev entry : tie.After-row-sums → tie.Start
+entry c = c .before .before .before .before .before
+
+long : (c : tie.After-row-sums) → entry c .args .n ≤ length (c .row-sums .last .1 .1 .1 .1 .0)
+long c = omega (arith, c .row-sums .kept .1 .1 .1 .1 .0, entry c .pre .0)
+
 ln-gamma-requires : tie.Need-ln-gamma-requires
 ln-gamma-requires c κs =
     let sums = c .before .before .before .before .before in
-    let start = sums .before .before .before .before .before in
-    (start .pre .1, start .pre .2, start .pre .3, omega (arith, sums .row-sums .kept .1 .1 .1 .1 .0, start .pre .0), index-ln (c .before .before .q .given .1) (start .pre .4), start .pre .0, sums .row-sums .ensures)
+    let pre = entry sums .pre in
+    (pre .1, pre .2, pre .3, long sums, index-ln (c .before .before .q .given .1) (pre .4), pre .0, sums .row-sums .ensures)
 
 ln-gamma-requires-2 : tie.Need-ln-gamma-requires-2
 ln-gamma-requires-2 c κs =
     let sums = c .before .before .before .before .before in
-    let start = sums .before .before .before .before .before in
-    (start .pre .1, start .pre .2, start .pre .3, omega (arith, sums .row-sums .kept .1 .1 .1 .1 .0, start .pre .0), index-gamma (c .before .before .q2 .given .1) (start .pre .4), start .pre .0, sums .row-sums .ensures)
+    let pre = entry sums .pre in
+    (pre .1, pre .2, pre .3, long sums, index-gamma (c .before .before .q2 .given .1) (pre .4), pre .0, sums .row-sums .ensures)
 
 returns : tie.Need-returns
 unfolding wilson
