@@ -10,7 +10,7 @@ use lib.IntN.{ℤ}
 use lib.Ieee.{Float, nan, inf, fin, up, down, lt, eq, le, neg}
 use borrow.Author.Tests.{ne-eqb, eqb-true, eqb-false, le-ltb, ltb-false}
 use Rattle.arithmetic.specs.Floats.{abs}
-use Rattle.arithmetic.proofs.Differences.{either}
+use Rattle.arithmetic.proofs.Tests.{either}
 
 eqb-comm : (a b : ℕ) → eqb a b ≡ eqb b a
 eqb-comm a b =

@@ -14,8 +14,7 @@ use lib.Ieee.Bits.{nanBits-is, nanBits-above}
 use borrow.Author.Tests.{lt-ltb, le-ltb}
 use Rattle.arithmetic.specs.Bytes.{wordAt, floatAt, floatsAt}
 use Rattle.arithmetic.specs.Tables.{at}
-use Rattle.arithmetic.proofs.Tests.{failed}
-use Rattle.arithmetic.proofs.Differences.{le-or}
+use Rattle.arithmetic.proofs.Tests.{failed, le-or}
 
 is-nan : (v : Float) → isNan v ≡ true → v ≡ nan
 unfolding isNan

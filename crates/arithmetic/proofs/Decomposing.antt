@@ -16,7 +16,8 @@ use borrow.Author.Tests.{lt-ltb, le-ltb, ltb-true, ltb-false}
 use Rattle.arithmetic.specs.Logarithm.{logBy, significand, binade, places, M}
 use Rattle.arithmetic.proofs.LogBranches.{rest, Positive}
 use Rattle.arithmetic.specs.Digits.{fromDigits}
-use Rattle.arithmetic.proofs.Differences.{either, le-or, minus-add, minus-suc, minus-neg}
+use Rattle.arithmetic.proofs.Tests.{either, le-or}
+use Rattle.arithmetic.proofs.Differences.{minus-add, minus-suc, minus-neg}
 use Rattle.arithmetic.proofs.Powers.{minus-ge, minus-lt}
 
 -- ---- an odd number times a power of two

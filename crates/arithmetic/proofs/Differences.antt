@@ -1,25 +1,19 @@
 -- Differences of two natural numbers as integers, and the float that 53 digits and an exponent stand for.
-use mathlib.Core.Path.{_≡_, refl, ap, _∙_}
-use mathlib.Core.Logic.{_⊎_, inl, inr}
-use mathlib.Core.Bool.{Bool, true, false, not}
+use mathlib.Core.Path.{_≡_, ap, _∙_}
+use mathlib.Core.Logic.{inl, inr}
+use mathlib.Core.Bool.{false, not}
 use Prim.Native.Nat.{ℕ, zero, suc, _+_, _-_, _*_, _^_, _≤_, _<_}
 use native.Mathlib.Omega.{arith}
-use lib.Dec.{T, leb}
+use lib.Dec.{T}
 use lib.IntN.{pos, negsuc, negℤ, _+ℤ_, _-ℤ_}
 use lib.Ieee.{binary64, minus, ofBits, odd, isNan, nanBits}
 use lib.Ieee.Bits.{nanBits-is}
-use borrow.Author.Tests.{lt-leb, le-ltb, lt-ltb, leb-true, leb-false}
+use borrow.Author.Tests.{lt-leb, le-ltb, lt-ltb}
 use mir.Syntax.{w32}
 use mir.Val.{SFits, toZ, ofZ}
 use mir.ValLaws.{toZ-ofZ, toZ-pos}
+use Rattle.arithmetic.proofs.Tests.{le-or}
 use Rattle.arithmetic.proofs.Powers.{ofBits-at, field-odd, minus-ge, minus-lt}
-
-pub either : (b : Bool) → (b ≡ true) ⊎ (b ≡ false)
-either true = inl refl
-either false = inr refl
-
-pub le-or : (a b : ℕ) → (a ≤ b) ⊎ (b < a)
-le-or a b = elim (either (leb a b)) [ inl h ↦ inl (leb-true a b h) | inr h ↦ inr (leb-false a b h) ]
 
 -- ---- a - l
 pub sub-minus : (x l : ℕ) → pos x -ℤ pos (suc l) ≡ minus x (suc l)

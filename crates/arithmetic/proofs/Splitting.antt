@@ -15,7 +15,7 @@ use lib.Ieee.Digits.{size-lt, size-reaches}
 use lib.Ieee.Fits.{down-pos}
 use borrow.Author.Tests.{ltb-true, ltb-false}
 use Rattle.arithmetic.specs.Logarithm.{places, M, Splits, significand, binade}
-use Rattle.arithmetic.proofs.Differences.{either}
+use Rattle.arithmetic.proofs.Tests.{either}
 use Rattle.arithmetic.proofs.Powers.{two-is}
 use Rattle.arithmetic.proofs.Within.{le→fractions}
 

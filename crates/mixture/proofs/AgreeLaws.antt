@@ -8,7 +8,7 @@ use lib.ListN.{length}
 use borrow.Author.Tests.{le-ltb}
 use lib.Ieee.{Float}
 use Rattle.arithmetic.specs.declared.parameters.TdParam.{TdParam}
-use Rattle.arithmetic.proofs.Differences.{le-or}
+use Rattle.arithmetic.proofs.Tests.{le-or}
 use Rattle.models.specs.Values.{lists}
 use Rattle.mixture.specs.declared.head.Model.{Model}
 use Rattle.mixture.specs.declared.head.Model.the-variants.{Wilson, Uniquac, Nrtl, Unifac}

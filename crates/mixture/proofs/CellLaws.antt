@@ -13,7 +13,7 @@ use borrow.Author.Tests.{lt-ltb, ne-eqb, eqb-true}
 use Rattle.arithmetic.specs.Tables.{at}
 use Rattle.arithmetic.specs.Parameters.{tdAt}
 use Rattle.arithmetic.specs.declared.parameters.TdParam.{TdParam}
-use Rattle.arithmetic.proofs.Differences.{either}
+use Rattle.arithmetic.proofs.Tests.{either}
 use Rattle.models.specs.declared.answers.Quantity.{Quantity}
 use Rattle.models.specs.Answers.{indexFault}
 use Rattle.models.specs.Exponentials.{energy, groupEnergy}

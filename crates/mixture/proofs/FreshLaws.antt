@@ -10,7 +10,7 @@ use native.Mathlib.Omega.{arith}
 use borrow.Author.Tests.{eq-eqb, ne-eqb, eqb-false}
 use lib.Dec.{eqb}
 use lib.ListN.{getD}
-use Rattle.arithmetic.proofs.Differences.{either}
+use Rattle.arithmetic.proofs.Tests.{either}
 use Rattle.arithmetic.proofs.TableLaws.{by-place}
 use Rattle.mixture.specs.declared.head.Model.{Model}
 use Rattle.mixture.specs.declared.head.Model.the-variants.{Wilson, Uniquac, Nrtl, Unifac}

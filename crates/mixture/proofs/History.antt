@@ -16,7 +16,7 @@ use lib.Ieee.{Float, nan}
 use borrow.Author.Tests.{lt-ltb, eq-eqb, ne-eqb, eqb-true}
 use Rattle.arithmetic.specs.Floats.{+0}
 use Rattle.arithmetic.specs.Tables.{at, grid}
-use Rattle.arithmetic.proofs.Differences.{either}
+use Rattle.arithmetic.proofs.Tests.{either}
 use Rattle.arithmetic.proofs.TableLaws.{cell-lt, cell-row, cell-column}
 use Rattle.models.specs.declared.answers.Quantity.{Quantity}
 use Rattle.models.specs.Answers.{indexFault}

@@ -14,7 +14,7 @@ use lib.Ieee.{Float, nan}
 use borrow.Author.Tests.{ltb-true, eqb-true, eqb-false, eq-eqb, ne-eqb}
 use Rattle.arithmetic.specs.Tables.{at, from}
 use Rattle.arithmetic.specs.declared.parameters.TdParam.{TdParam}
-use Rattle.arithmetic.proofs.Differences.{either, le-or}
+use Rattle.arithmetic.proofs.Tests.{either, le-or}
 use Rattle.arithmetic.proofs.TableLaws.{cell-lt, cell-row, cell-column, from-at}
 use Rattle.models.specs.Values.{fiveAt, tdGrid, wilsonSize, energies, volumes, uniquacSize, rs, qs, nrtlSize, taus, alphas, countsAt, groupRs, groupQs, groupAs, start, unifacSize, lists}
 use Rattle.models.proofs.ListLaws.{list-place}

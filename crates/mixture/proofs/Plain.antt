@@ -14,7 +14,7 @@ use borrow.Author.Tests.{le-leb, lt-ltb, eq-eqb, eqb-true}
 use Rattle.arithmetic.specs.Floats.{+0}
 use Rattle.arithmetic.specs.Tables.{at, from}
 use Rattle.arithmetic.specs.declared.parameters.TdParam.{TdParam}
-use Rattle.arithmetic.proofs.Differences.{either}
+use Rattle.arithmetic.proofs.Tests.{either}
 use Rattle.arithmetic.proofs.TableLaws.{cell-lt, from-at}
 use Rattle.models.specs.declared.answers.Quantity.{Quantity}
 use Rattle.models.specs.declared.answers.Answer.the-variants.{Value}

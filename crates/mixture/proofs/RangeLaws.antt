@@ -13,7 +13,7 @@ use lib.Ieee.{Float, lt}
 use borrow.Author.Tests.{leb-true, ltb-true, ltb-false, le-ltb, eqb-true, eq-eqb}
 use Rattle.arithmetic.specs.Floats.{+0}
 use Rattle.arithmetic.specs.Tables.{at, from}
-use Rattle.arithmetic.proofs.Differences.{either, le-or}
+use Rattle.arithmetic.proofs.Tests.{either, le-or}
 use Rattle.models.specs.Answers.{first, firstTo}
 use Rattle.models.specs.Plain.{between, allTo, shapeFault, listsFault, placeFault, groupsFault, unifacFault}
 use Rattle.models.specs.Values.{wilsonSize, uniquacSize, nrtlSize, countsAt, start, unifacSize, lists}

@@ -14,7 +14,7 @@ use lib.ListN.{length, getD, set, take, drop, length-append, length-drop, drop-o
 use lib.Seq.{getD-take, getD-drop, getD-append-add, length-take-le, ext-getD}
 use lib.Ieee.{Float, nan}
 use Rattle.arithmetic.specs.Tables.{from}
-use Rattle.arithmetic.proofs.Differences.{le-or}
+use Rattle.arithmetic.proofs.Tests.{le-or}
 use Rattle.arithmetic.proofs.TableLaws.{by-place, row-end, row-next, from-length, cell-row, cell-column}
 use Rattle.mixture.specs.declared.head.Model.{Model}
 use Rattle.mixture.specs.declared.head.Model.the-variants.{Wilson, Uniquac, Nrtl, Unifac}

@@ -11,7 +11,7 @@ use lib.Seq.{getD-append-add, getD-append-seam, getD-take, getD-drop, length-tak
 use lib.Ieee.{Float, nan}
 use Rattle.arithmetic.specs.Tables.{at}
 use Rattle.arithmetic.specs.declared.parameters.TdParam.{TdParam}
-use Rattle.arithmetic.proofs.Differences.{le-or}
+use Rattle.arithmetic.proofs.Tests.{le-or}
 use Rattle.arithmetic.proofs.TableLaws.{cell-lt}
 use Rattle.models.specs.Values.{fiveAt, start}
 use Rattle.mixture.specs.Lists.{row, rows}

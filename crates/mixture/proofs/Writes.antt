@@ -11,7 +11,7 @@ use lib.Seq.{length-sets, getD-append-add, getD-drop}
 use lib.Ieee.{Float, nan}
 use borrow.Author.Tests.{ltb-false, eqb-true, eq-eqb, ne-eqb, le-leb, lt-ltb}
 use Rattle.arithmetic.specs.Tables.{at}
-use Rattle.arithmetic.proofs.Differences.{either, le-or}
+use Rattle.arithmetic.proofs.Tests.{either, le-or}
 use Rattle.arithmetic.proofs.TableLaws.{cell-lt, cell-row, cell-column}
 use Rattle.mixture.specs.declared.head.Head.{Head}
 use Rattle.mixture.specs.declared.head.Model.{Model}

@@ -15,7 +15,7 @@ use Rattle.arithmetic.specs.Sums.{fold, sum, total}
 use Rattle.arithmetic.specs.Tables.{at, grid, from, Filled, upTo}
 use Rattle.arithmetic.proofs.SumLaws.{sum-more, sum-same}
 use Rattle.arithmetic.proofs.TableLaws.{upto-below, from-at, by-place, Filling, filling-done}
-use Rattle.arithmetic.proofs.Differences.{either}
+use Rattle.arithmetic.proofs.Tests.{either}
 use Rattle.models.specs.Columns.{unitAt, unitDiagonal, columnSum}
 
 -- an array of zeros

@@ -13,7 +13,7 @@ use Rattle.arithmetic.specs.Floats.{_⊕_, _⊖_, _⊗_, _⊘_, +0, one}
 use Rattle.arithmetic.specs.Sums.{sum, total}
 use Rattle.arithmetic.specs.Parameters.{tdAt}
 use Rattle.arithmetic.specs.Tables.{at, grid, from, Filled, upTo}
-use Rattle.arithmetic.proofs.Differences.{either}
+use Rattle.arithmetic.proofs.Tests.{either}
 use Rattle.arithmetic.proofs.SumLaws.{sum-same}
 use Rattle.arithmetic.proofs.TableLaws.{from-at, cell-lt, Filling}
 use Rattle.models.specs.declared.answers.Quantity.{Quantity}

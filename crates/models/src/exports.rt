@@ -9,7 +9,7 @@ ghost use lib.ListN.{length};
 ghost use Rattle.arithmetic.specs.Bytes.{floats};
 ghost use Rattle.arithmetic.specs.Sums.{total};
 ghost use Rattle.arithmetic.specs.Tables.{at};
-ghost use Rattle.models.specs.Answers.{numberOf, answer, first, indexFault};
+ghost use Rattle.models.specs.Answers.{numberOf, first, indexFault};
 ghost use Rattle.models.specs.Exports.{exported, exportedBy, left, Ready};
 ghost use Rattle.models.specs.Exports.{loadFault as E·loadFault, valueAt as E·valueAt};
 ghost use Rattle.models.specs.Plain.{fractionsFault};

@@ -13,7 +13,7 @@ use lib.Seq.{sets, length-sets}
 use lib.Ieee.{Float}
 use borrow.Author.Tests.{le-leb, lt-leb, leb-true, eq-eqb, ne-eqb}
 use Rattle.arithmetic.specs.Bytes.{wordAt, floatAt}
-use Rattle.arithmetic.proofs.Differences.{either, le-or}
+use Rattle.arithmetic.proofs.Tests.{either, le-or}
 use Rattle.mixture.proofs.PlaceLaws.{both}
 use Rattle.strip.specs.Words.{kindOf, iOf, jOf, restOf}
 use Rattle.strip.specs.Lists.{Lists, noLists, missing, withPair, withList, isWord, pairsAt, listsAt}

@@ -12,7 +12,7 @@ use borrow.Author.Tests.{lt-ltb, le-ltb, ltb-false, lt-leb, le-leb, leb-true, eq
 use borrow.Author.Needs.{needs}
 use Rattle.arithmetic.specs.Bytes.{wordAt}
 use Rattle.models.specs.Values.{wilsonSize, uniquacSize, nrtlSize, countsAt}
-use Rattle.arithmetic.proofs.Differences.{either, le-or}
+use Rattle.arithmetic.proofs.Tests.{either, le-or}
 use Rattle.mixture.proofs.PlaceLaws.{both}
 use Rattle.strip.specs.declared.records.Shape.{Shape}
 use Rattle.strip.specs.declared.records.Rec.{Rec}
