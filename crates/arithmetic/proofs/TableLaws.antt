@@ -4,14 +4,13 @@ use mathlib.Core.List.{List, _++_}
 use Prim.Native.Nat.{ℕ, _+_, _*_, _/_, _%_, _-_, _<_, _≤_}
 use native.Mathlib.Nat.{suc-mul, mul-le-mul-right, mul-add-div-right, mul-add-mod-self-right, div-eq-of-lt, mod-eq-of-lt, add-zero, add-mul, one-mul, ne-of-lt, ne-of-gt, eq-or-lt-of-le, le-antisymm}
 use native.Mathlib.Omega.{arith}
-use mathlib.Core.Bool.{Bool, true, false}
-use mathlib.Core.Logic.{_⊎_, inl, inr, ⊎-elim}
-use borrow.Author.Tests.{lt-ltb, le-ltb, ltb-true, ltb-false}
-use lib.Dec.{ltb}
+use mathlib.Core.Logic.{⊎-elim}
+use borrow.Author.Tests.{lt-ltb, le-ltb}
 use lib.ListN.{length, set, take, length-set, length-take, length-drop, List·getD-append}
 use lib.Seq.{getD-set-same, getD-set-other, getD-take, getD-drop, getD-append-add, length-take-le}
 use lib.Ieee.{Float, nan}
 use borrow.Author.Count.{below-more}
+use Rattle.arithmetic.proofs.Tests.{le-or}
 use Rattle.arithmetic.specs.Tables.{at, grid, from, part, Filled, upTo, flat}
 
 -- ---- entry i, j of rows of n, at i * n + j
@@ -85,16 +84,9 @@ filled-cell m n L all i j a b = all .each (i * n + j) (cell-lt m n i j a b) ∙ 
 
 -- ---- places rewritten in order
 
-below-or : (k j : ℕ) → (k < j) ⊎ (j ≤ k)
-below-or k j = by-test (ltb k j) refl
-  where
-    by-test : (t : Bool) → ltb k j ≡ t → (k < j) ⊎ (j ≤ k)
-    by-test true e = inl (ltb-true k j e)
-    by-test false e = inr (ltb-false k j e)
-
 -- k is below j, at j or above j
 pub by-place : (k j : ℕ) {P : Type 0} → (k < j → P) → (j ≡ k → P) → (j < k → P) → P
-by-place k j f g h = ⊎-elim f (λ b. ⊎-elim g h (eq-or-lt-of-le b)) (below-or k j)
+by-place k j f g h = ⊎-elim (λ b. ⊎-elim g h (eq-or-lt-of-le b)) f (le-or j k)
 
 pub upto-below : (n : ℕ) (new old : ℕ → Float) (k : ℕ) → k < n → upTo n new old k ≡ new k
 unfolding upTo
