@@ -4,6 +4,7 @@ use crate::case::{Answer, Case, Quantity, UNIFAC, UNIQUAC, WILSON};
 use crate::compare::bits;
 use crate::models::rattle;
 use crate::rust;
+use original::unifac::UnifacVariant::{Dortmund, Original};
 use Quantity::{ExcessGibbs, LnGamma};
 
 /// A case of a model without groups, at 300 K.
@@ -89,15 +90,17 @@ fn documented() -> Vec<(Case, Answer, Answer)> {
     ]
 }
 
-/// Holds both sides to what is documented, prints what came of it, and answers whether all agree.
+/// Holds both sides to what is documented, the source with either variant of UNIFAC, prints what came of it, and answers whether all agree.
 pub fn compare_all() -> bool {
     let cases = documented();
     let mut differ = 0;
     for (case, source, port) in &cases {
-        let (asked, got) = (rust::asked(case), rattle(case, 0).0);
-        if asked != *source || got != *port {
-            differ += 1;
-            println!("docs/DIFFERENCES.md: {case}\n  Rust: {asked} for {source}\n  Rattle: {got} for {port}");
+        let got = rattle(case, 0).0;
+        for asked in [Original, Dortmund].map(|variant| rust::asked_as(case, variant)) {
+            if asked != *source || got != *port {
+                differ += 1;
+                println!("docs/DIFFERENCES.md: {case}\n  Rust: {asked} for {source}\n  Rattle: {got} for {port}");
+            }
         }
     }
     println!(

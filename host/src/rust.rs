@@ -91,7 +91,7 @@ fn nrtl(case: &Case) -> Result<Nrtl, ThermoError> {
     Nrtl::new(tau, alphas.chunks(n).map(<[f64]>::to_vec).collect())
 }
 
-fn unifac(case: &Case) -> Result<UnifacModel, ThermoError> {
+fn unifac(case: &Case, variant: UnifacVariant) -> Result<UnifacModel, ThermoError> {
     let (ng, values) = (case.ng, &case.values.all);
     let (r, rest) = values.split_at(ng);
     let (q, rest) = rest.split_at(ng);
@@ -106,18 +106,13 @@ fn unifac(case: &Case) -> Result<UnifacModel, ThermoError> {
     });
     let lists = lists.collect();
     let table = GroupTable::new(r.to_vec(), q.to_vec(), a)?;
-    // The variant, which the port drops, changes nothing in these calls: both come up.
-    let variant = match case.n % 2 {
-        0 => UnifacVariant::Original,
-        _ => UnifacVariant::Dortmund,
-    };
     UnifacModel::new(case.n, lists, table, variant)
 }
 
 /// Makes the model and asks it.
 macro_rules! ask {
-    ($make:ident, $case:ident) => {{
-        let model = $make($case)?;
+    ($make:expr, $case:ident) => {{
+        let model = $make?;
         let t = Temperature { value: $case.t };
         let x = &$case.x.all;
         match $case.quantity {
@@ -128,20 +123,28 @@ macro_rules! ask {
     }};
 }
 
-fn ask_model(case: &Case) -> Result<f64, ThermoError> {
+fn ask_model(case: &Case, variant: UnifacVariant) -> Result<f64, ThermoError> {
     match case.model {
-        WILSON => ask!(wilson, case),
-        UNIQUAC => ask!(uniquac, case),
-        NRTL => ask!(nrtl, case),
-        _ => ask!(unifac, case),
+        WILSON => ask!(wilson(case), case),
+        UNIQUAC => ask!(uniquac(case), case),
+        NRTL => ask!(nrtl(case), case),
+        _ => ask!(unifac(case, variant), case),
     }
 }
 
-/// The original's own answer, in its own range.
-pub fn asked(case: &Case) -> Answer {
-    match ask_model(case) {
+/// The original's own answer, in its own range, with UNIFAC's variant.
+pub fn asked_as(case: &Case, variant: UnifacVariant) -> Answer {
+    match ask_model(case, variant) {
         Err(error) => Answer::Refused(number(error)),
         Ok(v) => Answer::Value(bits(v)),
+    }
+}
+
+/// The same with either variant: the port drops it, since it changes nothing in these calls.
+pub fn asked(case: &Case) -> Answer {
+    match case.n % 2 {
+        0 => asked_as(case, UnifacVariant::Original),
+        _ => asked_as(case, UnifacVariant::Dortmund),
     }
 }
 

@@ -36,7 +36,7 @@ reciprocal = dec false 14426950408889634 16
 unfoldable pub rounding : Float → Float
 rounding v = cond (lt v +0) (neg half) half
 
--- k: reciprocal·v + h cut toward zero (to an i64, which it always fits)
+-- k: reciprocal·v + h cut toward zero (to an i64, which it fits wherever expOf asks)
 unfoldable pub exponent : Float → ℤ
 exponent v = toSigned 63 (reciprocal ⊗ v ⊕ rounding v)
 

@@ -1,12 +1,5 @@
--- Demand 3: no order of calls can make a mixture answer wrongly.
--- What the two sides of the claim share, and why that is safe:
--- the models' definitions and the composition check, which the plain calls are held to and the Rust is compared with;
--- a load's slices read into names (`held`), which `WrittenBack` of Plain pins to the strip's order;
--- the bounds of a load, the cases and indices that a model has, what fractions (Faults) and a query's i (`indexFault`) are refused for:
--- document 01's lines on declined calls;
--- which i, j are cells (`isCell`, `width`), n·(n - 1) or ng·ng of them by `cells-number` of proofs/CountLaws.
--- Places of the lent memory (Layout), what a setting makes stale, and marks are the memory's alone; inputs, and what a
--- call gives of them, are the book's alone.
+-- Demand 3: from an opening on, no order of calls can make a mixture answer wrongly.
+-- docs/REVIEW.md, "Demand 3", says what the two sides of the claim share, and why that is safe.
 use mathlib.Core.Path.{_≡_}
 use mathlib.Core.Bool.{false}
 use mathlib.Core.List.{List, [], _∷_}

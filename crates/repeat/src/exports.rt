@@ -304,9 +304,9 @@ fn kept(
 }
 
 // The last value over the temperatures; 0 where there are more values or fractions than any model has, or no temperature, or the last
-// query or plain call is refused. The first turn sets T and asks. What each later turn sets before it asks is the change: 0 for nothing,
-// 2 for T, 3 for none of this but the plain call in each turn, the first too, and any other for entry 0, 1 (UNIFAC's td entry, with a alone) set to
-// v. Bytes past the last whole eight are passed over.
+// query or plain call is refused. The first turn sets T and asks. The change says what each later turn sets before it asks: 0, nothing;
+// 2, T; 3, no mixture at all, but the plain call in every turn, the first too; any other, entry 0, 1 (UNIFAC's td entry, with a alone)
+// set to v. Bytes past the last whole eight are passed over.
 #[no_mangle]
 pub extern "C" fn kiltgrit_repeat(
     model: u8,
