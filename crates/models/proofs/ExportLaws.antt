@@ -7,7 +7,7 @@ use native.Mathlib.Nat.{zero-add, mul-le-mul}
 use native.Mathlib.Omega.{arith}
 use lib.Dec.{eqb, leb}
 use lib.ListN.{length, getD}
-use lib.Ieee.{Float}
+use lib.Ieee.{Float, nan}
 use borrow.Author.Tests.{eq-eqb, ne-eqb, leb-true}
 use Rattle.arithmetic.specs.Bytes.{floatAt, floatsAt, floats}
 use Rattle.arithmetic.specs.Sums.{sum, total}
@@ -16,12 +16,13 @@ use Rattle.arithmetic.proofs.ByteLaws.{length-floats, floats-at}
 use Rattle.arithmetic.proofs.SumLaws.{sum-same}
 use Rattle.models.specs.declared.answers.Quantity.{Quantity}
 use Rattle.models.specs.declared.answers.Answer.{Answer}
-use Rattle.models.specs.declared.answers.Answer.the-variants.{Refused}
-use Rattle.models.specs.Answers.{numberOf, first, indexFault}
+use Rattle.models.specs.declared.answers.Answer.the-variants.{Value, Refused}
+use Rattle.models.specs.Answers.{numberOf, answer, first, indexFault}
 use Rattle.models.specs.Composition.{tolerance, sumFault, compositionFault}
-use Rattle.models.specs.Exports.{loadFault, valueAt, Ready, exportedBy, exported, left}
+use Rattle.models.specs.Exports.{plainBy, withRest, exportedBy, exported, left}
+use Rattle.models.specs.ExportSteps.{loadFault, valueAt, Ready}
 use Rattle.models.specs.Lists.{Loaded}
-use Rattle.models.specs.Plain.{between, shapeFault, allTo, listsFault, unifacFault, fractionsFault}
+use Rattle.models.specs.Plain.{between, shapeFault, allTo, listsFault, unifacFault, fractionsFault, wilsonPlain, uniquacPlain, nrtlPlain, unifacPlain}
 use Rattle.models.specs.Values.{wilsonSize, energies, volumes, uniquacSize, rs, qs, nrtlSize, taus, alphas, countsAt, groupRs, groupQs, groupAs, start, unifacSize, lists}
 use Rattle.models.specs.Wilson.{wilsonAt}
 use Rattle.models.specs.Uniquac.{uniquacAt}
@@ -129,6 +130,43 @@ module _ (m n ng : ℕ) (lens groups : List ℕ) (values : List Float) where
   unfolding loadFault
   load-none a b c d = rw (ne-eqb m 1 a, ne-eqb m 2 b, ne-eqb m 3 c, ne-eqb m 4 d)
 
+-- ---- the plain call, from the fault of its load, that of its fractions, and its value
+
+rest-is : (l f r : ℕ) (v : Float) → answer (first l (first f (cond (eqb r 0) 0 7))) v ≡ withRest r (answer (first l f) v)
+unfolding answer withRest
+rest-is (suc l) f r v = simp (ne-eqb (suc l) 0 (λ e. omega arith))
+rest-is zero (suc f) r v = simp (ne-eqb (suc f) 0 (λ e. omega arith))
+rest-is zero zero r v = by-test (eqb r 0)
+  where
+    by-test : (t : Bool) → answer (cond t 0 7) v ≡ cond t (Value v) (Refused 7)
+    by-test true = refl
+    by-test false = refl
+
+-- the model chosen before its answer, or after
+chosen : (p q r s : Bool) (f a b c d : ℕ) (u v w x : Float)
+    → answer (first (cond p a (cond q b (cond r c (cond s d 2)))) f) (cond p u (cond q v (cond r w (cond s x nan))))
+    ≡ cond p (answer (first a f) u) (cond q (answer (first b f) v) (cond r (answer (first c f) w) (cond s (answer (first d f) x) (Refused 2))))
+unfolding answer
+chosen true q r s f a b c d u v w x = refl
+chosen false true r s f a b c d u v w x = refl
+chosen false false true s f a b c d u v w x = refl
+chosen false false false true f a b c d u v w x = refl
+chosen false false false false f a b c d u v w x = refl
+
+pub by-parts : (m n ng : ℕ) (lens groups : List ℕ) (values : List Float) (T : Float) (x : List ℕ) (q : Quantity)
+    → answer (first (loadFault m n ng lens groups values) (first (fractionsFault n (floats x) q) (cond (eqb (length x % 8) 0) 0 7))) (valueAt m n ng lens groups values T (at (floats x)) q)
+    ≡ exportedBy m n ng lens groups values T x q
+unfolding loadFault valueAt exportedBy plainBy wilsonPlain uniquacPlain nrtlPlain unifacPlain
+by-parts m n ng lens groups values T x q =
+    let f = fractionsFault n (floats x) q in
+    let y = at (floats x) in
+    rest-is (loadFault m n ng lens groups values) f (length x % 8) (valueAt m n ng lens groups values T y q)
+    ∙ ap (withRest (length x % 8))
+    (chosen (eqb m 1) (eqb m 2) (eqb m 3) (eqb m 4) f
+    (shapeFault n (wilsonSize n) values) (shapeFault n (uniquacSize n) values) (shapeFault n (nrtlSize n) values) (unifacFault n ng lens groups values)
+    (wilsonAt n (volumes n values) (energies n values) T y q) (uniquacAt n (rs n values) (qs n values) (energies n values) T y q) (nrtlAt n (taus n values) (alphas n values) T y q)
+    (unifacAt n ng (lists lens groups (from (countsAt ng) values)) (groupRs ng values) (groupQs ng values) (groupAs ng values) T y q))
+
 -- ---- bytes that are whole eights
 
 pub whole-eights : (s : List ℕ) (n : ℕ) → length s ≡ 8 * n → floatsAt s 0 n ≡ floats s
@@ -208,8 +246,8 @@ load-long m n ng lens groups values h =
 
 pub exported-long : (m n ng : ℕ) (lens groups : List ℕ) (values : List Float) (T : Float) (x : List ℕ) (q : Quantity) → 5328 < length values →
     Refused 2 ≡ exportedBy m n ng lens groups values T x q
-unfolding exportedBy
-exported-long m n ng lens groups values T x q h = answer-refused _ (first-left _ (load-long m n ng lens groups values h) (λ e. omega arith)) (λ e. omega arith)
+exported-long m n ng lens groups values T x q h =
+    answer-refused _ (first-left _ (load-long m n ng lens groups values h) (λ e. omega arith)) (λ e. omega arith) ∙ by-parts m n ng lens groups values T x q
 
 -- the number and the value of an equal answer
 pub given-as : {a b : Answer} {r : ℕ} (old : Float) {new : Float} → a ≡ b → (r ≡ numberOf a) × (new ≡ left a old) → (r ≡ numberOf b) × (new ≡ left b old)

@@ -6,19 +6,17 @@ use denote.Ref.{now}
 use mathlib.Core.List.{List}
 use lib.Ieee.{Float}
 use Rattle.arithmetic.specs.Tables.{at}
-use Rattle.models.specs.Exports.{exportedBy, valueAt}
+use Rattle.models.specs.ExportSteps.{valueAt}
 use Rattle.models.proofs.AnswerLaws.{first-left, first-right, answer-refused, answer-value}
-use Rattle.models.proofs.ExportLaws.{whole-eights}
+use Rattle.models.proofs.ExportLaws.{whole-eights, by-parts}
 use Rattle.models.proofs.exports.call_with.Statement.{statement}
 use Rattle.models.proofs.exports.call_with.Tie as tie
 
 returns : tie.Need-returns
-unfolding exportedBy
-returns c = answer-refused _ (first-left _ (c .before .load-fault .ensures .0) (c .if1 .taken)) (c .if1 .taken)
+returns c = answer-refused _ (first-left _ (c .before .load-fault .ensures .0) (c .if1 .taken)) (c .if1 .taken) ∙ by-parts _ _ _ _ _ _ _ _ _
 
 returns-2 : tie.Need-returns-2
-unfolding exportedBy
-returns-2 c = answer-refused _ (first-right (c .before .before .before .load-fault .ensures .0) (c .before .before .if1 .left) (c .before .fractions-fault .ensures .0)) (c .if2 .taken)
+returns-2 c = answer-refused _ (first-right (c .before .before .before .load-fault .ensures .0) (c .before .before .if1 .left) (c .before .fractions-fault .ensures .0)) (c .if2 .taken) ∙ by-parts _ _ _ _ _ _ _ _ _
 
 fill-floats-requires : tie.Need-fill-floats-requires
 fill-floats-requires c κs = let ready = c .before .before .before .before .load-fault .ensures .1 (c .before .before .before .if1 .left) in (ready .few, omega (arith, c .before .before .fractions-fault .ensures .1 (c .before .if2 .left) .0))
@@ -32,7 +30,6 @@ value-at-requires c κs =
     (ready, omega (arith, c .before .before .fill-floats .ensures .0), c .before .before .before .before .before .fractions-fault .ensures .1 (c .before .before .before .before .if2 .left) .1)
 
 returns-3 : tie.Need-returns-3
-unfolding exportedBy
 returns-3 c =
     let passed = c .before .before .before .before .before in
     let load = passed .before .before .before in
@@ -41,6 +38,7 @@ returns-3 c =
     let decoded = c .before .before .before .fill-floats .ensures .1 ∙ whole-eights (now (a .x)) (a .n) (given .1 (passed .if2 .left) .0) in
     answer-value (first-right (load .load-fault .ensures .0) (passed .before .before .if1 .left) (given .0)) (passed .if2 .left)
     (c .value-at .ensures ∙ ap (λ (l : List Float). valueAt (a .model) (a .n) (a .ng) (now (a .lens)) (now (a .groups)) (now (a .values)) (a .t) (at l) (a .q)) decoded)
+    ∙ by-parts _ _ _ _ _ _ _ _ _
 
 pub call-with-spec : {M : Type 1} → statement M
 call-with-spec =
