@@ -136,7 +136,7 @@ fn from_digits(q: u64, x: u64) -> f64
     requires { ⌜ (2 ^ 52 ≤ q) × (q < 2 ^ 53) × (x < 4096) ⌝ }
     ensures { λ r. ⌜ r ≡ fromDigits q x ⌝ }
 {
-    log_by(f64::from_bits(q + bias(q)), (x as i32) - places(q))
+    log_by(f64::from_bits(q + bias(q)), (x as i32) - shortfall(q))
 }
 
 // The exponent's field over the digits q: that of 1 where they are below M's, else that of 1/2, less the digit that q has.
@@ -150,7 +150,7 @@ fn bias(q: u64) -> u64
 }
 
 // What k falls short of x by.
-fn places(q: u64) -> i32
+fn shortfall(q: u64) -> i32
     ensures { λ r. ⌜ r ≡ cond (ltb q 0x16_a09e_0000_0000) (pos 1075) (pos 1074) ⌝ }
 {
     if q < 0x16_a09e_0000_0000 {

@@ -68,7 +68,7 @@ fn lists_in_range(n: usize, ng: usize, lens: [u8; 12], groups: [u8; 144]) -> boo
     if 32 < ng {
         return false;
     }
-    if !models::groups::short(&lens[..], n) {
+    if !models::groups::none_over_12(&lens[..], n) {
         return false;
     }
     let places = models::groups::start_of(&lens[..], n);

@@ -189,7 +189,7 @@ pub fn counts_at(ng: usize) -> usize
 }
 
 // Whether none of the first n lists is over 12.
-pub fn short(lens: &[u8], n: usize) -> bool
+pub fn none_over_12(lens: &[u8], n: usize) -> bool
     requires { ⌜ n ≤ length (now lens) ⌝ }
     ensures { λ r. ⌜ r ≡ allTo n (λ i. leb (getD (now (lens .entry)) i 0) 12) ⌝ }
 {
@@ -230,7 +230,7 @@ pub fn lists_fault(n: usize, ng: usize, lens: &[u8], groups: &[u8], values: &[f6
     if lens.len() != n {
         return 2;
     }
-    if !short(lens, n) {
+    if !none_over_12(lens, n) {
         return 2;
     }
     let places = start_of(lens, n);

@@ -39,9 +39,9 @@ bias-is : (t : Bool) → cond t 0x3fe0_0000_0000_0000 0x3fd0_0000_0000_0000 ≡ 
 bias-is true = refl
 bias-is false = refl
 
-places-is : (t : Bool) → cond t (pos 1075) (pos 1074) ≡ pos (suc (short t))
-places-is true = refl
-places-is false = refl
+shortfall-is : (t : Bool) → cond t (pos 1075) (pos 1074) ≡ pos (suc (short t))
+shortfall-is true = refl
+shortfall-is false = refl
 
 digits-is : (t : Bool) (q x : ℕ) → test q ≡ t → logBy (odd 53 false q (field t) 1074) (minus x (suc (short t))) ≡ fromDigits q x
 unfolding fromDigits
@@ -53,9 +53,9 @@ digits-is false q x h = rw h
 bias-at : (c : tie.After-bias) → c .bias .result ≡ field (test (c .before .args .q)) * 4503599627370496
 bias-at c = c .bias .ensures ∙ bias-is (test (c .before .args .q))
 
--- the number of places as the machine has it
-places-at : (c : tie.After-places) → toZ w32 (ofZ w32 (c .places .result)) ≡ pos (suc (short (test (c .before .before .args .q))))
-places-at c = toZ-ofZ w32 (c .places .result) (record { sfits = c .places .ok }) ∙ c .places .ensures ∙ places-is (test (c .before .before .args .q))
+-- the shortfall as the machine has it
+shortfall-at : (c : tie.After-shortfall) → toZ w32 (ofZ w32 (c .shortfall .result)) ≡ pos (suc (short (test (c .before .before .args .q))))
+shortfall-at c = toZ-ofZ w32 (c .shortfall .result) (record { sfits = c .shortfall .ok }) ∙ c .shortfall .ensures ∙ shortfall-is (test (c .before .before .args .q))
 
 add-log-by : tie.Need-add-log-by
 add-log-by c =
@@ -69,7 +69,7 @@ float-from-bits-log-by c =
     rw (bias-at c) (digits-no-nan (a .args .q) (field (test (a .args .q))) (a .pre .0) (a .pre .1) (field-lt (test (a .args .q))))
 
 sub-log-by : tie.Need-sub-log-by
-sub-log-by c = let a = c .before .before in rw (places-at c) (diff-fits (a .args .x) (short (test (a .args .q))) (a .pre .2) (short-lt (test (a .args .q))))
+sub-log-by c = let a = c .before .before in rw (shortfall-at c) (diff-fits (a .args .x) (short (test (a .args .q))) (a .pre .2) (short-lt (test (a .args .q))))
 
 returns : tie.Need-returns
 returns c =
@@ -78,7 +78,7 @@ returns c =
     let a = b .before in
     let t = test (a .args .q) in
     c .log-by .ensures
-    ∙ rw (places-at p, bias-at b, digits-bits (a .args .q) (field t) (a .pre .0) (a .pre .1) (field-lt t), diff-back (a .args .x) (short t) (a .pre .2) (short-lt t)) refl
+    ∙ rw (shortfall-at p, bias-at b, digits-bits (a .args .q) (field t) (a .pre .0) (a .pre .1) (field-lt t), diff-back (a .args .x) (short t) (a .pre .2) (short-lt t)) refl
     ∙ digits-is t (a .args .q) (a .args .x) refl
 
 pub from-digits-spec : {M : Type 1} → statement M
