@@ -28,7 +28,7 @@ leastCells = 1024
 unfoldable pub leastMarks : ℕ
 leastMarks = 1024
 
--- a slice of these lengths is short
+-- of three slices of these lengths one is short
 unfoldable pub short : ℕ → ℕ → ℕ → Bool
 short v c k = ltb v leastValues || ltb c leastCells || ltb k leastMarks
 

@@ -6,7 +6,7 @@ use lib.ListN.{length}
 use lib.Ieee.{Float, nan}
 use Rattle.arithmetic.specs.Tables.{from}
 use Rattle.models.specs.declared.answers.Quantity.{Quantity}
-use Rattle.models.specs.Exports.{byModel}
+use Rattle.models.specs.Exports.{byNumber}
 use Rattle.models.specs.Lists.{Loaded}
 use Rattle.models.specs.Plain.{shapeFault, unifacFault}
 use Rattle.models.specs.Values.{wilsonSize, energies, volumes, uniquacSize, rs, qs, nrtlSize, taus, alphas, countsAt, groupRs, groupQs, groupAs, lists}
@@ -18,7 +18,7 @@ use Rattle.models.specs.Unifac.{unifacAt}
 -- 2, 3 and 4 of the model; 2 where there is none
 unfoldable pub loadFault : ℕ → ℕ → ℕ → List ℕ → List ℕ → List Float → ℕ
 loadFault m n ng lens groups values =
-    byModel m (shapeFault n (wilsonSize n) values) (shapeFault n (uniquacSize n) values) (shapeFault n (nrtlSize n) values)
+    byNumber m (shapeFault n (wilsonSize n) values) (shapeFault n (uniquacSize n) values) (shapeFault n (nrtlSize n) values)
     (unifacFault n ng lens groups values) 2
 
 -- what a load that isn't declined has shown
@@ -32,6 +32,6 @@ pub record Ready (m n ng : ℕ) (lens groups : List ℕ) (values : List Float) :
 -- the model's value at T
 unfoldable pub valueAt : ℕ → ℕ → ℕ → List ℕ → List ℕ → List Float → Float → (ℕ → Float) → Quantity → Float
 valueAt m n ng lens groups values T x q =
-    byModel m (wilsonAt n (volumes n values) (energies n values) T x q) (uniquacAt n (rs n values) (qs n values) (energies n values) T x q)
+    byNumber m (wilsonAt n (volumes n values) (energies n values) T x q) (uniquacAt n (rs n values) (qs n values) (energies n values) T x q)
     (nrtlAt n (taus n values) (alphas n values) T x q)
     (unifacAt n ng (lists lens groups (from (countsAt ng) values)) (groupRs ng values) (groupQs ng values) (groupAs ng values) T x q) nan

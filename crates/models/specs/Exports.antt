@@ -12,13 +12,13 @@ use Rattle.models.specs.declared.answers.Answer.the-variants.{Value, Ref
 use Rattle.models.specs.Plain.{wilsonPlain, uniquacPlain, nrtlPlain, unifacPlain}
 
 -- the model's case, or the last where there is no such model
-abbrev pub byModel : {A : Type 0} → ℕ → A → A → A → A → A → A
-byModel m a b c d e = cond (eqb m 1) a (cond (eqb m 2) b (cond (eqb m 3) c (cond (eqb m 4) d e)))
+abbrev pub byNumber : {A : Type 0} → ℕ → A → A → A → A → A → A
+byNumber m a b c d e = cond (eqb m 1) a (cond (eqb m 2) b (cond (eqb m 3) c (cond (eqb m 4) d e)))
 
 -- the plain call of a model; 2 where there is none
 unfoldable pub plainBy : ℕ → ℕ → ℕ → List ℕ → List ℕ → List Float → Float → List Float → Quantity → Answer
 plainBy m n ng lens groups values T x q =
-    byModel m (wilsonPlain n values T x q) (uniquacPlain n values T x q) (nrtlPlain n values T x q)
+    byNumber m (wilsonPlain n values T x q) (uniquacPlain n values T x q) (nrtlPlain n values T x q)
     (unifacPlain n ng lens groups values T x q) (Refused 2)
 
 -- the answer where r bytes of the fractions are left over: 7 in place of a value

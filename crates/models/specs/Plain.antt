@@ -48,7 +48,7 @@ unfoldable pub allTo : ℕ → (ℕ → Bool) → Bool
 allTo zero p = true
 allTo (suc n) p = allTo n p && p n
 
--- 2, for UNIFAC: also ng outside 1–32, a list over 12, or lists not of the lengths given
+-- 2, for UNIFAC: n outside 1–12, ng outside 1–32, a list over 12, or a slice of the wrong length
 unfoldable pub listsFault : ℕ → ℕ → List ℕ → List ℕ → List Float → ℕ
 listsFault n ng lens groups values =
     cond (between 1 12 n && between 1 32 ng && eqb (length lens) n && allTo n (λ i. leb (getD lens i 0) 12)

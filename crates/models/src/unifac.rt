@@ -30,7 +30,7 @@ pub fn psi(row: &[f64], t: f64, ln: f64, k: usize) -> f64
     arithmetic::exp(-a.value_by(t, ln) / t)
 }
 
-// Each of the first count places takes exp(-place/t): every argument first, then exp of them all at once.
+// Each of the first count places takes exp(-v/t), v what it held: every argument first, then exp of them all at once.
 fn exp_over(out: &mut [f64], count: usize, t: f64)
     requires { ⌜ count ≤ length (now out) ⌝ }
     ensures { λ _. ⌜ Filled (λ k. expOf (neg (at (now (out .entry)) k) ⊘ t)) count (now (out .exit)) ⌝ }

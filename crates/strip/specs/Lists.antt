@@ -28,7 +28,7 @@ withPair g v l = record { lens = l .lens; groups = g ∷ l .groups; counts = v �
 abbrev pub withList : ℕ → Lists → Lists
 withList n l = record { lens = n ∷ l .lens; groups = l .groups; counts = l .counts; end = l .end }
 
--- a word of the kind stands at p, its other fields are 0, and it has n bytes with what belongs to it
+-- a word of the kind stands at p, j and bits 16 to 27 of it are 0, and it has n bytes with what belongs to it
 unfoldable pub isWord : List ℕ → ℕ → ℕ → ℕ → Bool
 isWord s kind n p =
     leb (p + n) (length s) && (eqb (kindOf (wordAt s p)) kind && (eqb (jOf (wordAt s p)) 0 && eqb (restOf (wordAt s p)) 0))

@@ -32,7 +32,7 @@ unfoldable pub scriptFrom : List ℕ → ℕ → ℕ → Script
 scriptFrom s zero p = script [] []
 scriptFrom s (suc k) p = scriptBy s (readAt s p) (scriptFrom s k)
 
--- each record has at least one byte, so there are no more records than bytes
+-- each record has at least four bytes, so there are no more records than bytes
 unfoldable pub scriptOf : List ℕ → Script
 scriptOf s = scriptFrom s (length s) 0
 

@@ -28,7 +28,7 @@ pub fn has(s: &[u8], p: usize, n: usize) -> bool
     p <= s.len() - n
 }
 
-// Whether a word of the kind stands at p, its other fields 0.
+// Whether a word of the kind stands at p, j and bits 16 to 27 of it 0.
 fn is_word(s: &[u8], kind: usize, p: usize) -> bool
     ensures { λ r. ⌜ r ≡ isWord (now (s .entry)) kind 4 p ⌝ }
 {
