@@ -20,3 +20,4 @@ pub mod History
 pub mod Writes
 pub mod Plain
 pub mod WrittenBack
+pub mod Demand3

@@ -11,3 +11,4 @@ pub mod History
 pub mod Writes
 pub mod Plain
 pub mod Refills
+pub mod Demand3
