@@ -1,5 +1,5 @@
--- How many cells a model has, and how many of them a setting makes stale: all, a row's n - 1, or at most one.
-use mathlib.Core.Path.{_≡_, refl, sym, _∙_, subst}
+-- How many cells a model has, and how many of them a setting makes stale: all, a row's n - 1, its own, or none.
+use mathlib.Core.Path.{_≡_, refl, sym, _∙_}
 use mathlib.Core.Bool.{Bool, true, false, not, _&&_, _||_, cond, and-true, and-false, and-comm, and-assoc, or-true, or-false}
 use mathlib.Core.Logic.{inl, inr}
 use Prim.Native.Nat.{ℕ, zero, suc, _*_, _-_, _<_, _≤_}
@@ -7,17 +7,19 @@ use native.Mathlib.Nat.{zero-mul, suc-mul, eq-or-lt-of-le}
 use native.Mathlib.Omega.{arith}
 use lib.Dec.{ltb, eqb}
 use lib.Ieee.{Float}
-use borrow.Author.Tests.{not-true, lt-ltb, le-ltb, eq-eqb, ne-eqb, eqb-true, eqb-false}
+use borrow.Author.Tests.{lt-ltb, le-ltb, eq-eqb, ne-eqb, eqb-true, eqb-false}
 use Rattle.arithmetic.specs.declared.parameters.TdParam.{TdParam}
 use Rattle.arithmetic.proofs.Tests.{either, le-or}
 use Rattle.mixture.specs.declared.head.Model.{Model}
 use Rattle.mixture.specs.declared.head.Model.the-variants.{Wilson, Uniquac, Nrtl, Unifac}
-use Rattle.mixture.specs.declared.setting.Setting.{Setting}
 use Rattle.mixture.specs.declared.setting.Setting.the-variants.{Temperature, Entry, TdEntry, Size, Count}
 use Rattle.mixture.specs.Lists.{howMany, howManyPairs}
-use Rattle.mixture.specs.Names.{byModel, Held, width, isCell}
+use Rattle.mixture.specs.Names.{Held, width, isCell}
+use Rattle.mixture.specs.Faults.{hasEntry, hasTdEntry, caseFault}
 use Rattle.mixture.specs.Calls.{stales}
+use Rattle.mixture.specs.Pins.{cellsNumber, CellsNumber, stalesNumber, StalesNumber}
 use Rattle.mixture.proofs.ListLaws.{never, howMany-none, howMany-same, howManyPairs-same}
+use Rattle.mixture.proofs.PlaceLaws.{below-is, had}
 
 -- ---- numbers below n
 
@@ -38,16 +40,20 @@ howMany-but (suc n) i h =
       | inr g ↦ rw (howMany-but n i g, ne-eqb i n (λ q. omega arith)) (omega arith)
     ]
 
--- at most one passes where all that pass are j
-howMany-one : (n j : ℕ) (p : ℕ → Bool) → howMany n (λ l. eqb l j && p l) ≤ 1
+-- of those that are j, j itself where it passes
+howMany-own : (n j : ℕ) (p : ℕ → Bool) → j < n → howMany n (λ l. eqb l j && p l) ≡ cond (p j) 1 0
 unfolding howMany
-howMany-one zero j p = omega arith
-howMany-one (suc n) j p =
+howMany-own zero j p h = absurd (omega arith)
+howMany-own (suc n) j p h =
     elim (either (eqb n j)) [
-      | inl e ↦ rw (e, howMany-none n (λ l. eqb l j && p l) (λ l b. let q : n ≡ j = eqb-true n j e in rw (ne-eqb l j (λ r. omega arith))))
-          (elim (either (p n)) [ inl t ↦ rw t (omega arith) | inr t ↦ rw t (omega arith) ])
-      | inr e ↦ rw e (omega (arith, howMany-one n j p))
+      | inl e ↦
+          let q : n ≡ j = eqb-true n j e in
+          rw (e, howMany-none n (λ l. eqb l j && p l) (λ l b. rw (ne-eqb l j (λ r. omega arith))), ← q) (omega arith)
+      | inr e ↦ let q = eqb-false n j e in rw (e, howMany-own n j p (lt-of h q)) (omega arith)
     ]
+  where
+    lt-of : j < suc n → (n ≡ j → ⊥) → j < n
+    lt-of h q = elim (le-or n j) [ inl g ↦ absurd (q (omega arith)) | inr g ↦ g ]
 
 -- row i alone
 pairs-row : (m n i : ℕ) (p : ℕ → ℕ → Bool) → howManyPairs m n (λ k l. eqb k i && p k l) ≡ cond (ltb i m) (howMany n (p i)) 0
@@ -81,13 +87,11 @@ pairs-all (suc m) n = rw (pairs-all m n, howMany-all n, suc-mul m n)
 
 -- ---- cells
 
--- n·(n - 1) cells, or ng·ng
-pub cells-number : (d : Held) → howManyPairs (width d) (width d) (isCell d) ≡ byModel (d .model) (d .n * (d .n - 1)) (d .n * (d .n - 1)) (d .n * (d .n - 1)) (d .ng * d .ng)
+pub cells-number : CellsNumber
 unfolding width isCell
 cells-number d = go (d .model) refl
   where
-    go : (k : Model) → d .model ≡ k
-        → howManyPairs (width d) (width d) (isCell d) ≡ byModel (d .model) (d .n * (d .n - 1)) (d .n * (d .n - 1)) (d .n * (d .n - 1)) (d .ng * d .ng)
+    go : (k : Model) → d .model ≡ k → howManyPairs (width d) (width d) (isCell d) ≡ cellsNumber d
     go Wilson e = rw e (pairs-off (d .n) (d .n) (omega arith))
     go Uniquac e = rw e (pairs-off (d .n) (d .n) (omega arith))
     go Nrtl e = rw e (pairs-off (d .n) (d .n) (omega arith))
@@ -95,59 +99,31 @@ cells-number d = go (d .model) refl
 
 -- ---- cells that a setting makes stale
 
-abbrev pub staled : Held → Setting → ℕ
-staled d s = howManyPairs (width d) (width d) (λ i j. isCell d i j && stales d s i j)
-
--- T: all
-pub temperature-stales : (d : Held) (T : Float) → staled d (Temperature T) ≡ howManyPairs (width d) (width d) (isCell d)
-unfolding stales
-temperature-stales d T = howManyPairs-same (width d) (width d) _ _ (λ i j a b. and-true (isCell d i j))
-
--- an energy a_ii: its row's n - 1
-pub diagonal-stales : (d : Held) (i : ℕ) (v : Float) → byModel (d .model) true true false false ≡ true → i < d .n → staled d (Entry i i v) ≡ d .n - 1
-unfolding stales width isCell
-diagonal-stales d i v t h = go (d .model) refl
-  where
-    energy : howManyPairs (d .n) (d .n) (λ k l. not (eqb k l) && (eqb k i && (eqb l i || eqb i i))) ≡ d .n - 1
-    energy =
-        howManyPairs-same (d .n) (d .n) _ (λ k l. eqb k i && not (eqb k l)) (λ k l a b. rw (eq-eqb i i refl, or-true (eqb l i), and-true (eqb k i)) (and-comm (not (eqb k l)) (eqb k i)))
-        ∙ (pairs-row (d .n) (d .n) i (λ k l. not (eqb k l)) ∙ rw (lt-ltb i (d .n) h) (howMany-but (d .n) i h))
-
-    go : (k : Model) → d .model ≡ k → staled d (Entry i i v) ≡ d .n - 1
-    go Wilson e = rw e energy
-    go Uniquac e = rw e energy
-    go Nrtl e = never (sym (rw e at t))
-    go Unifac e = never (sym (rw e at t))
-
-one-stale : (w i j : ℕ) (p : ℕ → ℕ → Bool) → howManyPairs w w (λ k l. p k l && (eqb k i && eqb l j)) ≤ 1
-one-stale w i j p =
+-- the cell i, j alone, where it is one
+own-stale : (w i j : ℕ) (p : ℕ → ℕ → Bool) → i < w → j < w → howManyPairs w w (λ k l. p k l && (eqb k i && eqb l j)) ≡ cond (p i j) 1 0
+own-stale w i j p h g =
     rw (
       howManyPairs-same w w (λ k l. p k l && (eqb k i && eqb l j)) (λ k l. eqb k i && (eqb l j && p k l)) (λ k l a b. and-comm (p k l) (eqb k i && eqb l j) ∙ and-assoc (eqb k i) (eqb l j) (p k l)),
       pairs-row w w i (λ k l. eqb l j && p k l),
+      lt-ltb i w h,
     )
-    (elim (either (ltb i w)) [ inl t ↦ rw t (howMany-one w j (p i)) | inr t ↦ rw t (omega arith) ])
+    (howMany-own w j (p i) g)
 
--- any other entry: at most its own
-pub entry-stales : (d : Held) (i j : ℕ) (v : Float) → byModel (d .model) (not (eqb i j)) (not (eqb i j)) true true ≡ true → staled d (Entry i j v) ≤ 1
-unfolding stales
-entry-stales d i j v t =
-    subst (λ (c : ℕ). c ≤ 1) (sym (howManyPairs-same (width d) (width d) _ (λ k l. (isCell d k l && known) && (eqb k i && eqb l j)) (λ k l a b. own (d .model) t (isCell d k l) (eqb k i) (eqb l j))))
-    (one-stale (width d) i j (λ k l. isCell d k l && known))
-  where
-    known : Bool
-    known = byModel (d .model) true true true false
+off-own : (n i j : ℕ) → i < n → j < n → howManyPairs n n (λ k l. not (eqb k l) && (eqb k i && eqb l j)) ≡ cond (eqb i j) 0 1
+off-own n i j h g = own-stale n i j (λ k l. not (eqb k l)) h g ∙ elim (either (eqb i j)) [ inl e ↦ rw e | inr e ↦ rw e ]
 
-    own : (k : Model) → byModel k (not (eqb i j)) (not (eqb i j)) true true ≡ true → (c a b : Bool)
-        → (c && (a && byModel k (b || eqb i j) (b || eqb i j) b false)) ≡ ((c && byModel k true true true false) && (a && b))
-    own Wilson h c a b = rw (not-true (eqb i j) h, or-false b, and-true c)
-    own Uniquac h c a b = rw (not-true (eqb i j) h, or-false b, and-true c)
-    own Nrtl h c a b = rw (and-true c)
-    own Unifac h c a b = rw (and-false a, and-false c)
-
--- a td entry: at most its own; sizes and counts: none
-pub td-stales : (d : Held) (i j : ℕ) (p : TdParam) → staled d (TdEntry i j p) ≤ 1
-unfolding stales
-td-stales d i j p = one-stale (width d) i j (isCell d)
+-- an energy: its own cell, or its row's where it is on the diagonal
+energy-stale : (n i j : ℕ) → i < n → j < n → howManyPairs n n (λ k l. not (eqb k l) && (eqb k i && (eqb l j || eqb i j))) ≡ cond (eqb i j) (n - 1) 1
+energy-stale n i j h g =
+    elim (either (eqb i j)) [
+      | inl e ↦
+          rw e
+          (howManyPairs-same n n _ (λ k l. eqb k i && not (eqb k l)) (λ k l a b. rw (or-true (eqb l j), and-true (eqb k i)) (and-comm (not (eqb k l)) (eqb k i)))
+          ∙ (pairs-row n n i (λ k l. not (eqb k l)) ∙ rw (lt-ltb i n h) (howMany-but n i h)))
+      | inr e ↦
+          rw e
+          (howManyPairs-same n n _ (λ k l. not (eqb k l) && (eqb k i && eqb l j)) (λ k l a b. rw (or-false (eqb l j))) ∙ (off-own n i j h g ∙ rw e))
+    ]
 
 none-stale : (d : Held) → howManyPairs (width d) (width d) (λ i j. isCell d i j && false) ≡ 0
 unfolding howManyPairs
@@ -157,10 +133,34 @@ none-stale d = howManyPairs-same (width d) (width d) _ (λ i j. false) (λ i j a
     none zero n = refl
     none (suc m) n = rw (none m n, howMany-none n (λ j. false) (λ j b. refl))
 
-pub size-stales : (d : Held) (i which : ℕ) (v : Float) → staled d (Size i which v) ≡ 0
-unfolding stales
-size-stales d i which v = none-stale d
+entry-stales : (d : Held) (i j : ℕ) (v : Float) → hasEntry d i j ≡ true
+    → howManyPairs (width d) (width d) (λ k l. isCell d k l && stales d (Entry i j v) k l) ≡ stalesNumber d (Entry i j v)
+unfolding stales width isCell hasEntry stalesNumber
+entry-stales d i j v h = go (d .model) refl
+  where
+    go : (k : Model) → d .model ≡ k → howManyPairs (width d) (width d) (λ k l. isCell d k l && stales d (Entry i j v) k l) ≡ stalesNumber d (Entry i j v)
+    go Wilson e = let b = below-is i (d .n) j (d .n) (rw e at h) in rw e (energy-stale (d .n) i j (b .0) (b .1))
+    go Uniquac e = let b = below-is i (d .n) j (d .n) (rw e at h) in rw e (energy-stale (d .n) i j (b .0) (b .1))
+    go Nrtl e = let b = below-is i (d .n) j (d .n) (rw e at h) in rw e (off-own (d .n) i j (b .0) (b .1))
+    go Unifac e = never (sym (rw e at h))
 
-pub count-stales : (d : Held) (i j : ℕ) (v : Float) → staled d (Count i j v) ≡ 0
-unfolding stales
-count-stales d i j v = none-stale d
+td-stales : (d : Held) (i j : ℕ) (p : TdParam) → hasTdEntry d i j ≡ true
+    → howManyPairs (width d) (width d) (λ k l. isCell d k l && stales d (TdEntry i j p) k l) ≡ stalesNumber d (TdEntry i j p)
+unfolding stales width isCell hasTdEntry stalesNumber
+td-stales d i j p h = go (d .model) refl
+  where
+    go : (k : Model) → d .model ≡ k → howManyPairs (width d) (width d) (λ k l. isCell d k l && stales d (TdEntry i j p) k l) ≡ stalesNumber d (TdEntry i j p)
+    go Wilson e = never (sym (rw e at h))
+    go Uniquac e = never (sym (rw e at h))
+    go Nrtl e = let b = below-is i (d .n) j (d .n) (rw e at h) in rw e (off-own (d .n) i j (b .0) (b .1))
+    go Unifac e =
+        let b = below-is i (d .ng) j (d .ng) (rw e at h) in
+        rw e (own-stale (d .ng) i j (λ k l. true) (b .0) (b .1) ∙ elim (either (eqb i j)) [ inl t ↦ rw t | inr t ↦ rw t ])
+
+pub stales-number : StalesNumber
+unfolding stales caseFault stalesNumber
+stales-number d (Temperature T) f = howManyPairs-same (width d) (width d) _ _ (λ i j a b. and-true (isCell d i j)) ∙ cells-number d
+stales-number d (Entry i j v) f = entry-stales d i j v (had (hasEntry d i j) 0 f)
+stales-number d (TdEntry i j p) f = td-stales d i j p (had (hasTdEntry d i j) 0 f)
+stales-number d (Size i which v) f = none-stale d
+stales-number d (Count i j v) f = none-stale d

@@ -21,3 +21,4 @@ pub mod Writes
 pub mod Plain
 pub mod WrittenBack
 pub mod Demand3
+pub mod Pins

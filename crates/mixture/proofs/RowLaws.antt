@@ -64,7 +64,7 @@ unfolding before
 before-in len i n j h g = omega (arith, before-le len (suc i) n h)
 
 -- rows of w each
-before-table : (w i : ℕ) → before (λ _. w) i ≡ i * w
+pub before-table : (w i : ℕ) → before (λ _. w) i ≡ i * w
 unfolding before
 before-table w zero = rw (zero-mul w)
 before-table w (suc i) = rw (before-table w i, suc-mul i w)

@@ -12,3 +12,4 @@ pub mod Writes
 pub mod Plain
 pub mod Refills
 pub mod Demand3
+pub mod Pins
