@@ -5,3 +5,4 @@ pub mod Calls
 pub mod Text
 pub mod Run
 pub mod Inner
+pub mod WorkedTexts
