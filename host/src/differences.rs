@@ -1,111 +1,133 @@
-//! The inputs of docs/DIFFERENCES.md: what it says that source and port give for them.
+//! Holds the papers' forms, the source, the port and docs/DIFFERENCES.md itself to the inputs of `documented`: each
+//! entry of the document has an input there, and says each number and text.
 
-use crate::case::{Answer, Case, Quantity, UNIFAC, UNIQUAC, WILSON};
+use crate::case::{Answer, Case};
 use crate::compare::bits;
+use crate::documented::{refusals, values, Refusal, Value, TEXTS};
 use crate::models::rattle;
 use crate::rust;
 use original::unifac::UnifacVariant::{Dortmund, Original};
-use Quantity::{ExcessGibbs, LnGamma};
+use std::collections::BTreeMap;
+use tpt_thermo_core::error::ThermoError;
 
-/// A case of a model without groups, at 300 K.
-fn call(model: u32, values: Vec<f64>, x: Vec<f64>, quantity: Quantity) -> Case {
-    Case {
-        model,
-        n: x.len(),
-        ng: 0,
-        lens: Vec::new(),
-        groups: Vec::new(),
-        values: values.into(),
-        t: 300.0,
-        x: x.into(),
-        quantity,
-    }
-}
+const DOCUMENT: &str = include_str!("../../docs/DIFFERENCES.md");
 
-/// A case of UNIFAC, at 300 K, with all R and Q 1 and all a 0 but a_01 where it is given.
-fn groups(ng: usize, a_01: Option<f64>, lists: &[&[(u8, f64)]], x: Vec<f64>) -> Case {
-    let mut values = vec![1.0; 2 * ng];
-    values.extend(vec![0.0; 5 * ng * ng]);
-    if let Some(a) = a_01 {
-        values[2 * ng + 5] = a;
-    }
-    let pairs = lists.concat();
-    values.extend(pairs.iter().map(|pair| pair.1));
-    let mut case = call(UNIFAC, values, x, LnGamma(0));
-    case.ng = ng;
-    case.lens = lists.iter().map(|list| list.len() as u8).collect();
-    case.groups = pairs.iter().map(|pair| pair.0).collect();
-    case
-}
+/// The entry that has no input: which NaN it is stays free.
+const NO_INPUT: &str = "NaN";
 
-/// Each input with the source's answer and the port's.
-fn documented() -> Vec<(Case, Answer, Answer)> {
-    let value = |v: f64| Answer::Value(bits(v));
-    let both = |case: Case, v: f64| (case, value(v), value(v));
-    let narrower = |case: Case, source: Answer| (case, source, Answer::Refused(2));
-    let ones = |n: usize| vec![1.0; n];
-    let uniquac = |a: [f64; 4], sizes: [f64; 4], x: [f64; 2], quantity| {
-        call(UNIQUAC, [a, sizes].concat(), x.to_vec(), quantity)
+/// A number as the document writes it.
+fn written(v: f64) -> String {
+    let text = match v.abs() {
+        small if 0.0 < small && small < 1e-4 => format!("{v:e}"),
+        _ => format!("{v}"),
     };
-    let like = |x, quantity| uniquac([0.0; 4], [1.0; 4], x, quantity);
-    let first = |n: usize| (0..n).map(|i| if i == 0 { 1.0 } else { 0.0 }).collect();
-    let thirteen = [[0.0; 169].to_vec(), ones(13)].concat();
-    vec![
-        both(
-            uniquac([0.0, 0.0, 0.0, 300.0], [1.0; 4], [0.5; 2], LnGamma(0)),
-            f64::from_bits(0xBFD8_E64A_D61F_07CE),
-        ),
-        both(like([0.0, 1.0], LnGamma(0)), f64::NAN),
-        both(like([0.0, 1.0], LnGamma(1)), 0.0),
-        both(like([0.0, 1.0], ExcessGibbs), f64::NAN),
-        both(
-            uniquac(
-                [0.0, 100.0, -50.0, 0.0],
-                [2.0, 1.0, 1.5, 1.25],
-                [0.25, 0.75],
-                ExcessGibbs,
-            ),
-            f64::from_bits(0x3FC5_C3DF_3930_E82C),
-        ),
-        both(
-            groups(1, None, &[&[(0, 1.0)], &[(0, 2.0)]], vec![0.5; 2]),
-            f64::from_bits(0xBFB2_773A_5DA9_0BDC),
-        ),
-        both(
-            groups(2, Some(300.0), &[&[(0, 1.0), (1, 1.0), (1, 1.0)]], ones(1)),
-            -0.05547743823372231,
-        ),
-        both(
-            groups(2, Some(300.0), &[&[(0, 1.0), (1, 2.0)]], ones(1)),
-            0.0,
-        ),
-        narrower(
-            call(WILSON, Vec::new(), Vec::new(), LnGamma(0)),
-            Answer::Refused(5),
-        ),
-        narrower(call(WILSON, thirteen, first(13), LnGamma(0)), value(0.0)),
-        narrower(groups(33, None, &[&[(0, 1.0)]], ones(1)), value(0.0)),
-        narrower(groups(0, None, &[&[]], ones(1)), value(f64::NAN)),
-        narrower(groups(1, None, &[&[(0, 1.0); 13]], ones(1)), value(0.0)),
-    ]
+    match text.strip_prefix('-') {
+        Some(digits) => format!("−{digits}"),
+        None => text,
+    }
 }
 
-/// Holds both sides to what is documented, the source with either variant of UNIFAC, prints what came of it, and answers whether all agree.
-pub fn compare_all() -> bool {
-    let cases = documented();
-    let mut differ = 0;
-    for (case, source, port) in &cases {
-        let got = rattle(case, 0).0;
-        for asked in [Original, Dortmund].map(|variant| rust::asked_as(case, variant)) {
-            if asked != *source || got != *port {
-                differ += 1;
-                println!("docs/DIFFERENCES.md: {case}\n  Rust: {asked} for {source}\n  Rattle: {got} for {port}");
-            }
+/// What the text doesn't say of the words that it has to.
+fn unsaid(text: &str, words: &[String]) -> Vec<String> {
+    let missing = words
+        .iter()
+        .filter(|word| !text.contains(&format!(" {word} ")));
+    missing
+        .map(|word| format!("the document doesn't say {word}"))
+        .collect()
+}
+
+/// Whether the port answers otherwise.
+fn port_fault(case: &Case, port: Answer) -> Option<String> {
+    let got = rattle(case, 0).0;
+    (got != port).then(|| format!("Rattle: {got} for {port}\n  {case}"))
+}
+
+/// What is wrong with an input, of an entry with that text. The source is asked with either variant of UNIFAC.
+fn value_faults(value: &Value, text: &str) -> Vec<String> {
+    let (paper, given, source) = (value.paper, value.given, value.source);
+    let mut faults = Vec::new();
+    if bits(paper) != bits(given) {
+        faults.push(format!("paper: {} for {}", written(paper), written(given)));
+    }
+    for asked in [Original, Dortmund].map(|variant| rust::asked_as(&value.case, variant)) {
+        if asked != Answer::Value(bits(source)) {
+            faults.push(format!("Rust: {asked} for {}", written(source)));
         }
     }
+    faults.extend(port_fault(&value.case, value.port));
+    let port = match value.port {
+        Answer::Value(bits) => written(f64::from_bits(bits)),
+        Answer::Refused(number) => number.to_string(),
+    };
+    faults.extend(unsaid(text, &[written(given), written(source), port]));
+    faults
+}
+
+/// The same. The numbers of the source's texts are those by which random calls are compared.
+fn refusal_faults(refusal: &Refusal, entry: &str, text: &str) -> Vec<String> {
+    let (said, words, number) = (refusal.said, refusal.text, refusal.number);
+    let mut faults = Vec::new();
+    if said != Err(ThermoError::InvalidInput(words)) {
+        faults.push(format!("Rust: {said:?} for {words:?}"));
+    } else if entry == TEXTS && said.map_err(rust::number) != Err(number) {
+        faults.push(format!("rust::number: not {number} for {words:?}"));
+    }
+    faults.extend(port_fault(&refusal.case, Answer::Refused(number)));
+    faults.extend(unsaid(text, &[format!("\"{words}\""), number.to_string()]));
+    faults
+}
+
+/// The document's entries by title: their words, without the marks around them, each between blanks.
+fn entries() -> BTreeMap<&'static str, String> {
+    let compared = DOCUMENT.split("\n## Not compared").next().unwrap();
+    let entry = |part: &'static str| {
+        let (title, text) = part.split_once(".**").unwrap_or((part, ""));
+        let words = text.split_whitespace();
+        let bare = words.map(|word| word.trim_matches([',', ';', ':', '.', '(', ')']));
+        (title, format!(" {} ", bare.collect::<Vec<_>>().join(" ")))
+    };
+    compared.split("\n**").skip(1).map(entry).collect()
+}
+
+/// Each input: its entry, and what is wrong with it.
+fn inputs(entries: &BTreeMap<&str, String>) -> Vec<(&'static str, Vec<String>)> {
+    let text = |entry| entries.get(entry).map_or("", String::as_str);
+    let mut all = Vec::new();
+    for (entry, values) in values() {
+        let faults = values.iter().map(|value| value_faults(value, text(entry)));
+        all.extend(faults.map(|faults| (entry, faults)));
+    }
+    for (entry, refusals) in refusals() {
+        let faults = refusals
+            .iter()
+            .map(|refusal| refusal_faults(refusal, entry, text(entry)));
+        all.extend(faults.map(|faults| (entry, faults)));
+    }
+    all
+}
+
+/// Holds all of it, prints what came of it, and answers whether all agree.
+pub fn compare_all() -> bool {
+    let entries = entries();
+    let inputs = inputs(&entries);
+    for (entry, faults) in &inputs {
+        for fault in faults {
+            println!("docs/DIFFERENCES.md, {entry}: {fault}");
+        }
+    }
+    let has_input = |title: &str| title == NO_INPUT || inputs.iter().any(|input| input.0 == title);
+    let without: Vec<&str> = entries
+        .into_keys()
+        .filter(|title| !has_input(title))
+        .collect();
+    for title in &without {
+        println!("docs/DIFFERENCES.md, {title}: no input");
+    }
+    let differ = inputs.iter().filter(|input| !input.1.is_empty()).count();
     println!(
         "docs/DIFFERENCES.md: {} cases, {differ} differ",
-        cases.len()
+        inputs.len()
     );
-    differ == 0
+    differ == 0 && without.is_empty()
 }

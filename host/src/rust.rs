@@ -10,11 +10,18 @@ use original::wilson::Wilson;
 use tpt_thermo_core::error::ThermoError;
 use tpt_thermo_core::quantities::Temperature;
 
-/// The mapping from the original's texts to document 01's numbers. The texts of wrong sizes don't come up,
-/// since `out_of_range` goes before.
+/// The mapping from the original's texts to document 01's numbers. On random inputs the texts of wrong sizes don't
+/// come up, since `out_of_range` goes before; documented.rs has an input for each.
 pub fn number(error: ThermoError) -> u32 {
     let ThermoError::InvalidInput(text) = error;
     match text {
+        "InteractionMatrix must be square and non-empty"
+        | "TdMatrix must be square and non-empty"
+        | "Wilson volumes length mismatch"
+        | "UNIQUAC matrix size mismatch"
+        | "NRTL α matrix must match τ matrix size"
+        | "UNIFAC group table dimension mismatch"
+        | "UNIFAC component/group count mismatch" => 2,
         "UNIFAC group index out of range" => 3,
         "UNIFAC negative group count" => 4,
         "empty composition" => 5,
@@ -123,7 +130,8 @@ macro_rules! ask {
     }};
 }
 
-fn ask_model(case: &Case, variant: UnifacVariant) -> Result<f64, ThermoError> {
+/// The original's value or refusal, in its own range.
+pub fn ask_model(case: &Case, variant: UnifacVariant) -> Result<f64, ThermoError> {
     match case.model {
         WILSON => ask!(wilson(case), case),
         UNIQUAC => ask!(uniquac(case), case),
