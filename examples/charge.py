@@ -137,7 +137,7 @@ class Charge:
     """What a file says: a model and its numbers, kept as they are written, then steps in their order."""
 
     def __init__(self, path):
-        self.title, self.source, self.model, self.unit = "", "", "", "K"
+        self.path, self.title, self.source, self.model, self.unit = path, "", "", "", "K"
         self.components, self.groups = {}, {}  # name: {size or group: number}
         self.given = {}  # (word, name, name): {term or "": number}
         self.steps, self.seen = [], {}
