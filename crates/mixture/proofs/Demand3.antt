@@ -86,7 +86,8 @@ plainly (Plainly u) v e = cc
 
 not-short : (m : Memory) → 5328 ≤ length (m .values) → 1024 ≤ length (m .cells) → 1024 ≤ length (m .marks) → isShort m ≡ false
 unfolding short leastValues leastCells leastMarks
-not-short m v c k = rw (le-ltb _ _ v, le-ltb _ _ c, le-ltb _ _ k)
+not-short m v c k =
+    rw (le-ltb (length (m .values)) leastValues v, le-ltb (length (m .cells)) leastCells c, le-ltb (length (m .marks)) leastMarks k)
 
 open-accepted : (m : Memory) (h : Head) → isShort m ≡ false → answerAfter m h [] Open ≡ Done
 unfolding lastOf answers leftBy bookAnswers

@@ -43,7 +43,8 @@ pub record Room (n lv lc lm : ℕ) : Type 0 where
 
 pub few-room : {n lv lc lm : ℕ} → n ≤ 12 → leastValues ≤ lv → leastCells ≤ lc → leastMarks ≤ lm → Room n lv lc lm
 unfolding leastValues leastCells leastMarks
-few-room {n} few v c m = record { few = few; square = mul-le-mul few few; last = last-row n; values = v; cells = c; marks = m }
+few-room {n} few v c m =
+    record { few = few; square = mul-le-mul few few; last = last-row n; values = omega arith; cells = omega arith; marks = omega arith }
 
 -- the table of energies as a refill asks for it, with its cells and marks
 pub energies-lent : {n lv lc lm : ℕ} → Room n lv lc lm → (n ≤ 32) × ((n - 1) * n + n * 5 ≤ lv) × ((n - 1) * n + n ≤ lv) × (n * n ≤ lc) × (n * n ≤ lm)

@@ -24,7 +24,7 @@ unfolding leastValues leastCells leastMarks
 room s =
     let ng = s .args .ng in
     let r = s .pre .0 in
-    (mul-le-mul (r .fewGroups) (r .fewGroups), sym (mul-assoc _ _ 5), row-end ng (ng * 5) (ng - 1) (omega (arith, r .someGroups)), r .fewGroups, s .pre .2, s .pre .3, s .pre .4)
+    (mul-le-mul (r .fewGroups) (r .fewGroups), sym (mul-assoc _ _ 5), row-end ng (ng * 5) (ng - 1) (omega (arith, r .someGroups)), r .fewGroups, omega (arith, s .pre .2), omega (arith, s .pre .3), omega (arith, s .pre .4))
 
 refill-requires : tie.Need-refill-requires
 refill-requires c κs =
