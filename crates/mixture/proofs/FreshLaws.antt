@@ -1,23 +1,22 @@
--- Counting what passes, and what a count shows: where all the marks that are not 1 are counted on the diagonal, those off it are 1.
-use mathlib.Core.Path.{_≡_, refl, sym, _∙_, subst}
-use mathlib.Core.Bool.{Bool, true, false, not, _&&_, cond, and-false}
+-- Counting what passes, what a count of none or of all shows, and stale cells counted by their marks: those that aren't 1, less those on
+-- a diagonal that has no cells.
+use mathlib.Core.Path.{_≡_, refl, sym, ap, _∙_, subst}
+use mathlib.Core.Bool.{Bool, true, false, not, _&&_, cond}
 use mathlib.Core.List.{List}
-use mathlib.Core.Logic.{inl, inr}
 use Prim.Native.Nat.{ℕ, zero, suc, _+_, _*_, _/_, _%_, _<_, _≤_}
-use native.Mathlib.Nat.{add-zero, le-antisymm, zero-mul, div-add-mod', mod-lt, div-lt-iff-lt-mul}
+use native.Mathlib.Nat.{add-zero, le-antisymm, ne-of-lt, ne-of-gt}
 use native.Mathlib.Numerals.{add-one}
 use native.Mathlib.Omega.{arith}
-use borrow.Author.Tests.{eq-eqb, ne-eqb, eqb-false}
+use borrow.Author.Tests.{eq-eqb, ne-eqb}
 use lib.Dec.{eqb}
 use lib.ListN.{getD}
-use Rattle.arithmetic.proofs.Tests.{either}
-use Rattle.arithmetic.proofs.TableLaws.{by-place}
+use Rattle.arithmetic.proofs.TableLaws.{by-place, cell-row, cell-column}
 use Rattle.mixture.specs.declared.head.Model.{Model}
 use Rattle.mixture.specs.declared.head.Model.the-variants.{Wilson, Uniquac, Nrtl, Unifac}
 use Rattle.mixture.specs.Names.{byModel}
 use Rattle.mixture.specs.Lists.{howMany, howManyPairs}
 use Rattle.mixture.specs.Refills.{staleCell, unmarked}
-use Rattle.mixture.proofs.ListLaws.{never, howMany-le, howMany-rows}
+use Rattle.mixture.proofs.ListLaws.{never, howMany-le, howMany-same, howMany-rows, howManyPairs-same}
 
 -- ---- counting
 
@@ -54,18 +53,6 @@ unfolding howMany
 one-of zero i p h = absurd (omega arith)
 one-of (suc n) i p h = by-place i n (λ b. omega (arith, one-of n i p b)) (λ e. rw e (omega arith)) (λ b. absurd (omega arith))
 
-two-of : (n i j : ℕ) (p : ℕ → Bool) → i < n → j < n → (i ≡ j → ⊥) → cond (p i) 1 0 + cond (p j) 1 0 ≤ howMany n p
-unfolding howMany
-two-of zero i j p h k ne = absurd (omega arith)
-two-of (suc n) i j p h k ne =
-    by-place i n
-    (λ b. by-place j n (λ c. omega (arith, two-of n i j p b c ne)) (λ e. rw (← e) (omega (arith, one-of n i p b))) (λ c. absurd (omega arith)))
-    (λ e. rw (← e) (omega (arith, one-of n j p (other e))))
-    (λ b. absurd (omega arith))
-  where
-    other : n ≡ i → j < n
-    other e = by-place j n (λ b. b) (λ q. absurd (ne (sym e ∙ q))) (λ b. absurd (omega arith))
-
 is-none : (b : Bool) → cond b 1 0 ≤ 0 → b ≡ false
 is-none true h = absurd (omega arith)
 is-none false h = refl
@@ -73,58 +60,96 @@ is-none false h = refl
 pub none-of : (n : ℕ) (p : ℕ → Bool) → howMany n p ≡ 0 → (c : ℕ) → c < n → p c ≡ false
 none-of n p e c h = is-none (p c) (omega (arith, one-of n c p h))
 
--- where one passes, and i does, no other does
-pub only-own : (n i : ℕ) (p : ℕ → Bool) → i < n → p i ≡ true → howMany n p ≡ 1 → (j : ℕ) → j < n → not (eqb i j) && p j ≡ false
-only-own n i p h own e j b =
-    elim (either (eqb i j)) [
-      | inl d ↦ rw d refl
-      | inr d ↦ rw d (is-none (p j) (omega (arith, one own, two-of n i j p h b (eqb-false i j d))))
-    ]
-  where
-    one : p i ≡ true → _≡_ {A = ℕ} (cond (p i) 1 0) 1
-    one t = rw t refl
+-- ---- where all pass
 
--- ---- a square whose diagonal has all that pass
+flag-le : (b : Bool) → cond b 1 0 ≤ 1
+flag-le true = omega arith
+flag-le false = omega arith
 
-diagonal-least : (m n : ℕ) (p : ℕ → ℕ → Bool) → m ≤ n → howMany m (λ i. p i i) ≤ howManyPairs m n p
+is-one : (b : Bool) → 1 ≤ cond b 1 0 → b ≡ true
+is-one true h = refl
+is-one false h = absurd (omega arith)
+
+-- as many pass as there are: each does
+pub all-of : (n : ℕ) (p : ℕ → Bool) → howMany n p ≡ n → (c : ℕ) → c < n → p c ≡ true
+unfolding howMany
+all-of zero p e c h = absurd (omega arith)
+all-of (suc n) p e c h =
+    by-place c n
+    (λ b. all-of n p (le-antisymm (howMany-le n p) (omega (arith, flag-le (p n)))) c b)
+    (λ q. rw (← q) (is-one (p n) (omega (arith, howMany-le n p))))
+    (λ b. absurd (omega arith))
+
+pub many-all : (n : ℕ) (p : ℕ → Bool) → ((k : ℕ) → k < n → p k ≡ true) → howMany n p ≡ n
+unfolding howMany
+many-all zero p h = refl
+many-all (suc n) p h = rw (many-all n p (λ k b. h k (omega arith)), h n (omega arith)) (omega arith)
+
+-- ---- the diagonal, and what is off it
+
+-- of n numbers those other than i, and i
+many-apart : (n i : ℕ) (p : ℕ → Bool) → i < n → howMany n p ≡ howMany n (λ j. not (eqb i j) && p j) + cond (p i) 1 0
+unfolding howMany
+many-apart zero i p h = absurd (omega arith)
+many-apart (suc n) i p h =
+    by-place i n
+    (λ b. rw (ne-eqb i n (ne-of-lt b)) (omega (arith, many-apart n i p b)))
+    (λ e. rw (← e, eq-eqb n n refl, howMany-same n (λ j. not (eqb n j) && p j) p (λ j b. rw (ne-eqb n j (ne-of-gt b)))) (omega arith))
+    (λ b. absurd (omega arith))
+
+pairs-apart : (m n : ℕ) (p : ℕ → ℕ → Bool) → m ≤ n → howManyPairs m n p ≡ howManyPairs m n (λ i j. not (eqb i j) && p i j) + howMany m (λ i. p i i)
 unfolding howMany howManyPairs
-diagonal-least zero n p h = omega arith
-diagonal-least (suc m) n p h = omega (arith, diagonal-least m n p (omega arith), one-of n m (p m) h)
+pairs-apart zero n p h = refl
+pairs-apart (suc m) n p h = omega (arith, pairs-apart m n p (omega arith), many-apart n m (p m) h)
 
-only-diagonal : (m n : ℕ) (p : ℕ → ℕ → Bool) → m ≤ n → howManyPairs m n p ≡ howMany m (λ i. p i i) → (i j : ℕ) → i < m → j < n → (i ≡ j → ⊥) → p i j ≡ false
-unfolding howMany howManyPairs
-only-diagonal zero n p h e i j a b ne = absurd (omega arith)
-only-diagonal (suc m) n p h e i j a b ne =
-    let least = diagonal-least m n p (omega arith) in
-    let own = one-of n m (p m) h in
-    by-place i m
-    (λ c. only-diagonal m n p (omega arith) (omega arith) i j c b ne)
-    (λ q. rw (← q) (is-none (p m j) (omega (arith, two-of n m j (p m) h b (λ r. ne (sym q ∙ r))))))
-    (λ c. absurd (omega arith))
+-- by their places
+places-apart : (w : ℕ) (p : ℕ → Bool) → howMany (w * w) p ≡ howMany (w * w) (λ c. not (eqb (c / w) (c % w)) && p c) + howMany w (λ i. p (i * w + i))
+places-apart w p =
+    howMany-rows w w p
+    ∙ (pairs-apart w w (λ i j. p (i * w + j)) (omega arith)
+    ∙ ap (λ (k : ℕ). k + howMany w (λ i. p (i * w + i)))
+    (sym (howMany-rows w w (λ c. not (eqb (c / w) (c % w)) && p c) ∙ howManyPairs-same w w _ _ (λ i j a b. rw (cell-row w i j b, cell-column w i j b)))))
 
--- ---- marks
+-- ---- marks and stale cells
 
-pub fresh-off : (w : ℕ) (marks : List ℕ) → howMany (w * w) (unmarked marks) ≡ howMany w (λ i. unmarked marks (i * w + i)) → (c : ℕ) → c < w * w → not (eqb (c / w) (c % w)) && unmarked marks c ≡ false
-fresh-off zero marks e c h = absurd (omega (arith, zero-mul 0))
-fresh-off (suc v) marks e c h =
-    let w = suc v in
-    let place : c / w * w + c % w ≡ c = div-add-mod' c w in
-    elim (either (eqb (c / w) (c % w))) [
-      | inl d ↦ rw d refl
-      | inr d ↦
-          rw d
-          (subst (λ (z : ℕ). unmarked marks z ≡ false) place
-          (only-diagonal w w (λ i j. unmarked marks (i * w + j)) (omega arith) (sym (howMany-rows w w (unmarked marks)) ∙ e) (c / w) (c % w)
-          (div-lt-iff-lt-mul {k = w} {x = c} {y = w} (omega arith) .1 h) (mod-lt c (omega arith)) (eqb-false (c / w) (c % w) d)))
-    ]
-
-pub stale-none : (k : Model) (marks : List ℕ) (c i j : ℕ) → unmarked marks c ≡ false → staleCell k (getD marks c 0) i j ≡ false
+-- where the diagonal has cells, a mark other than 1 is a stale cell; else one off the diagonal is
+stale-all : (k : Model) (marks : List ℕ) (c i j : ℕ) → byModel k false false false true ≡ true → unmarked marks c ≡ staleCell k (getD marks c 0) i j
 unfolding staleCell
-stale-none k marks c i j h = rw (h, and-false (byModel k (not (eqb i j)) (not (eqb i j)) (not (eqb i j)) true)) refl
+stale-all Wilson marks c i j d = never (sym d)
+stale-all Uniquac marks c i j d = never (sym d)
+stale-all Nrtl marks c i j d = never (sym d)
+stale-all Unifac marks c i j d = refl
 
-pub stale-apart : (k : Model) (marks : List ℕ) (c i j : ℕ) → byModel k false false false true ≡ false → not (eqb i j) && unmarked marks c ≡ false → staleCell k (getD marks c 0) i j ≡ false
+stale-apart : (k : Model) (marks : List ℕ) (c i j : ℕ) → byModel k false false false true ≡ false → not (eqb i j) && unmarked marks c ≡ staleCell k (getD marks c 0) i j
 unfolding staleCell
-stale-apart Wilson marks c i j d h = h
-stale-apart Uniquac marks c i j d h = h
-stale-apart Nrtl marks c i j d h = h
-stale-apart Unifac marks c i j d h = never d
+stale-apart Wilson marks c i j d = refl
+stale-apart Uniquac marks c i j d = refl
+stale-apart Nrtl marks c i j d = refl
+stale-apart Unifac marks c i j d = never d
+
+module _ (k : Model) (marks : List ℕ) where
+  -- a row's stale cells
+  module _ (w i : ℕ) (h : i < w) {n : ℕ} (so : n ≡ howMany w (unmarked marks)) where
+    pub row-all : byModel k false false false true ≡ true → n ≡ howMany w (λ j. staleCell k (getD marks j 0) i j)
+    row-all d = so ∙ howMany-same w _ _ (λ j b. stale-all k marks j i j d)
+
+    row-apart : byModel k false false false true ≡ false → n ≡ howMany w (λ j. staleCell k (getD marks j 0) i j) + cond (unmarked marks i) 1 0
+    row-apart d =
+        so ∙ (many-apart w i (unmarked marks) h ∙ ap (λ (m : ℕ). m + cond (unmarked marks i) 1 0) (howMany-same w _ _ (λ j b. stale-apart k marks j i j d)))
+
+    pub row-but : byModel k false false false true ≡ false → getD marks i 0 ≡ 1 → n ≡ howMany w (λ j. staleCell k (getD marks j 0) i j)
+    row-but d e = row-apart d ∙ rw (is-marked (getD marks i 0) e, add-zero)
+
+    pub row-less : byModel k false false false true ≡ false → (getD marks i 0 ≡ 1 → ⊥) → n ≡ howMany w (λ j. staleCell k (getD marks j 0) i j) + 1
+    row-less d e = row-apart d ∙ rw (is-unmarked (getD marks i 0) e)
+
+  -- a table's stale cells
+  module _ (w : ℕ) {n : ℕ} (so : n ≡ howMany (w * w) (unmarked marks)) where
+    pub table-all : byModel k false false false true ≡ true → n ≡ howMany (w * w) (λ c. staleCell k (getD marks c 0) (c / w) (c % w))
+    table-all d = so ∙ howMany-same (w * w) _ _ (λ c b. stale-all k marks c (c / w) (c % w) d)
+
+    pub table-apart : {m : ℕ} → byModel k false false false true ≡ false → m ≡ howMany w (λ i. unmarked marks (i * w + i))
+        → n ≡ howMany (w * w) (λ c. staleCell k (getD marks c 0) (c / w) (c % w)) + m
+    table-apart {m} d e =
+        so ∙ (places-apart w (unmarked marks)
+        ∙ rw (← e) (ap (λ (z : ℕ). z + m) (howMany-same (w * w) _ _ (λ c b. stale-apart k marks c (c / w) (c % w) d))))

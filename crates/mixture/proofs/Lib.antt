@@ -14,6 +14,7 @@ pub mod BlockLaws
 pub mod SetLaws
 pub mod FreshLaws
 pub mod RefillLaws
+pub mod GatherLaws
 pub mod SolvedLaws
 pub mod QueryLaws
 pub mod History

@@ -13,9 +13,9 @@ use lib.Dec.{ltb, eqb}
 use lib.ListN.{length, getD, set, take, drop, length-append, length-drop, drop-of-length-le, List·getD-append}
 use lib.Seq.{getD-take, getD-drop, getD-append-add, length-take-le, ext-getD}
 use lib.Ieee.{Float, nan}
-use Rattle.arithmetic.specs.Tables.{from}
+use Rattle.arithmetic.specs.Tables.{at, from}
 use Rattle.arithmetic.proofs.Tests.{le-or}
-use Rattle.arithmetic.proofs.TableLaws.{by-place, row-end, row-next, from-length, cell-row, cell-column}
+use Rattle.arithmetic.proofs.TableLaws.{by-place, row-end, row-next, from-length, from-at, cell-row, cell-column}
 use Rattle.mixture.specs.declared.head.Model.{Model}
 use Rattle.mixture.specs.declared.head.Model.the-variants.{Wilson, Uniquac, Nrtl, Unifac}
 use Rattle.mixture.specs.Names.{byModel}
@@ -138,6 +138,20 @@ refilling {j} {p} {f} {cells} {marks} now =
       long = (length-as (among j p) f cells (now .worked), length-as (among j p) (λ c. 1) marks (now .marked));
       few = rw (now .counted) (howMany-le j p);
     }
+
+-- so many as pass
+pub refilled-count : {n : ℕ} {p : ℕ → Bool} {f : ℕ → Float} {cells : List Float} {marks : List ℕ} {c : List Float} {l : List ℕ} {r s : ℕ}
+    → s ≡ howMany n p → Refilled n p f cells marks c l r → Refilled n p f cells marks c l s
+refilled-count e all = record { worked = all .worked; marked = all .marked; counted = e }
+
+pub refilling-count : {j : ℕ} {p : ℕ → Bool} {f : ℕ → Float} {cells : List Float} {marks : List ℕ} {c : List Float} {l : List ℕ} {r : ℕ}
+    → Refilling j p f cells marks c l r → Refilling j p f cells marks c l (howMany j p)
+refilling-count so = refilling (refilled-count refl (so .all))
+
+-- a loop that counts j to w has all of them at its end
+pub refilled-end : {j w : ℕ} {p : ℕ → Bool} {f : ℕ → Float} {cells : List Float} {marks : List ℕ} {c : List Float} {l : List ℕ} {r : ℕ}
+    → j ≤ w → w ≤ j → Refilled j p f cells marks c l r → Refilled w p f cells marks c l (howMany w p)
+refilled-end {p = p} {f} {cells} {marks} {c} {l} {r} a b all = refilled-count refl (subst (λ (k : ℕ). Refilled k p f cells marks c l r) (le-antisymm a b) all)
 
 -- ---- a turn of the loop over a row, which goes by what the mark says
 
@@ -265,6 +279,24 @@ module _ (k : Model) (w stride i : ℕ) (table tau : List Float) (T L : Float) (
       let d = row-end w w i b in
       (omega arith, refilling (refilled-row k w i _ cells marks (omega arith) (omega arith) _ above row (λ j b. row-cells k w stride table tau T L i j b)))
 
+-- the same where row i is taken over from a table of exponentials
+module _ (k : Model) (w i : ℕ) (worked cells : List Float) (marks : List ℕ) (b : i < w) (hw : w * w ≤ length worked)
+    (hc : w * w ≤ length cells) (hm : w * w ≤ length marks) {c : List Float} {l : List ℕ} {r : ℕ}
+    (above : Refilled (i * w) (λ c. staleCell k (getD marks c 0) (c / w) (c % w)) (at worked) cells marks c l r) where
+  pub taken-lent : (w ≤ length (from (i * w) worked)) × (w ≤ length (from (i * w) c)) × (w ≤ length (from (i * w) l))
+  taken-lent =
+      let kept = refilling above .long in
+      let d = row-end w w i b in
+      (omega (arith, from-length (i * w) worked), omega (arith, from-length (i * w) c), omega (arith, from-length (i * w) l))
+
+  pub taken-more : {ys : List Float} {zs : List ℕ} {s : ℕ}
+      → Refilled w (λ j. staleCell k (getD (from (i * w) l) j 0) i j) (at (from (i * w) worked)) (from (i * w) c) (from (i * w) l) ys zs s
+      → (i + 1 ≤ w) × Refilling ((i + 1) * w) (λ c. staleCell k (getD marks c 0) (c / w) (c % w)) (at worked) cells marks
+      (putMid (i * w) (length c - i * w) c ys) (putMid (i * w) (length l - i * w) l zs) (r + s)
+  taken-more row =
+      let d = row-end w w i b in
+      (omega arith, refilling (refilled-row k w i _ cells marks (omega arith) (omega arith) _ above row (λ j q. from-at worked (i * w) j (omega arith))))
+
 -- a loop that counts i to w has all of them at its end
 pub refilled-done : (i w : ℕ) {p : ℕ → Bool} {f : ℕ → Float} {cells : List Float} {marks : List ℕ} {c : List Float} {l : List ℕ} {r : ℕ}
     → i ≤ w → w ≤ i → Refilled (i * w) p f cells marks c l r → Refilled (w * w) p f cells marks c l r
@@ -286,7 +318,7 @@ refilled-fresh n p f cells marks h =
 
 -- ---- equal exponentials
 
-among-below : (n : ℕ) (p : ℕ → Bool) (c : ℕ) → among n p c ≡ true → c < n
+pub among-below : (n : ℕ) (p : ℕ → Bool) (c : ℕ) → among n p c ≡ true → c < n
 among-below n p c t = elim (le-or n c) [ inl b ↦ never (sym t ∙ among-past n p c b) | inr b ↦ b ]
 
 pub refilled-as : (n : ℕ) (p : ℕ → Bool) (f g : ℕ → Float) (cells : List Float) (marks : List ℕ) {cells′ : List Float} {marks′ : List ℕ} {r : ℕ} → ((c : ℕ) → c < n → f c ≡ g c)

@@ -2,14 +2,17 @@
 use mathlib.Core.Path.{_≡_}
 use mathlib.Core.Bool.{Bool, true, not, _&&_}
 use mathlib.Core.List.{List}
-use Prim.Native.Nat.{ℕ, _*_, _/_, _%_, _<_, _≤_}
+use Prim.Native.Nat.{ℕ, _*_, _-_, _/_, _%_, _<_, _≤_}
 use lib.Dec.{ltb, eqb}
 use lib.ListN.{getD}
-use lib.Ieee.{Float}
+use lib.Ieee.{Float, neg}
+use Rattle.arithmetic.specs.Exponential.{expOf}
+use Rattle.arithmetic.specs.Floats.{_⊖_, _⊗_, _⊘_}
+use Rattle.arithmetic.specs.Parameters.{tdBy}
 use Rattle.arithmetic.specs.Tables.{at, grid}
 use Rattle.models.specs.declared.answers.Quantity.{Quantity}
 use Rattle.models.specs.Exponentials.{energy, nonrandomness}
-use Rattle.models.specs.Values.{start}
+use Rattle.models.specs.Values.{start, fiveAt}
 use Rattle.models.specs.UnifacSteps.{psiBy}
 use Rattle.mixture.specs.declared.head.Head.{Head}
 use Rattle.mixture.specs.declared.head.Model.{Model}
@@ -26,9 +29,19 @@ unfoldable pub rowCell : Model → List Float → List Float → Float → Float
 rowCell k row tau T L i j =
     byModel k (energy (λ _. at row) T i j) (energy (λ _. at row) T i j) (nonrandomness (λ _. at row) (λ _. at tau) i j) (psiBy row T L j)
 
--- i, j is a cell of the model, and its mark makes it stale
+-- what it is the exp of
+unfoldable pub rowArgument : Model → List Float → List Float → Float → Float → ℕ → ℕ → Float
+rowArgument k row tau T L i j =
+    byModel k (neg (at row j ⊖ at row i) ⊘ T) (neg (at row j ⊖ at row i) ⊘ T) (neg (at row j) ⊗ at tau j)
+    (neg (tdBy (fiveAt row (j * 5)) T L) ⊘ T)
+
+-- i, j is a cell of the model
+abbrev pub hasCell : Model → ℕ → ℕ → Bool
+hasCell k i j = byModel k (not (eqb i j)) (not (eqb i j)) (not (eqb i j)) true
+
+-- and its mark makes it stale
 unfoldable pub staleCell : Model → ℕ → ℕ → ℕ → Bool
-staleCell k mark i j = byModel k (not (eqb i j)) (not (eqb i j)) (not (eqb i j)) true && not (eqb mark 1)
+staleCell k mark i j = hasCell k i j && not (eqb mark 1)
 
 -- the mark at c is other than 1
 abbrev pub unmarked : List ℕ → ℕ → Bool
@@ -39,6 +52,25 @@ pub record Refilled (n : ℕ) (p : ℕ → Bool) (f : ℕ → Float) (cells : Li
   pub worked : cells′ ≡ written (λ c. ltb c n && p c) f cells
   pub marked : marks′ ≡ written (λ c. ltb c n && p c) (λ c. 1) marks
   pub counted : r ≡ howMany n p
+
+-- f of each of the first n places that pass stands in l, one after the other, and r is their number
+pub record Gathered (n : ℕ) (p : ℕ → Bool) (f : ℕ → Float) (l : List Float) (r : ℕ) : Type 0 where
+  pub counted : r ≡ howMany n p
+  pub each : (j : ℕ) → j < n → p j ≡ true → at l (howMany j p) ≡ f j
+
+-- of a table by rows of w, the first k entries of the last row stand on the diagonal as well, and every entry off it is kept
+pub record Laid (w k : ℕ) (l l′ : List Float) : Type 0 where
+  pub laid : (i : ℕ) → i < k → grid w l′ i i ≡ grid w l (w - 1) i
+  pub kept : (i j : ℕ) → i < w → j < w → (i ≡ j → ⊥) → grid w l′ i j ≡ grid w l i j
+
+-- the first k entries of the diagonal stand in the last row as well, and the rows above it are kept
+pub record Lifted (w k : ℕ) (l l′ : List Float) : Type 0 where
+  pub lifted : (j : ℕ) → j < k → grid w l′ (w - 1) j ≡ grid w l j j
+  pub kept : (c : ℕ) → c < (w - 1) * w → at l′ c ≡ at l c
+
+-- each entry off the diagonal has the exp of what it held
+pub record OffDiagonalTaken (w : ℕ) (l l′ : List Float) : Type 0 where
+  pub each : (i j : ℕ) → i < w → j < w → (i ≡ j → ⊥) → grid w l′ i j ≡ expOf (grid w l i j)
 
 -- the cells of a model with w rows, worked out by E, and the value f of the table that they make with the others
 pub record Solved (k : Model) (w : ℕ) (E : ℕ → ℕ → Float) (f : (ℕ → ℕ → Float) → Float) (cells : List Float) (marks : List ℕ) (cells′ : List Float) (marks′ : List ℕ) (r : Worked) : Type 0 where

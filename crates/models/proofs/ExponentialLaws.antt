@@ -30,7 +30,7 @@ energy-row n l T i j h b c = energy-same _ _ T T i j (from-at l (i * n) j (omega
 -- ---- a table of arguments, row after row, then exp of each place
 
 -- the places from s on come back as ys, in the middle of g
-part-more : (F : ℕ → Float) (s n : ℕ) (g ys rest : List Float) → s ≤ length g → n ≤ length ys → Filled F s g → ((k : ℕ) → k < n → at ys k ≡ F (s + k)) → Filled F (s + n) (take s g ++ (ys ++ rest))
+pub part-more : (F : ℕ → Float) (s n : ℕ) (g ys rest : List Float) → s ≤ length g → n ≤ length ys → Filled F s g → ((k : ℕ) → k < n → at ys k ≡ F (s + k)) → Filled F (s + n) (take s g ++ (ys ++ rest))
 part-more F s n g ys rest h l all row = record {
   each = λ k b.
       by-place k s

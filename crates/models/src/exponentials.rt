@@ -8,17 +8,25 @@ ghost use Rattle.arithmetic.specs.Tables.{at, flat, Filled};
 ghost use Rattle.models.specs.Exponentials.{energy as E·energy};
 ghost use Rattle.models.specs.Values.{energies};
 
-// E_ij, from the part of the energies that starts at row i.
+// What E_ij is the exp of, from the part of the energies that starts at row i.
+pub fn argument(row: &[f64], t: f64, i: usize, j: usize) -> f64
+    requires { ⌜ (i < length (now row)) × (j < length (now row)) ⌝ }
+    ensures { λ r. ⌜ r ≡ neg (at (now (row .entry)) j ⊖ at (now (row .entry)) i) ⊘ t ⌝ }
+{
+    -(row[j] - row[i]) / t
+}
+
+// E_ij, from the same part.
 pub fn energy(row: &[f64], t: f64, i: usize, j: usize) -> f64
     requires { ⌜ (i < length (now row)) × (j < length (now row)) ⌝ }
     ensures { λ r. ⌜ r ≡ E·energy (λ _. at (now (row .entry))) t i j ⌝ }
 {
-    arithmetic::exp(-(row[j] - row[i]) / t)
+    arithmetic::exp(argument(row, t, i, j))
 }
 
 // Writes what E_ij is the exp of for each j below n, through the part of a table that starts at row i. The diagonal gets
 // one as well, so that the row runs without a test; it counts in no sum.
-fn fill_arguments(row: &[f64], t: f64, n: usize, i: usize, out: &mut [f64])
+pub fn fill_arguments(row: &[f64], t: f64, n: usize, i: usize, out: &mut [f64])
     requires { ⌜ (n ≤ length (now row)) × (n ≤ length (now out)) × (i < n) ⌝ }
     ensures { λ _. ⌜ Filled (λ j. neg (at (now (row .entry)) j ⊖ at (now (row .entry)) i) ⊘ t) n (now (out .exit)) ⌝ }
 {
@@ -26,15 +34,6 @@ fn fill_arguments(row: &[f64], t: f64, n: usize, i: usize, out: &mut [f64])
     for j in 0..n {
         out[j] = -(row[j] - own) / t;
     }
-}
-
-// Writes a row of exponentials, the diagonal's as well.
-pub fn fill_row(row: &[f64], t: f64, n: usize, i: usize, out: &mut [f64])
-    requires { ⌜ (n ≤ length (now row)) × (n ≤ length (now out)) × (i < n) ⌝ }
-    ensures { λ _. ⌜ Filled (E·energy (λ _. at (now (row .entry))) t i) n (now (out .exit)) ⌝ }
-{
-    fill_arguments(row, t, n, i, out);
-    arithmetic::exp_each(out, n);
 }
 
 // Writes the table of a model whose values begin with its energies: every argument first, then exp of them all at once.

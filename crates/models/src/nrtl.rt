@@ -37,22 +37,36 @@ pub fn fill_taus(n: usize, values: &[f64], t: f64, out: &mut [f64])
     parameters::fill_values(values, n * n, t, out);
 }
 
-// G_ij, from α_ij and τ_ij at T.
+// What G_ij is the exp of, from α_ij and τ_ij at T.
+pub fn argument(alpha: f64, tau: f64) -> f64
+    ensures { λ r. ⌜ r ≡ neg alpha ⊗ tau ⌝ }
+{
+    -alpha * tau
+}
+
+// G_ij, from the same two.
 pub fn exponential(alpha: f64, tau: f64) -> f64
     ensures { λ r. ⌜ r ≡ expOf (neg alpha ⊗ tau) ⌝ }
 {
-    arithmetic::exp(-alpha * tau)
+    arithmetic::exp(argument(alpha, tau))
 }
 
-// Writes the first count entries of G, those of the diagonal as well, which count in no sum: every argument first, then exp of
-// them all at once.
-pub fn fill_exponentials(alpha: &[f64], tau: &[f64], count: usize, out: &mut [f64])
+// Writes what the first count entries of G are the exp of, those of the diagonal as well, which count in no sum.
+pub fn fill_arguments(alpha: &[f64], tau: &[f64], count: usize, out: &mut [f64])
     requires { ⌜ (count ≤ length (now alpha)) × (count ≤ length (now tau)) × (count ≤ length (now out)) ⌝ }
-    ensures { λ _. ⌜ Filled (λ k. expOf (neg (at (now (alpha .entry)) k) ⊗ at (now (tau .entry)) k)) count (now (out .exit)) ⌝ }
+    ensures { λ _. ⌜ Filled (λ k. neg (at (now (alpha .entry)) k) ⊗ at (now (tau .entry)) k) count (now (out .exit)) ⌝ }
 {
     for k in 0..count {
         out[k] = -alpha[k] * tau[k];
     }
+}
+
+// Writes the first count entries of G: every argument first, then exp of them all at once.
+fn fill_exponentials(alpha: &[f64], tau: &[f64], count: usize, out: &mut [f64])
+    requires { ⌜ (count ≤ length (now alpha)) × (count ≤ length (now tau)) × (count ≤ length (now out)) ⌝ }
+    ensures { λ _. ⌜ Filled (λ k. expOf (neg (at (now (alpha .entry)) k) ⊗ at (now (tau .entry)) k)) count (now (out .exit)) ⌝ }
+{
+    fill_arguments(alpha, tau, count, out);
     arithmetic::exp_each(out, count);
 }
 

@@ -3,10 +3,9 @@ ghost use mathlib.Core.Path.{_≡_};
 ghost use Prim.Native.Nat.{ℕ, _+_, _*_, _≤_, _<_};
 ghost use lib.ListN.{length, getD};
 ghost use lib.Ieee.{neg};
-ghost use Rattle.arithmetic.specs.Exponential.{expOf};
 ghost use Rattle.arithmetic.specs.Floats.{_⊕_, _⊖_, _⊗_, _⊘_, one};
 ghost use Rattle.arithmetic.specs.Sums.{sum};
-ghost use Rattle.arithmetic.specs.Parameters.{tdAt};
+ghost use Rattle.arithmetic.specs.Parameters.{tdAt, tdBy};
 ghost use Rattle.arithmetic.specs.Tables.{at, grid, flat, from, Filled};
 ghost use Rattle.models.specs.Answers.{indexFault};
 ghost use Rattle.models.specs.Columns.{columnSum};
@@ -15,39 +14,46 @@ ghost use Rattle.models.specs.Lists.{Listed, Loaded, Named};
 ghost use Rattle.models.specs.Plain.{unifacFault, unifacPlain};
 ghost use Rattle.models.specs.Unifac.{theta as Unifac·theta, pure as Unifac·pure, fraction, lnGroup, combinatorialBy, residual, unifac, unifacAt};
 ghost use Rattle.models.specs.UnifacSteps.{psiBy, lnFrom, Shares};
-ghost use Rattle.models.specs.Values.{lists, countsAt, groupRs, groupQs, groupAs};
+ghost use Rattle.models.specs.Values.{fiveAt, lists, countsAt, groupRs, groupQs, groupAs};
 use crate::answers::Answer;
 use crate::answers::Quantity;
 use crate::columns;
 
-// Ψ of column k: row is the part of the td entries, five each, that starts at its row; ln is log(T).
+// What Ψ of column k is the exp of: row is the part of the td entries, five each, that starts at its row; ln is log(T).
+pub fn argument(row: &[f64], t: f64, ln: f64, k: usize) -> f64
+    requires { ⌜ k * 5 + 5 ≤ length (now row) ⌝ }
+    ensures { λ r. ⌜ r ≡ neg (tdBy (fiveAt (now (row .entry)) (k * 5)) t ln) ⊘ t ⌝ }
+{
+    let place = k * 5;
+    let a = crate::parameters::five_at(row, place);
+    -a.value_by(t, ln) / t
+}
+
+// Ψ of column k, from the same part.
 pub fn psi(row: &[f64], t: f64, ln: f64, k: usize) -> f64
     requires { ⌜ k * 5 + 5 ≤ length (now row) ⌝ }
     ensures { λ r. ⌜ r ≡ psiBy (now (row .entry)) t ln k ⌝ }
 {
-    let place = k * 5;
-    let a = crate::parameters::five_at(row, place);
-    arithmetic::exp(-a.value_by(t, ln) / t)
+    arithmetic::exp(argument(row, t, ln, k))
 }
 
-// Each of the first count places takes exp(-v/t), v what it held: every argument first, then exp of them all at once.
-fn exp_over(out: &mut [f64], count: usize, t: f64)
+// Each of the first count places takes -v/t, v what it held.
+fn over_t(out: &mut [f64], count: usize, t: f64)
     requires { ⌜ count ≤ length (now out) ⌝ }
-    ensures { λ _. ⌜ Filled (λ k. expOf (neg (at (now (out .entry)) k) ⊘ t)) count (now (out .exit)) ⌝ }
+    ensures { λ _. ⌜ Filled (λ k. neg (at (now (out .entry)) k) ⊘ t) count (now (out .exit)) ⌝ }
 {
     for k in 0..count {
         out[k] = -out[k] / t;
     }
-    arithmetic::exp_each(out, count);
 }
 
-// Writes a row of Ψ to the first ng places of out; ln is log(T).
-pub fn fill_row(row: &[f64], t: f64, ln: f64, ng: usize, out: &mut [f64])
+// Writes what a row of Ψ is the exp of to the first ng places of out; ln is log(T).
+pub fn fill_arguments(row: &[f64], t: f64, ln: f64, ng: usize, out: &mut [f64])
     requires { ⌜ (ng ≤ 32) × (ng * 5 ≤ length (now row)) × (ng ≤ length (now out)) ⌝ }
-    ensures { λ _. ⌜ Filled (psiBy (now (row .entry)) t ln) ng (now (out .exit)) ⌝ }
+    ensures { λ _. ⌜ Filled (λ k. neg (tdBy (fiveAt (now (row .entry)) (k * 5)) t ln) ⊘ t) ng (now (out .exit)) ⌝ }
 {
     crate::parameters::fill_values_by(row, ng, t, ln, out);
-    exp_over(out, ng, t);
+    over_t(out, ng, t);
 }
 
 // Writes Ψ by full rows of ng: every a at T first, then exp(-a/T) of them all at once.
@@ -58,7 +64,8 @@ fn fill_table(values: &[f64], t: f64, ng: usize, table: &mut [f64])
     let five = ng + ng;
     let count = ng * ng;
     crate::parameters::fill_values(&values[five..], count, t, table);
-    exp_over(table, count, t);
+    over_t(table, count, t);
+    arithmetic::exp_each(table, count);
 }
 
 // Θ of each group from the group fractions.

@@ -1,4 +1,5 @@
 -- E_ij is exp of the definition's own quotient.
+use mathlib.Core.Path.{_∙_}
 use borrow.Author.Needs.{needs}
 use Rattle.models.specs.Exponentials.{energy}
 use Rattle.models.proofs.exponentials.energy.Statement.{statement}
@@ -6,9 +7,7 @@ use Rattle.models.proofs.exponentials.energy.Tie as tie
 
 returns : tie.Need-returns
 unfolding energy
-returns c = c .exp .ensures
+returns c = c .exp .ensures ∙ rw (c .before .argument .ensures)
 
 pub energy-spec : {M : Type 1} → statement M
-energy-spec =
-    tie.close
-    (tie.spec (λ c. search needs) (λ c. search needs) (λ c. search needs) (λ c. search needs) (λ c κs. tt) returns)
+energy-spec = tie.close (tie.spec (λ c κs. search needs) (λ c κs. tt) returns)

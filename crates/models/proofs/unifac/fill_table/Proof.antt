@@ -1,11 +1,14 @@
--- a of each entry at T, then exp of each over T; the flat places are the table's.
+-- a of each entry at T, each over T, then exp of each; the flat places are the table's.
+use mathlib.Core.Path.{refl}
 use Prim.Native.Nat.{_+_}
 use native.Mathlib.Nat.{mul-le-mul}
 use native.Mathlib.Omega.{arith}
 use borrow.Author.Needs.{needs}
 use denote.Ref.{now}
+use Rattle.arithmetic.specs.Exponential.{expOf}
 use Rattle.arithmetic.proofs.TableLaws.{from-length}
 use Rattle.models.specs.Values.{countsAt}
+use Rattle.models.proofs.ExponentialLaws.{each-filled}
 use Rattle.models.proofs.UnifacLaws.{table-filled}
 use Rattle.models.proofs.unifac.fill_table.Statement.{statement}
 use Rattle.models.proofs.unifac.fill_table.Tie as tie
@@ -28,9 +31,12 @@ fill-values-requires c κs =
 
 returns : tie.Need-returns
 returns c =
-    let over = c .before .before in
+    let each = c .before .before in
+    let over = each .before .before .before .before in
     let fill = over .before .before .before .before in
-    table-filled _ _ _ (fill .before .before .before .before .before .pre .1) (fill .fill-values .ensures) (over .exp-over .ensures)
+    let start = fill .before .before .before .before .before in
+    table-filled _ _ _ (start .pre .1) (fill .fill-values .ensures)
+    (each-filled expOf _ _ (omega (arith, over .over-t .kept, fill .fill-values .kept, start .pre .2)) (λ k b. refl) (over .over-t .ensures) (each .exp-each .ensures))
 
 pub fill-table-spec : {M : Type 1} → statement M
 fill-table-spec =
@@ -43,6 +49,7 @@ fill-table-spec =
     part-fill-values-start
     (λ c. omega arith)
     fill-values-requires
+    (λ c κs. search needs)
     (λ c κs. search needs)
     (λ c. search needs)
     returns)

@@ -1,4 +1,4 @@
--- One exponential: the five of column k by value, at T, over T.
+-- Ψ is exp of its argument.
 use mathlib.Core.Path.{_∙_}
 use borrow.Author.Needs.{needs}
 use Rattle.models.specs.UnifacSteps.{psiBy}
@@ -7,7 +7,7 @@ use Rattle.models.proofs.unifac.psi.Tie as tie
 
 returns : tie.Need-returns
 unfolding psiBy
-returns c = c .exp .ensures ∙ rw (c .before .value-by .ensures, c .before .before .five-at .ensures)
+returns c = c .exp .ensures ∙ rw (c .before .argument .ensures)
 
 pub psi-spec : {M : Type 1} → statement M
-psi-spec = tie.close (tie.spec (λ c. search needs) (λ c κs. search needs) (λ c κs. tt) (λ c κs. tt) returns)
+psi-spec = tie.close (tie.spec (λ c κs. search needs) (λ c κs. tt) returns)

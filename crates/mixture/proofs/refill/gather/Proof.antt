@@ -1,0 +1,48 @@
+-- Gathers what the stale cells of a row are the exp of: the loop has those below j, and so many as it has counted are written.
+use mathlib.Core.Path.{refl}
+use mathlib.Core.Logic.{⊎-elim}
+use Prim.Native.Nat.{_-_, _≤_}
+use native.Mathlib.Omega.{arith}
+use borrow.Author.Needs.{needs}
+use lib.ListN.{length, getD}
+use Rattle.mixture.specs.Refills.{rowArgument, staleCell}
+use Rattle.mixture.proofs.GatherLaws.{Gathering, gathering-none, gathering-more, gathering-skip, gathered-done, gathered-count}
+use Rattle.mixture.proofs.refill.gather.Statement.{statement}
+use Rattle.mixture.proofs.refill.gather.Tie as tie
+
+abbrev Inv-loop : tie.InvT-loop
+Inv-loop model w i row tau t ln marks out₀ count₀ j₀ out count j =
+    (j ≤ w) × Gathering (length out₀) j (λ k. staleCell model (getD marks k 0) i k) (rowArgument model row tau t ln i) out count
+
+abbrev μ-loop : tie.MeasureT-loop
+μ-loop model w i row tau t ln marks out₀ count₀ j₀ out count j = w - j
+
+loop-again : tie.Need-loop-again Inv-loop μ-loop
+loop-again c =
+    let so = c .before .before .before .before .loop .inv .1 in
+    let told = c .before .is-stale .ensures in (
+      omega arith,
+      ⊎-elim (λ w. gathering-more so told (omega arith) (w .0 .taken) (w .1 .ensures) (w .2) (w .3)) (λ w. gathering-skip so told (w .0 .left) (w .1) (w .2)) (c .if1 .came),
+    )
+
+returns : tie.Need-returns Inv-loop μ-loop
+returns c = gathered-count refl (gathered-done (c .before .loop .inv .0) (c .loop-test .left) (c .before .loop .inv .1 .all))
+
+pub gather-spec : {M : Type 1} → statement M
+gather-spec =
+    tie.close
+    (tie.spec
+    Inv-loop
+    μ-loop
+    (λ c. (omega arith, gathering-none _ _ _))
+    (λ c. omega arith)
+    (λ c κs. tt)
+    (λ c κs. search needs)
+    (λ c. omega arith)
+    (λ c. omega arith)
+    (λ c. omega arith)
+    (λ c. omega arith)
+    (λ c. omega arith)
+    loop-again
+    (λ c. c .before .loop .inv .1 .long)
+    returns)
