@@ -14,7 +14,7 @@ use Rattle.arithmetic.specs.Floats.{_⊗_, two}
 use lib.Ieee.Digits.{size-lt, size-reaches}
 use lib.Ieee.Fits.{down-pos}
 use borrow.Author.Tests.{ltb-true, ltb-false}
-use Rattle.arithmetic.specs.Logarithm.{places, M, Splits, significand, binade}
+use Rattle.arithmetic.specs.Logarithm.{places, M, Splits, significand, binade, SplitOnce}
 use Rattle.arithmetic.proofs.Tests.{either}
 use Rattle.arithmetic.proofs.Powers.{two-is}
 use Rattle.arithmetic.proofs.Within.{le→fractions}
@@ -188,3 +188,6 @@ split-only n e p (fin t n′ e′) k s = found n′ t (cc (s .whole)) (cc (s .wh
         let j : Splits (fin false n e) (significand (fin false n e)) (binade (fin false n e)) = split n e p in
         let d : e′ ≡ negℤ (pos (places n)) = same-place n e′ (negℤ (pos (places n))) lo hi (j .least) (j .most) in
         (rw (← u, ← q, d), cancel (negℤ (pos (places n))) k (e +ℤ pos (places n)) (ap (λ (x : ℤ). x +ℤ k) (sym d) ∙ sym w ∙ sym (exponents e (places n))))
+
+pub split-once : SplitOnce
+split-once n e p = (split n e p, split-only n e p)

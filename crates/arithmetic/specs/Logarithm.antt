@@ -1,5 +1,5 @@
 -- log(v), step by step as document 01, "Arithmetic", has it.
-use Prim.Native.Nat.{ℕ, _-_}
+use Prim.Native.Nat.{ℕ, _-_, _<_}
 use mathlib.Core.Path.{_≡_}
 use mathlib.Core.Bool.{true, false, _||_, cond}
 use lib.Dec.{T}
@@ -38,8 +38,7 @@ shifted nan k = nan
 shifted (inf s) k = inf s
 shifted (fin s n e) k = fin s n (e +ℤ k)
 
--- v = m·2^k with m at least M and below 2·M. Exactly one m and k are so for a positive finite v:
--- `split` and `split-only` of proofs/Splitting show it of m and k below.
+-- v = m·2^k with m at least M and below 2·M
 pub record Splits (v m : Float) (k : ℤ) : Type 0 where
   pub whole : v ≡ shifted m k
   pub least : T (le M m)
@@ -60,6 +59,11 @@ unfoldable pub binade : Float → ℤ
 binade nan = pos 0
 binade (inf s) = pos 0
 binade (fin s n e) = e +ℤ pos (places n)
+
+-- these m and k are so for every positive finite v, and no others
+abbrev pub SplitOnce : Type 0
+SplitOnce = (n : ℕ) (e : ℤ) → 0 < n → Splits (fin false n e) (significand (fin false n e)) (binade (fin false n e))
+    × ((m : Float) (k : ℤ) → Splits (fin false n e) m k → (m ≡ significand (fin false n e)) × (k ≡ binade (fin false n e)))
 
 -- R, of s
 unfoldable pub remainder : Float → Float
