@@ -24,7 +24,7 @@ use Rattle.mixture.specs.Names.{Held}
 use Rattle.mixture.specs.Memory.{Memory, isShort, short, leastValues, leastCells, leastMarks}
 use Rattle.mixture.specs.Book.{Call, Open, Query, Book, book, empty, plain, having, touchedCells, bookAnswer, bookAnswers, bookOf, sinceOf}
 use Rattle.mixture.specs.History.{afterCall, answers}
-use Rattle.mixture.specs.Demand3.{leftBy, answerAfter, bookAnswerAfter, Answered, Demand3}
+use Rattle.mixture.specs.Demand3.{leftBy, answerAfter, bookAnswerAfter, ByPlainCall, Demand3}
 use Rattle.mixture.proofs.History.{history}
 use Rattle.mixture.proofs.Plain.{plain-call, one-more}
 
@@ -94,7 +94,7 @@ unfolding lastOf answers leftBy bookAnswers
 open-accepted m h s = ap (lastOf Done) (history m h [] s)
 
 -- what a query finds in the book is what it is answered with
-by-book : (calls : List Call) (q : Quantity) {a : Answer} → a ≡ bookAnswerAfter calls (Query q) → Found (bookOf empty [] calls) (sinceOf empty [] calls) q → Answered calls q a
+by-book : (calls : List Call) (q : Quantity) {a : Answer} → a ≡ bookAnswerAfter calls (Query q) → Found (bookOf empty [] calls) (sinceOf empty [] calls) q → ByPlainCall calls q a
 unfolding valuesOf
 by-book calls q e f =
     let plain-is = plain-call calls (sinceOf empty [] calls) (f .d) (f .T) (f .x) q (f .stands) (f .index) in

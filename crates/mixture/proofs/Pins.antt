@@ -24,8 +24,8 @@ use Rattle.mixture.specs.declared.setting.Setting.the-variants.{Temperat
 use Rattle.mixture.specs.Names.{ModelData, held, name, named}
 use Rattle.mixture.specs.Faults.{below, hasEntry, hasTdEntry, hasSize, hasCount, caseFault, mixFault}
 use Rattle.mixture.specs.Layout.{place}
-use Rattle.mixture.specs.Pins.{FractionsAlike, Over, ValuesNamed}
-use Rattle.mixture.proofs.PlaceLaws.{both, had, sizeOf, D, entry-places, size-places, count-places, td-places, td-entry, entry-size, size-td, td-count, size-count, entry-count}
+use Rattle.mixture.specs.Pins.{FractionsAlike, Over, ValuesNamed, Within}
+use Rattle.mixture.proofs.PlaceLaws.{both, had, sizeOf, store-in, D, entry-places, size-places, count-places, td-places, td-entry, entry-size, size-td, td-count, size-count, entry-count}
 use Rattle.mixture.proofs.RangeLaws.{sound}
 use Rattle.mixture.proofs.RowLaws.{before-table, before-lens, InRow, in-row}
 
@@ -239,3 +239,6 @@ pub values-named : ValuesNamed
 values-named d p f h =
     let c = covered d p (d .model) (rw (sound d f .size) at h) in
     record { setting = c .setting; over = c .over; once = λ s o. once d p s (c .setting) o (c .over) }
+
+pub within : Within
+within d s f c = rw (sound d f .size) (store-in d s c)

@@ -39,7 +39,7 @@ bookAnswerAfter calls c = bookAnswer (bookOf empty [] calls) (sinceOf empty [] c
 
 -- the answer to a query: the plain call's value for what stands in the book, and the number of distinct cells with an input
 -- loaded or set since the last answered query
-pub record Answered (calls : List Call) (q : Quantity) (a : Answer) : Type 0 where
+pub record ByPlainCall (calls : List Call) (q : Quantity) (a : Answer) : Type 0 where
   pub d : Held
   pub T : Float
   pub x : List Float
@@ -50,15 +50,15 @@ pub record Answered (calls : List Call) (q : Quantity) (a : Answer) : Type 0 whe
 
 -- on three slices with any bits and with any head the opening is accepted; after it and any calls a further call is refused with k
 -- exactly when the book refuses it with k, and a query that isn't refused is answered
-pub record Kept (m : Memory) (h : Head) (calls : List Call) : Type 0 where
+pub record Met (m : Memory) (h : Head) (calls : List Call) : Type 0 where
   pub opened : answerAfter m h [] Open ≡ Done
   pub refused : (c : Call) (k : ℕ) → answerAfter m h (Open ∷ calls) c ≡ Refused k → bookAnswerAfter calls c ≡ Refused k
   pub declined : (c : Call) (k : ℕ) → bookAnswerAfter calls c ≡ Refused k → answerAfter m h (Open ∷ calls) c ≡ Refused k
   pub answered : (q : Quantity) → ((k : ℕ) → answerAfter m h (Open ∷ calls) (Query q) ≡ Refused k → ⊥)
-      → Answered calls q (answerAfter m h (Open ∷ calls) (Query q))
+      → ByPlainCall calls q (answerAfter m h (Open ∷ calls) (Query q))
 
 -- the slices have at least 5,328, 1,024 and 1,024 places
 abbrev pub Demand3 : Type 0
 Demand3 = (m : Memory) (h : Head) (calls : List Call)
     → 5328 ≤ length (m .values) → 1024 ≤ length (m .cells) → 1024 ≤ length (m .marks)
-    → Kept m h calls
+    → Met m h calls

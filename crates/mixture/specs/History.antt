@@ -1,4 +1,4 @@
--- Demand 3: from an opening on, no order of calls can make a mixture answer wrongly.
+-- The history theorem, from which Demand3 follows: from an opening on, no order of calls can make a mixture answer wrongly.
 -- docs/REVIEW.md, "Demand 3", says what the two sides of the claim share, and why that is safe.
 use mathlib.Core.Path.{_≡_}
 use mathlib.Core.Bool.{false}

@@ -1,5 +1,5 @@
 -- Laws that pin what memory and book share (docs/REVIEW.md, "Demand 3"): what fractions are refused for, the names of a model's
--- values, its cells, and what a setting makes stale.
+-- values, and its cells; and how many cells a setting makes stale.
 use mathlib.Core.Path.{_≡_}
 use mathlib.Core.Bool.{_&&_, cond}
 use mathlib.Core.List.{List}
@@ -32,7 +32,8 @@ pub record Over (d : ModelData) (s : Setting) (p : ℕ) : Type 0 where
   pub begins : place d s ≤ p
   pub ends : p < place d s + length (numbers s)
 
--- every place of an accepted load's values is named by exactly one setting: none is out of reach, none is named twice
+-- every place of an accepted load's values is named by the settings of exactly one name: none is out of reach, none is named
+-- twice
 pub record NamedOnce (d : ModelData) (p : ℕ) : Type 0 where
   pub setting : Setting
   pub over : Over d setting p
@@ -40,6 +41,10 @@ pub record NamedOnce (d : ModelData) (p : ℕ) : Type 0 where
 
 abbrev pub ValuesNamed : Type 0
 ValuesNamed = (d : ModelData) (p : ℕ) → dataFault d ≡ 0 → p < length (d .values) → NamedOnce d p
+
+-- and no setting that the model takes names a place past them
+abbrev pub Within : Type 0
+Within = (d : ModelData) (s : Setting) → dataFault d ≡ 0 → caseFault (held d) s ≡ 0 → place d s + length (numbers s) ≤ length (d .values)
 
 -- ---- cells
 

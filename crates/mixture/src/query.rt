@@ -210,9 +210,9 @@ fn answered(values: &[f64], cells: &mut [f64], marks: &mut [u8], head: Head, q: 
     Answer::Value(worked.value, worked.count)
 }
 
-// Works out every stale cell and answers with the value and their number. Both branches are the same on purpose (any test would do): `answered` is
-// called in two places, so that the compiler keeps it apart and puts this function into its callers. It is handed a copy of the
-// head, so that the head itself needn't be put together in memory before it goes back.
+// Works out every stale cell and answers with the value and their number. Both branches are the same on purpose (any test would
+// do): `answered` is called in two places, so that the compiler keeps it apart and puts this function into its callers. It is
+// handed a copy of the head, so that the head itself needn't be put together in memory before it goes back.
 pub fn query(values: &[f64], cells: &mut [f64], marks: &mut [u8], head: Head, q: Quantity) -> Reply
     ensures { λ r. ⌜ after (memory (now (values .entry)) (now (cells .exit)) (now (marks .exit))) (r .head) (r .answer) ≡ afterQuery (memory (now (values .entry)) (now (cells .entry)) (now (marks .entry))) head q ⌝ }
 {

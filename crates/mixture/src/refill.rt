@@ -384,8 +384,8 @@ fn take_rows(model: Model, w: usize, worked: &[f64], cells: &mut [f64], marks: &
     }
 }
 
-// Works out the stale cells where these are all cells, none on the diagonal: every argument first, in the table `out`, then exp of
-// `count`, their number, which is the answer.
+// Works out all cells of a model without any on the diagonal, all of them stale: every argument first, in the table `out`, then exp
+// of those off the diagonal. `count` is their number, and the answer.
 fn refill_table(
     model: Model,
     w: usize,
@@ -456,7 +456,7 @@ fn refill_whole(
     )
 }
 
-// Whether so many stale cells are all cells of a model without any on the diagonal, such as has at most 12 rows.
+// Whether `count` stale cells are all cells there are, in a model of at most 12 rows with none on the diagonal.
 fn is_whole(model: Model, w: usize, count: usize) -> bool
     requires { ⌜ (1 ≤ w) × (w ≤ 32) ⌝ }
     ensures { λ r. ⌜ (r ≡ true → (w ≤ 12) × (count ≡ (w - 1) * w) × (byModel model false false false true ≡ false)) ⌝ }
@@ -470,7 +470,7 @@ fn is_whole(model: Model, w: usize, count: usize) -> bool
     count == (w - 1) * w
 }
 
-// Works out every stale cell, and answers with their number: no row is gone through where there is none, a table of E or G that is
+// Works out every stale cell, and answers with their number: no row is gone through where no cell is stale, a table of E or G that is
 // stale as a whole goes in one run, and any other row by row. Fewer than four rows aren't counted beforehand.
 pub fn refill(
     model: Model,
