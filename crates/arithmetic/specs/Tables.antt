@@ -7,6 +7,13 @@ use lib.Dec.{ltb}
 use lib.ListN.{length, getD, take, drop}
 use lib.Ieee.{Float, nan}
 
+-- numbers by one index, and by two
+abbrev pub Vector : Type 0
+Vector = ℕ → Float
+
+abbrev pub Table : Type 0
+Table = ℕ → ℕ → Float
+
 -- what stands at k
 abbrev pub at : List Float → ℕ → Float
 at l k = getD l k nan
@@ -28,9 +35,9 @@ pub record Filled (F : ℕ → Float) (p : ℕ) (g : List Float) : Type 0 where
   pub each : (k : ℕ) → k < p → at g k ≡ F k
 
 -- the first n places as new says, the others as they were
-unfoldable pub upTo : ℕ → (ℕ → Float) → (ℕ → Float) → ℕ → Float
+unfoldable pub upTo : ℕ → Vector → Vector → ℕ → Float
 upTo n new old k = cond (ltb k n) (new k) (old k)
 
 -- a table of rows of n, by its flat places
-unfoldable pub flat : ℕ → (ℕ → ℕ → Float) → ℕ → Float
+unfoldable pub flat : ℕ → Table → ℕ → Float
 flat n L k = L (k / n) (k % n)

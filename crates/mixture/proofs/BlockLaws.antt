@@ -10,12 +10,13 @@ use lib.Dec.{leb, ltb, eqb}
 use borrow.Author.Tests.{eqb-true, lt-ltb, le-ltb, le-leb, lt-leb, eq-eqb, ne-eqb}
 use Rattle.arithmetic.proofs.Tests.{le-or}
 use Rattle.arithmetic.proofs.TableLaws.{by-place, cell-lt}
-use Rattle.mixture.specs.declared.head.Model.{Model}
-use Rattle.mixture.specs.declared.head.Model.the-variants.{Wilson, Uniquac, Nrtl, Unifac}
+use Rattle.models.specs.declared.model.Model.{Model}
+use Rattle.models.specs.declared.model.Model.the-variants.{Wilson, Uniquac, Nrtl, Unifac}
 use Rattle.mixture.specs.Lists.{written}
-use Rattle.mixture.specs.Names.{byModel, ModelData, Held, held, width, isCell}
+use Rattle.mixture.specs.Names.{ModelData, Held, held, width, isCell}
+use Rattle.models.specs.Model.{byModel}
 use Rattle.mixture.specs.Layout.{cellAt}
-use Rattle.mixture.specs.Blocks.{inBlock, block}
+use Rattle.mixture.specs.steps.Blocks.{inBlock, block}
 use Rattle.mixture.proofs.ListLaws.{written-same}
 
 -- ---- places

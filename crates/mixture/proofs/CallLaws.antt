@@ -14,18 +14,19 @@ use Rattle.models.specs.Plain.{between, allTo}
 use Rattle.models.specs.Values.{start}
 use Rattle.models.proofs.AnswerLaws.{first-left, first-right}
 use Rattle.mixture.specs.declared.head.Head.{Head}
-use Rattle.mixture.specs.declared.head.Model.{Model}
-use Rattle.mixture.specs.declared.head.Model.the-variants.{Wilson, Uniquac, Nrtl, Unifac}
+use Rattle.models.specs.declared.model.Model.{Model}
+use Rattle.models.specs.declared.model.Model.the-variants.{Wilson, Uniquac, Nrtl, Unifac}
 use Rattle.mixture.specs.declared.answers.Answer.the-variants.{Refused, Done}
 use Rattle.mixture.specs.Lists.{written}
-use Rattle.mixture.specs.Names.{byModel, ModelData, held, width}
+use Rattle.mixture.specs.Names.{ModelData, held, width}
+use Rattle.models.specs.Model.{byModel}
 use Rattle.mixture.specs.Faults.{dataFault, mixFault}
 use Rattle.mixture.specs.Memory.{Memory, memory, leastValues, leastMarks, short, isShort, After, after}
 use Rattle.mixture.specs.Layout.{dataIn, cellAt}
 use Rattle.mixture.specs.Calls.{memoryFault, inRange, headFault, outcome, fractionsFault, loadFault, loadedHead, loadedMemory, afterLoad}
 use Rattle.mixture.proofs.ListLaws.{never}
 use Rattle.mixture.proofs.PlaceLaws.{both, passed, spared, nought}
-use Rattle.mixture.proofs.RangeLaws.{at-all, first-is, start-bound, Bounds, bounds, Long, long-is, Sound, sound}
+use Rattle.mixture.proofs.history.RangeLaws.{at-all, first-is, start-bound, Bounds, bounds, Long, long-is, Sound, sound}
 
 module _ (m : Memory) (h : Head) where
   pub refused : (a : After) {f k : ℕ} → k ≡ f → (k ≡ 0 → ⊥) → after m h (Refused k) ≡ outcome f m h a

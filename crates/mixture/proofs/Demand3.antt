@@ -25,7 +25,7 @@ use Rattle.mixture.specs.Memory.{Memory, isShort, short, leastValues, le
 use Rattle.mixture.specs.Book.{Call, Open, Query, Book, book, empty, plain, having, touchedCells, bookAnswer, bookAnswers, bookOf, sinceOf}
 use Rattle.mixture.specs.History.{afterCall, answers}
 use Rattle.mixture.specs.Demand3.{leftBy, answerAfter, bookAnswerAfter, ByPlainCall, Demand3}
-use Rattle.mixture.proofs.History.{history}
+use Rattle.mixture.proofs.history.History.{history}
 use Rattle.mixture.proofs.Plain.{plain-call, one-more}
 
 -- ---- the last of a list

@@ -11,11 +11,11 @@ use borrow.Author.Tests.{eq-eqb, ne-eqb}
 use lib.Dec.{eqb}
 use lib.ListN.{getD}
 use Rattle.arithmetic.proofs.TableLaws.{by-place, cell-row, cell-column}
-use Rattle.mixture.specs.declared.head.Model.{Model}
-use Rattle.mixture.specs.declared.head.Model.the-variants.{Wilson, Uniquac, Nrtl, Unifac}
-use Rattle.mixture.specs.Names.{byModel}
+use Rattle.models.specs.declared.model.Model.{Model}
+use Rattle.models.specs.declared.model.Model.the-variants.{Wilson, Uniquac, Nrtl, Unifac}
+use Rattle.models.specs.Model.{byModel}
 use Rattle.mixture.specs.Lists.{howMany, howManyPairs}
-use Rattle.mixture.specs.Refills.{staleCell, unmarked}
+use Rattle.mixture.specs.steps.Refills.{staleCell, unmarked}
 use Rattle.mixture.proofs.ListLaws.{never, howMany-le, howMany-same, howMany-rows, howManyPairs-same}
 
 -- ---- counting

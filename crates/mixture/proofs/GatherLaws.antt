@@ -21,11 +21,11 @@ use Rattle.models.specs.Exponentials.{energy, nonrandomness}
 use Rattle.models.specs.UnifacSteps.{psiBy}
 use Rattle.models.specs.Values.{fiveAt}
 use Rattle.models.proofs.ExponentialLaws.{part-more}
-use Rattle.mixture.specs.declared.head.Model.{Model}
-use Rattle.mixture.specs.declared.head.Model.the-variants.{Wilson, Uniquac, Nrtl, Unifac}
-use Rattle.mixture.specs.Names.{byModel}
+use Rattle.models.specs.declared.model.Model.{Model}
+use Rattle.models.specs.declared.model.Model.the-variants.{Wilson, Uniquac, Nrtl, Unifac}
+use Rattle.models.specs.Model.{byModel}
 use Rattle.mixture.specs.Lists.{howMany}
-use Rattle.mixture.specs.Refills.{rowCell, rowArgument, staleCell, Refilled, Gathered, Laid, Lifted, OffDiagonalTaken}
+use Rattle.mixture.specs.steps.Refills.{rowCell, rowArgument, staleCell, Refilled, Gathered, Laid, Lifted, OffDiagonalTaken}
 use Rattle.mixture.proofs.ListLaws.{never, written-as, howMany-le}
 use Rattle.mixture.proofs.FreshLaws.{many-none, many-more, many-skip, many-all, all-of}
 use Rattle.mixture.proofs.RefillLaws.{among, among-in, among-below}

@@ -1,15 +1,8 @@
 pub mod ListLaws
 pub mod PlaceLaws
-pub mod StoreLaws
-pub mod AgreeLaws
-pub mod RangeLaws
-pub mod LoadLaws
-pub mod CellLaws
-pub mod CountLaws
 pub mod RowLaws
 pub mod CopyLaws
 pub mod CallLaws
-pub mod StaleLaws
 pub mod BlockLaws
 pub mod SetLaws
 pub mod FreshLaws
@@ -17,9 +10,8 @@ pub mod RefillLaws
 pub mod GatherLaws
 pub mod SolvedLaws
 pub mod QueryLaws
-pub mod History
 pub mod Writes
 pub mod Plain
-pub mod WrittenBack
+pub mod history
 pub mod Demand3
 pub mod Pins

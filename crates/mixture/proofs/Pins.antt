@@ -17,8 +17,8 @@ use Rattle.arithmetic.proofs.Tests.{either, le-or}
 use Rattle.models.specs.Composition.{tolerance, compositionFault}
 use Rattle.models.specs.Plain.{fractionsFault}
 use Rattle.models.specs.Values.{fiveAt, wilsonSize, uniquacSize, nrtlSize, countsAt, start, unifacSize, lists}
-use Rattle.mixture.specs.declared.head.Model.{Model}
-use Rattle.mixture.specs.declared.head.Model.the-variants.{Wilson, Uniquac, Nrtl, Unifac}
+use Rattle.models.specs.declared.model.Model.{Model}
+use Rattle.models.specs.declared.model.Model.the-variants.{Wilson, Uniquac, Nrtl, Unifac}
 use Rattle.mixture.specs.declared.setting.Setting.{Setting}
 use Rattle.mixture.specs.declared.setting.Setting.the-variants.{Temperature, Entry, TdEntry, Size, Count}
 use Rattle.mixture.specs.Names.{ModelData, held, name, named}
@@ -26,7 +26,7 @@ use Rattle.mixture.specs.Faults.{below, hasEntry, hasTdEntry, hasSize, h
 use Rattle.mixture.specs.Layout.{place}
 use Rattle.mixture.specs.Pins.{FractionsAlike, Over, ValuesNamed, Within}
 use Rattle.mixture.proofs.PlaceLaws.{both, had, sizeOf, store-in, D, entry-places, size-places, count-places, td-places, td-entry, entry-size, size-td, td-count, size-count, entry-count}
-use Rattle.mixture.proofs.RangeLaws.{sound}
+use Rattle.mixture.proofs.history.RangeLaws.{sound}
 use Rattle.mixture.proofs.RowLaws.{before-table, before-lens, InRow, in-row}
 
 -- ---- fractions

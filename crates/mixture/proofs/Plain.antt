@@ -23,24 +23,25 @@ use Rattle.models.specs.Composition.{tolerance, compositionFault}
 use Rattle.models.specs.Plain.{shapeFault, fractionsFault, listsFault, placeFault, groupsFault, unifacFault, wilsonPlain, uniquacPlain, nrtlPlain, unifacPlain}
 use Rattle.models.specs.Values.{tdGrid, wilsonSize, energies, volumes, uniquacSize, rs, qs, nrtlSize, taus, alphas, countsAt, groupRs, groupQs, groupAs, start, unifacSize, lists}
 use Rattle.models.proofs.ListLaws.{list-place}
-use Rattle.mixture.specs.declared.head.Model.{Model}
-use Rattle.mixture.specs.declared.head.Model.the-variants.{Wilson, Uniquac, Nrtl, Unifac}
+use Rattle.models.specs.declared.model.Model.{Model}
+use Rattle.models.specs.declared.model.Model.the-variants.{Wilson, Uniquac, Nrtl, Unifac}
 use Rattle.mixture.specs.declared.setting.Setting.{Setting}
 use Rattle.mixture.specs.declared.setting.Setting.the-variants.{Temperature, Entry, TdEntry, Size, Count}
 use Rattle.mixture.specs.declared.answers.Answer.{Answer as MixtureAnswer}
 use Rattle.mixture.specs.declared.answers.Answer.the-variants.{Done, Value as Answered}
 use Rattle.mixture.specs.Answers.{numberOf, valuesOf, countsOf, unless}
 use Rattle.mixture.specs.Lists.{row, rows}
-use Rattle.mixture.specs.Names.{byModel, ModelData, Held, held, entries, tdEntries, sizes}
+use Rattle.mixture.specs.Names.{ModelData, Held, held, entries, tdEntries, sizes}
+use Rattle.models.specs.Model.{byModel}
 use Rattle.mixture.specs.Faults.{dataFault, hasEntry, hasTdEntry, hasSize, hasCount, caseFault, mixFault}
 use Rattle.mixture.specs.Calls.{exponential}
 use Rattle.mixture.specs.Book.{Call, Open, Load, Set, Fractions, Query, Book, book, empty, replaced, holding, setIn, setModel, bookAfter, plain, having, touchedCells, bookAnswer, accepted, sinceAfter, bookAnswers, bookOf, sinceOf}
 use Rattle.mixture.specs.Plain.{fives, valuesIn, dataOf, plainCall, OneMore, PlainCall}
 use Rattle.mixture.proofs.ListLaws.{never}
 use Rattle.mixture.proofs.PlaceLaws.{passed, spared, nought, below-is, sizeOf}
-use Rattle.mixture.proofs.AgreeLaws.{Agrees, set-alike}
-use Rattle.mixture.proofs.RangeLaws.{first-is, firstTo-none, at-all, Sound, sound}
-use Rattle.mixture.proofs.CellLaws.{exponential-same, valueBy-same, plain-is}
+use Rattle.mixture.proofs.history.AgreeLaws.{Agrees, set-alike}
+use Rattle.mixture.proofs.history.RangeLaws.{first-is, firstTo-none, at-all, Sound, sound}
+use Rattle.mixture.proofs.history.CellLaws.{exponential-same, valueBy-same, plain-is}
 use Rattle.mixture.proofs.RowLaws.{getD-after, getD-before, length-row, row-at, before, before-in, before-start, InRow, in-row, length-rows, rows-at, length-table, table-at, length-tds, tds-at, five-after, five-before}
 
 -- ---- the names are read back

@@ -18,16 +18,17 @@ use Rattle.models.specs.Uniquac.{uniquac}
 use Rattle.models.specs.Nrtl.{nrtl}
 use Rattle.models.specs.Unifac.{unifac}
 use Rattle.mixture.specs.declared.head.Head.{Head}
-use Rattle.mixture.specs.declared.head.Model.the-variants.{Wilson, Uniquac, Nrtl, Unifac}
+use Rattle.models.specs.declared.model.Model.the-variants.{Wilson, Uniquac, Nrtl, Unifac}
 use Rattle.mixture.specs.declared.answers.Answer.the-variants.{Refused, Value}
 use Rattle.mixture.specs.declared.query.Worked.{Worked}
 use Rattle.mixture.specs.Names.{Held, held, width, isCell, entries, tdEntries, sizes}
 use Rattle.mixture.specs.Memory.{Memory, memory, after}
-use Rattle.mixture.specs.Layout.{modelOf, dataIn, cellAt}
+use Rattle.mixture.specs.Layout.{dataIn, cellAt}
+use Rattle.models.specs.Model.{modelOf}
 use Rattle.mixture.specs.Calls.{headFault, queryFault, exponential, valueBy, staleAt, worked, answered, afterQuery}
-use Rattle.mixture.specs.Refills.{staleCell, Ranged, Solved, Answered}
+use Rattle.mixture.specs.steps.Refills.{staleCell, Ranged, Solved, Answered}
 use Rattle.mixture.proofs.ListLaws.{written-same, howMany-same}
-use Rattle.mixture.proofs.RangeLaws.{first-is}
+use Rattle.mixture.proofs.history.RangeLaws.{first-is}
 use Rattle.mixture.proofs.CallLaws.{refused, done, Passed, head-passed}
 use Rattle.mixture.proofs.RefillLaws.{among, among-in}
 

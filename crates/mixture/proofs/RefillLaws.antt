@@ -16,11 +16,11 @@ use lib.Ieee.{Float, nan}
 use Rattle.arithmetic.specs.Tables.{at, from}
 use Rattle.arithmetic.proofs.Tests.{le-or}
 use Rattle.arithmetic.proofs.TableLaws.{by-place, row-end, row-next, from-length, from-at, cell-row, cell-column}
-use Rattle.mixture.specs.declared.head.Model.{Model}
-use Rattle.mixture.specs.declared.head.Model.the-variants.{Wilson, Uniquac, Nrtl, Unifac}
-use Rattle.mixture.specs.Names.{byModel}
+use Rattle.models.specs.declared.model.Model.{Model}
+use Rattle.models.specs.declared.model.Model.the-variants.{Wilson, Uniquac, Nrtl, Unifac}
+use Rattle.models.specs.Model.{byModel}
 use Rattle.mixture.specs.Lists.{written, howMany}
-use Rattle.mixture.specs.Refills.{rowCell, staleCell, Refilled}
+use Rattle.mixture.specs.steps.Refills.{rowCell, staleCell, Refilled}
 use Rattle.mixture.proofs.ListLaws.{never, length-written, length-as, getD-written, getD-kept, written-same, written-as, written-none, written-set, howMany-le, howMany-none, howMany-add, howMany-same}
 
 -- ---- a writable part, back

@@ -16,23 +16,24 @@ use Rattle.arithmetic.specs.declared.parameters.TdParam.{TdParam}
 use Rattle.models.specs.Values.{countsAt, start, lists}
 use Rattle.models.proofs.ListLaws.{start-up}
 use Rattle.mixture.specs.declared.head.Head.{Head}
-use Rattle.mixture.specs.declared.head.Model.{Model}
-use Rattle.mixture.specs.declared.head.Model.the-variants.{Wilson, Uniquac, Nrtl, Unifac}
+use Rattle.models.specs.declared.model.Model.{Model}
+use Rattle.models.specs.declared.model.Model.the-variants.{Wilson, Uniquac, Nrtl, Unifac}
 use Rattle.mixture.specs.declared.setting.Setting.{Setting}
 use Rattle.mixture.specs.declared.setting.Setting.the-variants.{Temperature, Entry, TdEntry, Size, Count}
 use Rattle.mixture.specs.declared.answers.Answer.{Answer}
 use Rattle.mixture.specs.declared.answers.Answer.the-variants.{Done, Refused}
 use Rattle.mixture.specs.declared.stale.Block.{Block}
 use Rattle.mixture.specs.Lists.{written}
-use Rattle.mixture.specs.Names.{byModel, Held, held, width, isCell}
+use Rattle.mixture.specs.Names.{Held, held, width, isCell}
+use Rattle.models.specs.Model.{byModel, modelOf}
 use Rattle.mixture.specs.Faults.{below, hasEntry, hasTdEntry, hasSize, hasCount, caseFault}
 use Rattle.mixture.specs.Memory.{Memory, memory, leastValues, leastMarks, After, after}
-use Rattle.mixture.specs.Layout.{modelOf, dataIn, place, numbers, cellAt}
+use Rattle.mixture.specs.Layout.{dataIn, place, numbers, cellAt}
 use Rattle.mixture.specs.Calls.{inRange, headWith, headFault, settingFault, stales, stalesAt, setMemory, setHead, afterSetting}
-use Rattle.mixture.specs.Blocks.{inBlock, block, blockOf, headOnly, Settable}
+use Rattle.mixture.specs.steps.Blocks.{inBlock, block, blockOf, headOnly, Settable}
 use Rattle.mixture.proofs.ListLaws.{never, written-same}
 use Rattle.mixture.proofs.PlaceLaws.{below-is, had, fiveOf, store-in}
-use Rattle.mixture.proofs.RangeLaws.{first-is, bounds}
+use Rattle.mixture.proofs.history.RangeLaws.{first-is, bounds}
 use Rattle.mixture.proofs.CallLaws.{refused, in-range, head-passed}
 use Rattle.mixture.proofs.BlockLaws.{one-cell, one-row, no-cells, every-cell}
 

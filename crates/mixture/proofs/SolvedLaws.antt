@@ -25,9 +25,9 @@ use Rattle.models.proofs.UniquacLaws.{uniquac-same}
 use Rattle.models.proofs.NrtlLaws.{nonrandomness-same, nonrandomness-row, nrtl-same}
 use Rattle.models.proofs.ParameterLaws.{five-from}
 use Rattle.models.proofs.UnifacLaws.{psi-same, psi-at}
-use Rattle.mixture.specs.declared.head.Model.the-variants.{Wilson, Uniquac, Nrtl, Unifac}
+use Rattle.models.specs.declared.model.Model.the-variants.{Wilson, Uniquac, Nrtl, Unifac}
 use Rattle.mixture.specs.Memory.{leastValues, leastCells, leastMarks}
-use Rattle.mixture.specs.Refills.{rowCell, staleCell, Refilled, Solved}
+use Rattle.mixture.specs.steps.Refills.{rowCell, staleCell, Refilled, Solved}
 use Rattle.mixture.proofs.RefillLaws.{last-row, refilled-as}
 
 -- ---- room

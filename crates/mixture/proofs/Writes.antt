@@ -14,8 +14,8 @@ use Rattle.arithmetic.specs.Tables.{at}
 use Rattle.arithmetic.proofs.Tests.{either, le-or}
 use Rattle.arithmetic.proofs.TableLaws.{cell-lt, cell-row, cell-column}
 use Rattle.mixture.specs.declared.head.Head.{Head}
-use Rattle.mixture.specs.declared.head.Model.{Model}
-use Rattle.mixture.specs.declared.head.Model.the-variants.{Wilson, Uniquac, Nrtl, Unifac}
+use Rattle.models.specs.declared.model.Model.{Model}
+use Rattle.models.specs.declared.model.Model.the-variants.{Wilson, Uniquac, Nrtl, Unifac}
 use Rattle.mixture.specs.Answers.{numberOf}
 use Rattle.mixture.specs.Names.{Held, held, width, isCell}
 use Rattle.mixture.specs.Faults.{dataFault}
@@ -27,7 +27,7 @@ use Rattle.mixture.specs.History.{afterCall}
 use Rattle.mixture.specs.Writes.{callFault, Numbers, Declined, heldBy, valuePlaces, cellPlaces, markPlaces, Writes, OnlyThere, DiagonalKept}
 use Rattle.mixture.proofs.ListLaws.{length-written, getD-kept}
 use Rattle.mixture.proofs.PlaceLaws.{at-away}
-use Rattle.mixture.proofs.RangeLaws.{first-is}
+use Rattle.mixture.proofs.history.RangeLaws.{first-is}
 use Rattle.mixture.proofs.CallLaws.{load-fits}
 
 -- ---- declined calls

@@ -5,7 +5,7 @@ use mathlib.Core.Option.{Option, none, some}
 use Prim.Native.Nat.{ℕ}
 use lib.Dec.{eqb}
 use lib.Ieee.{Float}
-use Rattle.arithmetic.specs.Tables.{at}
+use Rattle.arithmetic.specs.Tables.{Table, at}
 use Rattle.arithmetic.specs.declared.parameters.TdParam.{TdParam}
 use Rattle.models.specs.declared.answers.Quantity.{Quantity}
 use Rattle.models.specs.Answers.{indexFault}
@@ -13,14 +13,15 @@ use Rattle.models.specs.Wilson.{wilsonAt}
 use Rattle.models.specs.Uniquac.{uniquacAt}
 use Rattle.models.specs.Nrtl.{nrtlAt}
 use Rattle.models.specs.Unifac.{unifacAt}
-use Rattle.mixture.specs.declared.head.Model.{Model}
+use Rattle.models.specs.declared.model.Model.{Model}
 use Rattle.mixture.specs.declared.setting.Setting.{Setting}
 use Rattle.mixture.specs.declared.setting.Setting.the-variants.{Temperature, Entry, TdEntry, Size, Count}
 use Rattle.mixture.specs.declared.answers.Answer.{Answer}
 use Rattle.mixture.specs.declared.answers.Answer.the-variants.{Refused, Done, Value}
 use Rattle.mixture.specs.Answers.{numberOf, unless}
 use Rattle.mixture.specs.Lists.{anyOf, howManyPairs}
-use Rattle.mixture.specs.Names.{byModel, ModelData, Held, held, width, isCell, Name, temperature, same, inputs, named}
+use Rattle.mixture.specs.Names.{ModelData, Held, held, width, isCell, Name, temperature, same, inputs, named}
+use Rattle.models.specs.Model.{byModel}
 use Rattle.mixture.specs.Faults.{dataFault, caseFault, mixFault}
 
 -- a call and its arguments other than the lent memory and the head
@@ -50,7 +51,7 @@ unfoldable pub replaced : {A : Type 0} → (ℕ → ℕ → A) → ℕ → ℕ �
 replaced f i j v k l = cond (eqb k i && eqb l j) v (f k l)
 
 -- the same model with other values
-abbrev pub holding : Held → (ℕ → ℕ → Float) → (ℕ → ℕ → TdParam) → (ℕ → ℕ → Float) → (ℕ → ℕ → Float) → Held
+abbrev pub holding : Held → Table → (ℕ → ℕ → TdParam) → Table → Table → Held
 holding d entry tdEntry size count =
     record {
       model = d .model;

@@ -8,7 +8,7 @@ use lib.ListN.{length, getD, drop, replicate}
 use lib.Seq.{sets}
 use lib.Ieee.{Float}
 use Rattle.arithmetic.specs.Floats.{+0}
-use Rattle.arithmetic.specs.Tables.{at, grid}
+use Rattle.arithmetic.specs.Tables.{Table, Vector, at, grid}
 use Rattle.arithmetic.specs.Parameters.{tdAt}
 use Rattle.models.specs.declared.answers.Quantity.{Quantity}
 use Rattle.models.specs.Answers.{first, indexFault}
@@ -24,7 +24,8 @@ use Rattle.mixture.specs.declared.setting.Setting.{Setting}
 use Rattle.mixture.specs.declared.setting.Setting.the-variants.{Temperature, Entry, TdEntry, Size, Count}
 use Rattle.mixture.specs.declared.answers.Answer.the-variants.{Refused, Done, Value}
 use Rattle.mixture.specs.Lists.{written, padded, howMany}
-use Rattle.mixture.specs.Names.{byModel, ModelData, Held, held, width}
+use Rattle.mixture.specs.Names.{ModelData, Held, held, width}
+use Rattle.models.specs.Model.{byModel}
 use Rattle.mixture.specs.Faults.{dataFault, caseFault, mixFault}
 use Rattle.mixture.specs.Memory.{Memory, memory, isShort, After, after}
 use Rattle.mixture.specs.Layout.{dataIn, place, numbers, cellAt}
@@ -164,7 +165,7 @@ exponential d T =
     (groupEnergy (λ m k. tdAt (d .tdEntry m k) T) T)
 
 -- the model's value over a table of exponentials
-unfoldable pub valueBy : Held → Float → (ℕ → ℕ → Float) → (ℕ → Float) → Quantity → Float
+unfoldable pub valueBy : Held → Float → Table → Vector → Quantity → Float
 valueBy d T table x q =
     byModel (d .model) (wilson (d .n) (λ i. d .size i 0) table x q)
     (uniquac (d .n) (λ i. d .size i 0) (λ i. d .size i 1) table x q)

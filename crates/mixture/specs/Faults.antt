@@ -12,7 +12,8 @@ use Rattle.models.specs.Plain.{shapeFault, unifacFault}
 use Rattle.models.specs.Values.{wilsonSize, uniquacSize, nrtlSize}
 use Rattle.mixture.specs.declared.setting.Setting.{Setting}
 use Rattle.mixture.specs.declared.setting.Setting.the-variants.{Temperature, Entry, TdEntry, Size, Count}
-use Rattle.mixture.specs.Names.{byModel, ModelData, Held}
+use Rattle.mixture.specs.Names.{ModelData, Held}
+use Rattle.models.specs.Model.{byModel}
 
 -- a load: 2; then 3 or 4
 unfoldable pub dataFault : ModelData → ℕ

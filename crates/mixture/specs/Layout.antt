@@ -1,21 +1,16 @@
 -- Where the lent memory keeps what document 01 names: values in the strip's order, cells and marks by full rows.
-use mathlib.Core.Bool.{Bool, _&&_, cond}
+use mathlib.Core.Bool.{Bool, _&&_}
 use mathlib.Core.List.{List, [], _∷_}
 use Prim.Native.Nat.{ℕ, _+_, _*_, _/_, _%_}
-use lib.Dec.{ltb, eqb}
+use lib.Dec.{ltb}
 use lib.Ieee.{Float}
 use Rattle.models.specs.Values.{countsAt, start}
 use Rattle.mixture.specs.declared.head.Head.{Head}
-use Rattle.mixture.specs.declared.head.Model.{Model}
-use Rattle.mixture.specs.declared.head.Model.the-variants.{Wilson, Uniquac, Nrtl, Unifac}
+use Rattle.models.specs.Model.{byModel, modelOf}
 use Rattle.mixture.specs.declared.setting.Setting.{Setting}
 use Rattle.mixture.specs.declared.setting.Setting.the-variants.{Temperature, Entry, TdEntry, Size, Count}
-use Rattle.mixture.specs.Names.{byModel, ModelData, Held, width, isCell}
+use Rattle.mixture.specs.Names.{ModelData, Held, width, isCell}
 use Rattle.mixture.specs.Memory.{Memory}
-
--- the model of a number from 1 to 4, a head's or a kind's
-unfoldable pub modelOf : ℕ → Model
-modelOf k = cond (eqb k 1) Wilson (cond (eqb k 2) Uniquac (cond (eqb k 3) Nrtl Unifac))
 
 -- what memory and head hold, as a load brings it
 abbrev pub dataIn : Memory → Head → ModelData

@@ -5,11 +5,10 @@ pub mod Faults
 pub mod Memory
 pub mod Layout
 pub mod Calls
-pub mod Blocks
 pub mod Book
 pub mod History
 pub mod Writes
 pub mod Plain
-pub mod Refills
 pub mod Demand3
 pub mod Pins
+pub mod steps

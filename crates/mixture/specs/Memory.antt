@@ -1,10 +1,13 @@
 -- The lent memory and the head: document 01, "Mixture".
+use mathlib.Core.Path.{_≡_}
 use mathlib.Core.Bool.{Bool, _||_}
 use mathlib.Core.List.{List}
 use Prim.Native.Nat.{ℕ}
 use lib.Dec.{ltb}
 use lib.ListN.{length}
 use lib.Ieee.{Float}
+use denote.Ref.{RefT, now}
+use denote.Triple.Both.{Both}
 use Rattle.mixture.specs.declared.head.Head.{Head}
 use Rattle.mixture.specs.declared.answers.Answer.{Answer}
 use Rattle.mixture.specs.declared.answers.Reply.{Reply}
@@ -18,14 +21,25 @@ pub record Memory : Type 0 where
 abbrev pub memory : List Float → List Float → List ℕ → Memory
 memory v c k = record { values = v; cells = c; marks = k }
 
+-- the three lent slices, before a call and after it
+abbrev pub before : {A B C : Type 0} → Both (RefT (List Float)) A → Both (RefT (List Float)) B → Both (RefT (List ℕ)) C → Memory
+before v c k = memory (now (v .entry)) (now (c .entry)) (now (k .entry))
+
+abbrev pub later : {A B C : Type 0} → Both A (RefT (List Float)) → Both B (RefT (List Float)) → Both C (RefT (List ℕ)) → Memory
+later v c k = memory (now (v .exit)) (now (c .exit)) (now (k .exit))
+
+-- memory whose slices have these lengths
+abbrev pub OfLengths : ℕ → ℕ → ℕ → Memory → Type 0
+OfLengths lv lc lm m = (length (m .values) ≡ lv) × (length (m .cells) ≡ lc) × (length (m .marks) ≡ lm)
+
 -- the least lengths of the three slices
-unfoldable pub leastValues : ℕ
+abbrev pub leastValues : ℕ
 leastValues = 5328
 
-unfoldable pub leastCells : ℕ
+abbrev pub leastCells : ℕ
 leastCells = 1024
 
-unfoldable pub leastMarks : ℕ
+abbrev pub leastMarks : ℕ
 leastMarks = 1024
 
 -- of three slices of these lengths one is short
@@ -42,3 +56,7 @@ pub record After : Type 0 where
 
 abbrev pub after : Memory → Head → Answer → After
 after m h a = record { memory = m; reply = record { head = h; answer = a } }
+
+-- the same, of the reply itself
+abbrev pub left : Memory → Reply → After
+left m r = record { memory = m; reply = r }

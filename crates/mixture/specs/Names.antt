@@ -8,17 +8,10 @@ use Rattle.arithmetic.specs.Tables.{from}
 use Rattle.arithmetic.specs.declared.parameters.TdParam.{TdParam}
 use Rattle.models.specs.Unifac.{Groups}
 use Rattle.models.specs.Values.{fiveAt, energies, volumes, rs, qs, taus, alphas, countsAt, groupRs, groupQs, groupAs, lists}
-use Rattle.mixture.specs.declared.head.Model.{Model}
-use Rattle.mixture.specs.declared.head.Model.the-variants.{Wilson, Uniquac, Nrtl, Unifac}
+use Rattle.models.specs.declared.model.Model.{Model}
+use Rattle.models.specs.Model.{byModel}
 use Rattle.mixture.specs.declared.setting.Setting.{Setting}
 use Rattle.mixture.specs.declared.setting.Setting.the-variants.{Temperature, Entry, TdEntry, Size, Count}
-
--- one of four, by the model
-abbrev pub byModel : {A : Type 0} → Model → A → A → A → A → A
-byModel Wilson a b c d = a
-byModel Uniquac a b c d = b
-byModel Nrtl a b c d = c
-byModel Unifac a b c d = d
 
 -- what a load brings: values in the strip's order, groups list after list
 pub record ModelData : Type 0 where

@@ -13,7 +13,8 @@ use Rattle.models.specs.Plain.{fractionsFault}
 use Rattle.mixture.specs.declared.setting.Setting.{Setting}
 use Rattle.mixture.specs.declared.setting.Setting.the-variants.{Temperature, Entry, TdEntry, Size, Count}
 use Rattle.mixture.specs.Lists.{howManyPairs}
-use Rattle.mixture.specs.Names.{byModel, ModelData, Held, held, width, isCell, named}
+use Rattle.mixture.specs.Names.{ModelData, Held, held, width, isCell, named}
+use Rattle.models.specs.Model.{byModel}
 use Rattle.mixture.specs.Faults.{dataFault, caseFault, mixFault}
 use Rattle.mixture.specs.Layout.{place, numbers}
 use Rattle.mixture.specs.Calls.{stales}

@@ -8,9 +8,10 @@ use Rattle.models.specs.declared.answers.Quantity.{Quantity}
 use Rattle.models.specs.declared.answers.Answer.{Answer}
 use Rattle.models.specs.Answers.{indexFault, numberOf as plainNumber, valuesOf as plainValues}
 use Rattle.models.specs.Plain.{wilsonPlain, uniquacPlain, nrtlPlain, unifacPlain}
-use Rattle.mixture.specs.declared.head.Model.the-variants.{Unifac}
+use Rattle.models.specs.declared.model.Model.the-variants.{Unifac}
 use Rattle.mixture.specs.Lists.{row, rows}
-use Rattle.mixture.specs.Names.{byModel, ModelData, Held, held}
+use Rattle.mixture.specs.Names.{ModelData, Held, held}
+use Rattle.models.specs.Model.{byModel}
 use Rattle.mixture.specs.Faults.{dataFault}
 use Rattle.mixture.specs.Answers.{valuesOf, countsOf}
 use Rattle.mixture.specs.Book.{Call, Query, book, empty, touchedCells, bookAnswer, bookAnswers, bookOf, sinceOf}

@@ -7,7 +7,7 @@ use lib.Dec.{leb, ltb, eqb}
 use lib.ListN.{length, getD}
 use Rattle.arithmetic.specs.Tables.{at}
 use Rattle.mixture.specs.declared.head.Head.{Head}
-use Rattle.mixture.specs.declared.head.Model.the-variants.{Unifac}
+use Rattle.models.specs.declared.model.Model.the-variants.{Unifac}
 use Rattle.mixture.specs.Answers.{numberOf}
 use Rattle.mixture.specs.Names.{Held, held, width}
 use Rattle.mixture.specs.Memory.{Memory}

@@ -6,42 +6,36 @@ ghost use lib.Dec.{leb, ltb};
 ghost use lib.ListN.{length, getD};
 ghost use Rattle.models.specs.Plain.{between, allTo};
 ghost use Rattle.models.specs.Values.{start};
-ghost use Rattle.mixture.specs.Memory.{Memory, short};
-ghost use Rattle.mixture.specs.Layout.{modelOf, dataIn};
+ghost use Rattle.mixture.specs.Memory.{Memory, OfLengths, short};
+ghost use Rattle.mixture.specs.Layout.{dataIn};
 ghost use Rattle.mixture.specs.Calls.{inRange, headFault};
+use crate::head::COMPONENTS;
 use crate::head::Head;
-use crate::head::Model;
+use crate::head::PLACES;
+use models::Model;
+use models::model::model_of;
+
+// The least lengths of the three lent slices.
+pub const VALUES: usize = 5328;
+
+pub const CELLS: usize = 1024;
+
+pub const MARKS: usize = 1024;
 
 // 1: a lent slice is short.
 pub fn memory_fault(lv: usize, lc: usize, lm: usize) -> u8
     ensures { λ r. ⌜ r ≡ cond (short lv lc lm) 1 0 ⌝ }
 {
-    if lv < 5328 {
+    if lv < VALUES {
         return 1;
     }
-    if lc < 1024 {
+    if lc < CELLS {
         return 1;
     }
-    if lm < 1024 {
+    if lm < MARKS {
         return 1;
     }
     0
-}
-
-// The model of a head's number from 1 to 4.
-pub fn model_of(k: u8) -> Model
-    ensures { λ r. ⌜ r ≡ modelOf k ⌝ }
-{
-    if k == 1 {
-        return Model::Wilson;
-    }
-    if k == 2 {
-        return Model::Uniquac;
-    }
-    if k == 3 {
-        return Model::Nrtl;
-    }
-    Model::Unifac
 }
 
 // Whether the first groups, as many as there are places, are below ng.
@@ -58,7 +52,7 @@ fn groups_below(groups: &[u8], places: usize, ng: usize) -> bool
 }
 
 // Whether ng, the lengths of n lists and their groups are in range.
-fn lists_in_range(n: usize, ng: usize, lens: [u8; 12], groups: [u8; 144]) -> bool
+fn lists_in_range(n: usize, ng: usize, lens: [u8; COMPONENTS], groups: [u8; PLACES]) -> bool
     requires { ⌜ n ≤ 12 ⌝ }
     ensures { λ r. ⌜ r ≡ (between 1 32 ng && allTo n (λ i. leb (getD lens i 0) 12) && allTo (start lens n) (λ p. ltb (getD groups p 0) ng)) ⌝ }
 {
@@ -101,7 +95,7 @@ fn in_range(head: Head) -> bool
 
 // 1: a lent slice is short or the head is out of range. 8: no model. Memory counts by its lengths alone.
 pub fn head_fault(lv: usize, lc: usize, lm: usize, head: Head) -> u8
-    ensures { λ r. ⌜ ((m : Memory) → (length (m .values) ≡ lv) × (length (m .cells) ≡ lc) × (length (m .marks) ≡ lm) → r ≡ headFault m head) ⌝ }
+    ensures { λ r. ⌜ ((m : Memory) → OfLengths lv lc lm m → r ≡ headFault m head) ⌝ }
 {
     let fault = memory_fault(lv, lc, lm);
     if fault != 0 {

@@ -1,7 +1,7 @@
 // Fractions: document 01, "Mixture".
 ghost use mathlib.Core.Path.{_≡_};
 ghost use lib.ListN.{length};
-ghost use Rattle.mixture.specs.Memory.{Memory, memory, after};
+ghost use Rattle.mixture.specs.Memory.{Memory, OfLengths, before, left};
 ghost use Rattle.mixture.specs.Faults.{mixFault};
 ghost use Rattle.mixture.specs.Calls.{fractionsFault, afterFractions};
 use crate::answers::Answer;
@@ -27,7 +27,7 @@ fn mix_fault(n: usize, x: &[f64]) -> u8
 
 // What fractions are declined for. Memory counts by its lengths alone.
 fn fractions_fault(lv: usize, lc: usize, lm: usize, head: Head, x: &[f64]) -> u8
-    ensures { λ r. ⌜ ((m : Memory) → (length (m .values) ≡ lv) × (length (m .cells) ≡ lc) × (length (m .marks) ≡ lm) → r ≡ fractionsFault m head (now (x .entry))) ⌝ }
+    ensures { λ r. ⌜ ((m : Memory) → OfLengths lv lc lm m → r ≡ fractionsFault m head (now (x .entry))) ⌝ }
 {
     let fault = head_fault(lv, lc, lm, head);
     if fault != 0 {
@@ -38,7 +38,7 @@ fn fractions_fault(lv: usize, lc: usize, lm: usize, head: Head, x: &[f64]) -> u8
 
 // Keeps the fractions, with 0 in the places past n.
 pub fn fractions(values: &[f64], cells: &[f64], marks: &[u8], head: Head, x: &[f64]) -> Reply
-    ensures { λ r. ⌜ after (memory (now (values .entry)) (now (cells .entry)) (now (marks .entry))) (r .head) (r .answer) ≡ afterFractions (memory (now (values .entry)) (now (cells .entry)) (now (marks .entry))) head (now (x .entry)) ⌝ }
+    ensures { λ r. ⌜ left (before values cells marks) r ≡ afterFractions (before values cells marks) head (now (x .entry)) ⌝ }
 {
     let fault = fractions_fault(values.len(), cells.len(), marks.len(), head, x);
     if fault != 0 {

@@ -8,22 +8,20 @@ ghost use Rattle.arithmetic.specs.Floats.{+0};
 ghost use Rattle.mixture.specs.Lists.{padded};
 ghost use Rattle.mixture.specs.Calls.{freshHead, headWith};
 
-pub enum Model {
-    Wilson,
-    Uniquac,
-    Nrtl,
-    Unifac,
-}
+// The most components, and the most places of all their lists.
+pub const COMPONENTS: usize = 12;
+
+pub const PLACES: usize = COMPONENTS * COMPONENTS;
 
 // The model's number is 0 for none, 1 Wilson, 2 UNIQUAC, 3 NRTL, 4 UNIFAC. Groups stand list after list.
 pub struct Head {
     pub model: u8,
     pub n: usize,
     pub ng: usize,
-    pub lens: [u8; 12],
-    pub groups: [u8; 144],
+    pub lens: [u8; COMPONENTS],
+    pub groups: [u8; PLACES],
     pub t: f64,
-    pub x: [f64; 12],
+    pub x: [f64; COMPONENTS],
     pub has_t: bool,
     pub has_x: bool,
 }
@@ -39,11 +37,11 @@ fn copy_bytes(r: &mut [u8], s: &[u8])
 }
 
 // The fractions, with 0 in the places past them.
-pub fn pad_fractions(s: &[f64]) -> [f64; 12]
+pub fn pad_fractions(s: &[f64]) -> [f64; COMPONENTS]
     requires { ⌜ length (now s) ≤ 12 ⌝ }
     ensures { λ r. ⌜ r ≡ padded 12 +0 (now (s .entry)) ⌝ }
 {
-    let mut r = [0.0; 12];
+    let mut r = [0.0; COMPONENTS];
     for k in 0..s.len() {
         r[k] = s[k];
     }
@@ -51,7 +49,7 @@ pub fn pad_fractions(s: &[f64]) -> [f64; 12]
 }
 
 // A head with T and fractions unset.
-fn unset_head(model: u8, n: usize, ng: usize, lens: [u8; 12], groups: [u8; 144]) -> Head
+fn unset_head(model: u8, n: usize, ng: usize, lens: [u8; COMPONENTS], groups: [u8; PLACES]) -> Head
     ensures { λ r. ⌜ r ≡ record { model = model; n = n; ng = ng; lens = lens; groups = groups; t = +0; x = replicate 12 +0; «has_t» = false; «has_x» = false } ⌝ }
 {
     Head {
@@ -61,7 +59,7 @@ fn unset_head(model: u8, n: usize, ng: usize, lens: [u8; 12], groups: [u8; 144])
         lens: lens,
         groups: groups,
         t: 0.0,
-        x: [0.0; 12],
+        x: [0.0; COMPONENTS],
         has_t: false,
         has_x: false,
     }
@@ -71,7 +69,7 @@ fn unset_head(model: u8, n: usize, ng: usize, lens: [u8; 12], groups: [u8; 144])
 pub fn bare_head(model: u8, n: usize) -> Head
     ensures { λ r. ⌜ r ≡ freshHead model n 0 [] [] ⌝ }
 {
-    unset_head(model, n, 0, [0u8; 12], [0u8; 144])
+    unset_head(model, n, 0, [0u8; COMPONENTS], [0u8; PLACES])
 }
 
 // UNIFAC's head with T and fractions unset.
@@ -79,15 +77,15 @@ pub fn listed_head(n: usize, ng: usize, lens: &[u8], groups: &[u8]) -> Head
     requires { ⌜ (length (now lens) ≤ 12) × (length (now groups) ≤ 144) ⌝ }
     ensures { λ r. ⌜ r ≡ freshHead 4 n ng (now (lens .entry)) (now (groups .entry)) ⌝ }
 {
-    let mut all_lens = [0u8; 12];
+    let mut all_lens = [0u8; COMPONENTS];
     copy_bytes(&mut all_lens, lens);
-    let mut all_groups = [0u8; 144];
+    let mut all_groups = [0u8; PLACES];
     copy_bytes(&mut all_groups, groups);
     unset_head(4, n, ng, all_lens, all_groups)
 }
 
 // The head with another T and other fractions.
-pub fn head_with(head: Head, t: f64, has_t: bool, x: [f64; 12], has_x: bool) -> Head
+pub fn head_with(head: Head, t: f64, has_t: bool, x: [f64; COMPONENTS], has_x: bool) -> Head
     ensures { λ r. ⌜ r ≡ headWith head t «has_t» x «has_x» ⌝ }
 {
     let lens = head.lens;

@@ -4,24 +4,25 @@ ghost use mathlib.Core.List.{List, _++_};
 ghost use Prim.Native.Nat.{_≤_};
 ghost use lib.ListN.{length, drop};
 ghost use lib.Ieee.{Float};
-ghost use Rattle.mixture.specs.declared.head.Model.the-variants.{Unifac};
+ghost use Rattle.models.specs.declared.model.Model.the-variants.{Unifac};
 ghost use Rattle.mixture.specs.Lists.{written};
-ghost use Rattle.mixture.specs.Names.{byModel, ModelData, held};
+ghost use Rattle.mixture.specs.Names.{ModelData, held};
+ghost use Rattle.models.specs.Model.{byModel};
 ghost use Rattle.mixture.specs.Faults.{dataFault};
-ghost use Rattle.mixture.specs.Memory.{memory, after};
+ghost use Rattle.mixture.specs.Memory.{before, later, left, leastMarks};
 ghost use Rattle.mixture.specs.Layout.{cellAt};
 ghost use Rattle.mixture.specs.Calls.{loadedHead, afterLoad};
 use crate::answers::Answer;
 use crate::answers::Reply;
 use crate::faults::memory_fault;
 use crate::head::Head;
-use crate::head::Model;
 use crate::head::bare_head;
 use crate::head::listed_head;
-use crate::parts::by_model;
-use crate::parts::has_diagonal;
 use crate::stale::Block;
 use crate::stale::stale;
+use models::Model;
+use models::model::by_model;
+use models::model::has_diagonal;
 
 // 2; for UNIFAC then 3 or 4 at the first place at fault.
 fn data_fault(model: Model, n: usize, ng: usize, lens: &[u8], groups: &[u8], given: &[f64]) -> u8
@@ -47,7 +48,7 @@ fn copy(values: &mut [f64], given: &[f64])
 
 // Writes 0 to the marks of all the model's cells.
 fn stale_cells(marks: &mut [u8], model: Model, n: usize, ng: usize)
-    requires { ⌜ (1 ≤ byModel model n n n ng) × (byModel model n n n ng ≤ 32) × (1024 ≤ length (now marks)) ⌝ }
+    requires { ⌜ (1 ≤ byModel model n n n ng) × (byModel model n n n ng ≤ 32) × (leastMarks ≤ length (now marks)) ⌝ }
     ensures { λ _. ⌜ ((d : ModelData) → (d .model ≡ model) × (d .n ≡ n) × (d .ng ≡ ng) → now (marks .exit) ≡ written (cellAt (held d)) (λ c. 0) (now (marks .entry))) ⌝ }
 {
     let w = by_model(model, n, n, n, ng);
@@ -87,7 +88,7 @@ pub fn load(
     groups: &[u8],
     given: &[f64],
 ) -> Reply
-    ensures { λ r. ⌜ after (memory (now (values .exit)) (now (cells .entry)) (now (marks .exit))) (r .head) (r .answer) ≡ afterLoad (memory (now (values .entry)) (now (cells .entry)) (now (marks .entry))) head (record { model = model; n = n; ng = ng; lens = now (lens .entry); groups = now (groups .entry); values = now (given .entry) }) ⌝ }
+    ensures { λ r. ⌜ left (later values cells marks) r ≡ afterLoad (before values cells marks) head (record { model = model; n = n; ng = ng; lens = now (lens .entry); groups = now (groups .entry); values = now (given .entry) }) ⌝ }
 {
     let short = memory_fault(values.len(), cells.len(), marks.len());
     if short != 0 {

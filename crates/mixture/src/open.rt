@@ -1,6 +1,6 @@
 // Opening: document 01, "Mixture".
 ghost use mathlib.Core.Path.{_≡_};
-ghost use Rattle.mixture.specs.Memory.{memory, after};
+ghost use Rattle.mixture.specs.Memory.{before, left};
 ghost use Rattle.mixture.specs.Calls.{afterOpen};
 use crate::answers::Answer;
 use crate::answers::Reply;
@@ -10,7 +10,7 @@ use crate::head::bare_head;
 
 // Writes no lent place and leaves no model.
 pub fn open(values: &[f64], cells: &[f64], marks: &[u8], head: Head) -> Reply
-    ensures { λ r. ⌜ after (memory (now (values .entry)) (now (cells .entry)) (now (marks .entry))) (r .head) (r .answer) ≡ afterOpen (memory (now (values .entry)) (now (cells .entry)) (now (marks .entry))) head ⌝ }
+    ensures { λ r. ⌜ left (before values cells marks) r ≡ afterOpen (before values cells marks) head ⌝ }
 {
     let fault = memory_fault(values.len(), cells.len(), marks.len());
     if fault != 0 {

@@ -11,17 +11,19 @@ ghost use Rattle.models.specs.Wilson.{wilson as W·wilson};
 ghost use Rattle.models.specs.Uniquac.{uniquac as U·uniquac};
 ghost use Rattle.models.specs.Nrtl.{nrtl as N·nrtl};
 ghost use Rattle.models.specs.Unifac.{unifac as F·unifac};
-ghost use Rattle.mixture.specs.Memory.{Memory, memory, after, leastValues, leastCells, leastMarks};
+ghost use Rattle.mixture.specs.Memory.{Memory, OfLengths, memory, after, leastValues, leastCells, leastMarks, before, later, left};
 ghost use Rattle.mixture.specs.Calls.{queryFault, afterQuery};
-ghost use Rattle.mixture.specs.Refills.{Ranged, Solved, Answered};
+ghost use Rattle.mixture.specs.steps.Refills.{Ranged, Solves, Answered};
 use crate::answers::Answer;
 use crate::answers::Reply;
 use crate::faults::head_fault;
-use crate::faults::model_of;
+use crate::head::COMPONENTS;
 use crate::head::Head;
-use crate::head::Model;
+use crate::head::PLACES;
 use crate::refill;
+use models::Model;
 use models::Quantity;
+use models::model::model_of;
 
 // A value and the number of cells worked.
 pub struct Worked {
@@ -33,14 +35,16 @@ pub struct Worked {
 fn wilson(
     n: usize,
     t: f64,
-    x: [f64; 12],
+    x: [f64; COMPONENTS],
     q: Quantity,
     values: &[f64],
     cells: &mut [f64],
     marks: &mut [u8],
 ) -> Worked
     requires { ⌜ (n ≤ 12) × (indexFault n q ≡ 0) × (leastValues ≤ length (now values)) × (leastCells ≤ length (now cells)) × (leastMarks ≤ length (now marks)) ⌝ }
-    ensures { λ r. ⌜ Solved Model.Wilson n (energy (energies n (now (values .entry))) t) (λ E. W·wilson n (volumes n (now (values .entry))) E (at x) q) (now (cells .entry)) (now (marks .entry)) (now (cells .exit)) (now (marks .exit)) r ⌝ }
+    ensures { λ r.
+        let v = now (values .entry) in
+        ⌜ Solves Model.Wilson n (energy (energies n v) t) (λ E. W·wilson n (volumes n v) E (at x) q) cells marks r ⌝ }
 {
     let count = refill::refill(Model::Wilson, n, n, values, values, t, 0.0, cells, marks);
     let place = n * n;
@@ -52,14 +56,14 @@ fn wilson(
 fn uniquac(
     n: usize,
     t: f64,
-    x: [f64; 12],
+    x: [f64; COMPONENTS],
     q: Quantity,
     values: &[f64],
     cells: &mut [f64],
     marks: &mut [u8],
 ) -> Worked
     requires { ⌜ (n ≤ 12) × (indexFault n q ≡ 0) × (leastValues ≤ length (now values)) × (leastCells ≤ length (now cells)) × (leastMarks ≤ length (now marks)) ⌝ }
-    ensures { λ r. ⌜ Solved Model.Uniquac n (energy (energies n (now (values .entry))) t) (λ E. U·uniquac n (rs n (now (values .entry))) (qs n (now (values .entry))) E (at x) q) (now (cells .entry)) (now (marks .entry)) (now (cells .exit)) (now (marks .exit)) r ⌝ }
+    ensures { λ r. ⌜ Solves Model.Uniquac n (energy (energies n (now (values .entry))) t) (λ E. U·uniquac n (rs n (now (values .entry))) (qs n (now (values .entry))) E (at x) q) cells marks r ⌝ }
 {
     let count = refill::refill(Model::Uniquac, n, n, values, values, t, 0.0, cells, marks);
     let r_place = n * n;
@@ -87,7 +91,7 @@ fn nrtl_over(
     marks: &mut [u8],
 ) -> Worked
     requires { ⌜ (n ≤ 12) × (n * n ≤ length (now tau)) × (indexFault n q ≡ 0) × (leastValues ≤ length (now values)) × (leastCells ≤ length (now cells)) × (leastMarks ≤ length (now marks)) × (n ≤ length (now x)) ⌝ }
-    ensures { λ r. ⌜ Solved Model.Nrtl n (nonrandomness (alphas n (now (values .entry))) (λ i j. tdAt (taus n (now (values .entry)) i j) t)) (λ G. N·nrtl n (λ i j. tdAt (taus n (now (values .entry)) i j) t) G (at (now (x .entry))) q) (now (cells .entry)) (now (marks .entry)) (now (cells .exit)) (now (marks .exit)) r ⌝ }
+    ensures { λ r. ⌜ Solves Model.Nrtl n (nonrandomness (alphas n (now (values .entry))) (λ i j. tdAt (taus n (now (values .entry)) i j) t)) (λ G. N·nrtl n (λ i j. tdAt (taus n (now (values .entry)) i j) t) G (at (now (x .entry))) q) cells marks r ⌝ }
 {
     models::nrtl::fill_taus(n, values, t, tau);
     let place = n * n * 5;
@@ -110,14 +114,14 @@ fn nrtl_over(
 fn nrtl(
     n: usize,
     t: f64,
-    x: [f64; 12],
+    x: [f64; COMPONENTS],
     q: Quantity,
     values: &[f64],
     cells: &mut [f64],
     marks: &mut [u8],
 ) -> Worked
     requires { ⌜ (n ≤ 12) × (indexFault n q ≡ 0) × (leastValues ≤ length (now values)) × (leastCells ≤ length (now cells)) × (leastMarks ≤ length (now marks)) ⌝ }
-    ensures { λ r. ⌜ Solved Model.Nrtl n (nonrandomness (alphas n (now (values .entry))) (λ i j. tdAt (taus n (now (values .entry)) i j) t)) (λ G. N·nrtl n (λ i j. tdAt (taus n (now (values .entry)) i j) t) G (at x) q) (now (cells .entry)) (now (marks .entry)) (now (cells .exit)) (now (marks .exit)) r ⌝ }
+    ensures { λ r. ⌜ Solves Model.Nrtl n (nonrandomness (alphas n (now (values .entry))) (λ i j. tdAt (taus n (now (values .entry)) i j) t)) (λ G. N·nrtl n (λ i j. tdAt (taus n (now (values .entry)) i j) t) G (at x) q) cells marks r ⌝ }
 {
     if n < 5 {
         let mut few = [0.0; 16];
@@ -131,17 +135,17 @@ fn nrtl(
 fn unifac(
     n: usize,
     ng: usize,
-    lens: [u8; 12],
-    groups: [u8; 144],
+    lens: [u8; COMPONENTS],
+    groups: [u8; PLACES],
     t: f64,
-    x: [f64; 12],
+    x: [f64; COMPONENTS],
     q: Quantity,
     values: &[f64],
     cells: &mut [f64],
     marks: &mut [u8],
 ) -> Worked
     requires { ⌜ (Ranged n ng lens groups) × (indexFault n q ≡ 0) × (leastValues ≤ length (now values)) × (leastCells ≤ length (now cells)) × (leastMarks ≤ length (now marks)) ⌝ }
-    ensures { λ r. ⌜ Solved Model.Unifac ng (groupEnergy (λ m k. tdAt (groupAs ng (now (values .entry)) m k) t) t) (λ Ψ. F·unifac n ng (lists lens groups (from (countsAt ng) (now (values .entry)))) (groupRs ng (now (values .entry))) (groupQs ng (now (values .entry))) Ψ (at x) q) (now (cells .entry)) (now (marks .entry)) (now (cells .exit)) (now (marks .exit)) r ⌝ }
+    ensures { λ r. ⌜ Solves Model.Unifac ng (groupEnergy (λ m k. tdAt (groupAs ng (now (values .entry)) m k) t) t) (λ Ψ. F·unifac n ng (lists lens groups (from (countsAt ng) (now (values .entry)))) (groupRs ng (now (values .entry))) (groupQs ng (now (values .entry))) Ψ (at x) q) cells marks r ⌝ }
 {
     let ln = arithmetic::log(t);
     let place = ng + ng;
@@ -162,7 +166,7 @@ fn unifac(
 
 // What a query is declined for: 1 and 8; 9, T or fractions unset; 7, no component i. Memory counts by its lengths alone.
 fn query_fault(lv: usize, lc: usize, lm: usize, head: Head, q: Quantity) -> u8
-    ensures { λ r. ⌜ ((m : Memory) → (length (m .values) ≡ lv) × (length (m .cells) ≡ lc) × (length (m .marks) ≡ lm) → r ≡ queryFault m head q) ⌝ }
+    ensures { λ r. ⌜ ((m : Memory) → OfLengths lv lc lm m → r ≡ queryFault m head q) ⌝ }
 {
     let fault = head_fault(lv, lc, lm, head);
     if fault != 0 {
@@ -180,7 +184,7 @@ fn query_fault(lv: usize, lc: usize, lm: usize, head: Head, q: Quantity) -> u8
 // Refills and answers by the head's model.
 fn solve(values: &[f64], cells: &mut [f64], marks: &mut [u8], head: Head, q: Quantity) -> Worked
     requires { ⌜ queryFault (memory (now values) (now cells) (now marks)) head q ≡ 0 ⌝ }
-    ensures { λ r. ⌜ Answered (memory (now (values .entry)) (now (cells .entry)) (now (marks .entry))) head q (now (cells .exit)) (now (marks .exit)) r ⌝ }
+    ensures { λ r. ⌜ Answered (before values cells marks) head q (now (cells .exit)) (now (marks .exit)) r ⌝ }
 {
     let n = head.n;
     let t = head.t;
@@ -200,7 +204,7 @@ fn solve(values: &[f64], cells: &mut [f64], marks: &mut [u8], head: Head, q: Qua
 
 // What a query does to cells and marks, and its answer.
 fn answered(values: &[f64], cells: &mut [f64], marks: &mut [u8], head: Head, q: Quantity) -> Answer
-    ensures { λ r. ⌜ after (memory (now (values .entry)) (now (cells .exit)) (now (marks .exit))) head r ≡ afterQuery (memory (now (values .entry)) (now (cells .entry)) (now (marks .entry))) head q ⌝ }
+    ensures { λ r. ⌜ after (later values cells marks) head r ≡ afterQuery (before values cells marks) head q ⌝ }
 {
     let fault = query_fault(values.len(), cells.len(), marks.len(), head, q);
     if fault != 0 {
@@ -214,7 +218,7 @@ fn answered(values: &[f64], cells: &mut [f64], marks: &mut [u8], head: Head, q: 
 // do): `answered` is called in two places, so that the compiler keeps it apart and puts this function into its callers. It is
 // handed a copy of the head, so that the head itself needn't be put together in memory before it goes back.
 pub fn query(values: &[f64], cells: &mut [f64], marks: &mut [u8], head: Head, q: Quantity) -> Reply
-    ensures { λ r. ⌜ after (memory (now (values .entry)) (now (cells .exit)) (now (marks .exit))) (r .head) (r .answer) ≡ afterQuery (memory (now (values .entry)) (now (cells .entry)) (now (marks .entry))) head q ⌝ }
+    ensures { λ r. ⌜ left (later values cells marks) r ≡ afterQuery (before values cells marks) head q ⌝ }
 {
     let copy = head;
     if head.has_t {

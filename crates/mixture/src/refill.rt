@@ -5,10 +5,10 @@ ghost use Prim.Native.Nat.{_+_, _*_, _-_, _/_, _%_, _≤_, _<_};
 ghost use lib.ListN.{length, getD};
 ghost use Rattle.arithmetic.specs.Tables.{at, from, Filled};
 ghost use Rattle.mixture.specs.Lists.{howMany};
-ghost use Rattle.mixture.specs.Names.{byModel};
-ghost use Rattle.mixture.specs.Refills.{rowCell, rowArgument, staleCell, unmarked, Refilled, Gathered, Laid, Lifted, OffDiagonalTaken};
-use crate::head::Model;
-use crate::parts::has_diagonal;
+ghost use Rattle.models.specs.Model.{byModel};
+ghost use Rattle.mixture.specs.steps.Refills.{rowCell, rowArgument, staleCell, unmarked, Refilled, Gathered, Laid, Lifted, OffDiagonalTaken};
+use models::Model;
+use models::model::has_diagonal;
 
 // The mark of a fresh cell.
 const FRESH: u8 = 1;

@@ -10,23 +10,25 @@ ghost use Rattle.arithmetic.specs.Floats.{+0};
 ghost use Rattle.models.specs.Values.{countsAt, start};
 ghost use Rattle.mixture.specs.declared.answers.Answer.the-variants.{Refused, Done};
 ghost use Rattle.mixture.specs.Lists.{written};
-ghost use Rattle.mixture.specs.Names.{byModel, held};
+ghost use Rattle.mixture.specs.Names.{held};
+ghost use Rattle.models.specs.Model.{byModel};
 ghost use Rattle.mixture.specs.Faults.{below, caseFault};
-ghost use Rattle.mixture.specs.Memory.{Memory, memory, after};
+ghost use Rattle.mixture.specs.Memory.{Memory, OfLengths, after, before, later, left, leastMarks};
 ghost use Rattle.mixture.specs.Layout.{dataIn, numbers, place};
 ghost use Rattle.mixture.specs.Calls.{settingFault, stalesAt, setHead, afterSetting};
-ghost use Rattle.mixture.specs.Blocks.{headOnly, Settable, block, blockOf};
+ghost use Rattle.mixture.specs.steps.Blocks.{headOnly, Settable, block, blockOf};
 use crate::answers::Answer;
 use crate::answers::Reply;
 use crate::faults::head_fault;
-use crate::faults::model_of;
+use crate::head::COMPONENTS;
 use crate::head::Head;
-use crate::head::Model;
-use crate::parts::by_model;
-use crate::parts::has_diagonal;
 use crate::setting::Setting;
 use crate::stale::Block;
 use crate::stale::stale;
+use models::Model;
+use models::model::by_model;
+use models::model::has_diagonal;
+use models::model::model_of;
 
 // 10: i isn't below m or j isn't below n.
 fn pair_fault(i: usize, m: usize, j: usize, n: usize) -> u8
@@ -57,7 +59,7 @@ fn count_fault(lens: &[u8], k: usize, i: usize, j: usize, v: f64) -> u8
 }
 
 // 4 and 10 of a count, for a head whose n is in range.
-fn list_fault(n: usize, lens: [u8; 12], model: Model, i: usize, j: usize, v: f64) -> u8
+fn list_fault(n: usize, lens: [u8; COMPONENTS], model: Model, i: usize, j: usize, v: f64) -> u8
     requires { ⌜ n ≤ 12 ⌝ }
     ensures { λ r. ⌜ r ≡ cond (below i (byModel model 0 0 0 n) j (getD lens i 0)) (cond (lt v +0) 4 0) 10 ⌝ }
 {
@@ -95,7 +97,7 @@ fn case_fault(head: Head, s: Setting) -> u8
 
 // What a setting is declined for. Memory counts by its lengths alone.
 fn setting_fault(lv: usize, lc: usize, lm: usize, head: Head, s: Setting) -> u8
-    ensures { λ r. ⌜ ((m : Memory) → (length (m .values) ≡ lv) × (length (m .cells) ≡ lc) × (length (m .marks) ≡ lm) → r ≡ settingFault m head s) ⌝ }
+    ensures { λ r. ⌜ ((m : Memory) → OfLengths lv lc lm m → r ≡ settingFault m head s) ⌝ }
 {
     let fault = head_fault(lv, lc, lm, head);
     if fault != 0 {
@@ -129,7 +131,7 @@ fn size_at(model: Model, w: usize, i: usize, which: usize) -> usize
 }
 
 // Where the count of component i at list place j stands.
-fn count_at(lens: [u8; 12], ng: usize, i: usize, j: usize) -> usize
+fn count_at(lens: [u8; COMPONENTS], ng: usize, i: usize, j: usize) -> usize
     requires { ⌜ (ng ≤ 32) × (i ≤ 12) × (j ≤ 12) × (start lens i ≤ 144) ⌝ }
     ensures { λ r. ⌜ r ≡ countsAt ng + (start lens i + j) ⌝ }
 {
@@ -239,7 +241,7 @@ fn block_of(model: Model, w: usize, s: Setting) -> Block
 
 // Writes 0 to the marks of the cells that a setting makes stale.
 fn stale_by(marks: &mut [u8], head: Head, s: Setting)
-    requires { ⌜ (Settable head s) × (1024 ≤ length (now marks)) ⌝ }
+    requires { ⌜ (Settable head s) × (leastMarks ≤ length (now marks)) ⌝ }
     ensures { λ _. ⌜ now (marks .exit) ≡ written (stalesAt (held (headOnly head)) s) (λ c. 0) (now (marks .entry)) ⌝ }
 {
     let model = model_of(head.model);
@@ -293,7 +295,7 @@ fn answer_by(fault: u8) -> Answer
 
 // What a setting does to values and marks; 0, or the number of what it is declined for, in which case it does nothing.
 fn change(values: &mut [f64], cells: &[f64], marks: &mut [u8], head: Head, s: Setting) -> u8
-    ensures { λ r. ⌜ after (memory (now (values .exit)) (now (cells .entry)) (now (marks .exit))) (cond (eqb r 0) (setHead head s) head) (cond (eqb r 0) Done (Refused r)) ≡ afterSetting (memory (now (values .entry)) (now (cells .entry)) (now (marks .entry))) head s ⌝ }
+    ensures { λ r. ⌜ after (later values cells marks) (cond (eqb r 0) (setHead head s) head) (cond (eqb r 0) Done (Refused r)) ≡ afterSetting (before values cells marks) head s ⌝ }
 {
     let fault = setting_fault(values.len(), cells.len(), marks.len(), head, s);
     if fault != 0 {
@@ -321,7 +323,7 @@ fn reply_by(head: Head, fault: u8, s: Setting) -> Reply
 // Replaces what the setting names and makes the cells that it is an input of stale. Both branches are the same on purpose, and
 // `change` is handed a copy of the head, as in `query`.
 pub fn set(values: &mut [f64], cells: &[f64], marks: &mut [u8], head: Head, s: Setting) -> Reply
-    ensures { λ r. ⌜ after (memory (now (values .exit)) (now (cells .entry)) (now (marks .exit))) (r .head) (r .answer) ≡ afterSetting (memory (now (values .entry)) (now (cells .entry)) (now (marks .entry))) head s ⌝ }
+    ensures { λ r. ⌜ left (later values cells marks) r ≡ afterSetting (before values cells marks) head s ⌝ }
 {
     let copy = head;
     if head.has_t {

@@ -5,7 +5,7 @@ ghost use Prim.Native.Nat.{_+_, _*_, _≤_};
 ghost use lib.Dec.{leb, ltb, eqb};
 ghost use lib.ListN.{length};
 ghost use Rattle.mixture.specs.Lists.{written};
-ghost use Rattle.mixture.specs.Blocks.{inBlock};
+ghost use Rattle.mixture.specs.steps.Blocks.{inBlock};
 
 // So many rows from top on, and so many columns from left on.
 pub struct Block {

@@ -4,6 +4,7 @@ use mathlib.Core.List.{List, [], _∷_}
 use Prim.Native.Nat.{ℕ, zero, suc}
 use lib.Dec.{eqb, ltb}
 use lib.Ieee.{Float}
+use Rattle.arithmetic.specs.Tables.{Vector}
 use Rattle.arithmetic.specs.Exponential.{expOf}
 use Rattle.models.specs.declared.answers.Quantity.{Quantity}
 use Rattle.models.specs.declared.answers.Quantity.the-variants.{LnGamma, Gamma, ExcessGibbs}
@@ -40,7 +41,7 @@ indexFault n (Gamma i) = cond (ltb i n) 0 7
 indexFault n ExcessGibbs = 0
 
 -- the quantity, from ln γ of each component and the excess energy; γ is exp(ln γ)
-unfoldable pub quantity : Quantity → (ℕ → Float) → Float → Float
+unfoldable pub quantity : Quantity → Vector → Float → Float
 quantity (LnGamma i) lnGamma excess = lnGamma i
 quantity (Gamma i) lnGamma excess = expOf (lnGamma i)
 quantity ExcessGibbs lnGamma excess = excess

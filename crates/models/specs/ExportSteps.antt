@@ -4,7 +4,7 @@ use mathlib.Core.List.{List}
 use Prim.Native.Nat.{ℕ, _≤_}
 use lib.ListN.{length}
 use lib.Ieee.{Float, nan}
-use Rattle.arithmetic.specs.Tables.{from}
+use Rattle.arithmetic.specs.Tables.{Vector, from}
 use Rattle.models.specs.declared.answers.Quantity.{Quantity}
 use Rattle.models.specs.Exports.{byNumber}
 use Rattle.models.specs.Lists.{Loaded}
@@ -30,7 +30,7 @@ pub record Ready (m n ng : ℕ) (lens groups : List ℕ) (values : List Float) :
   pub unifac : (m ≡ 1 → ⊥) → (m ≡ 2 → ⊥) → (m ≡ 3 → ⊥) → (m ≡ 4) × Loaded n ng lens groups values
 
 -- the model's value at T
-unfoldable pub valueAt : ℕ → ℕ → ℕ → List ℕ → List ℕ → List Float → Float → (ℕ → Float) → Quantity → Float
+unfoldable pub valueAt : ℕ → ℕ → ℕ → List ℕ → List ℕ → List Float → Float → Vector → Quantity → Float
 valueAt m n ng lens groups values T x q =
     byNumber m (wilsonAt n (volumes n values) (energies n values) T x q) (uniquacAt n (rs n values) (qs n values) (energies n values) T x q)
     (nrtlAt n (taus n values) (alphas n values) T x q)

@@ -1,4 +1,5 @@
 pub mod Answers
+pub mod Model
 pub mod Composition
 pub mod Exponentials
 pub mod Columns

@@ -5,6 +5,7 @@ use mathlib.Core.Bool.{false, cond}
 use Prim.Native.Nat.{ℕ}
 use lib.Dec.{eqb}
 use lib.Ieee.{Float, lt}
+use Rattle.arithmetic.specs.Tables.{Table, Vector}
 use Rattle.arithmetic.specs.Floats.{_⊕_, _⊖_, _⊗_, _⊘_, dec, +0, one}
 use Rattle.arithmetic.specs.Logarithm.{logOf}
 use Rattle.arithmetic.specs.Sums.{fold, sum}
@@ -22,11 +23,11 @@ pub record Groups : Type 0 where
   pub count : ℕ → ℕ → Float
 
 -- Σ_p count·S_group over the list of i: r_i for S = R, q_i for S = Q
-unfoldable pub size : Groups → (ℕ → Float) → ℕ → Float
+unfoldable pub size : Groups → Vector → ℕ → Float
 size c S i = sum (c .length i) (λ p. c .count i p ⊗ S (c .group i p))
 
 -- Σ_j x_j s_j, s = r or q
-unfoldable pub sizeSum : ℕ → Groups → (ℕ → Float) → (ℕ → Float) → Float
+unfoldable pub sizeSum : ℕ → Groups → Vector → Vector → Float
 sizeSum n c S x = sum n (λ j. x j ⊗ size c S j)
 
 -- 5
@@ -38,7 +39,7 @@ unfoldable pub combinatorialBy : Float → Float → Float → Float
 combinatorialBy q v f = one ⊖ v ⊕ logOf v ⊖ five ⊗ q ⊗ (one ⊖ v ⊘ f ⊕ logOf (v ⊘ f))
 
 -- the same with v_i = r_i / Σ_j x_j r_j and f_i = q_i / Σ_j x_j q_j
-unfoldable pub combinatorial : ℕ → Groups → (ℕ → Float) → (ℕ → Float) → (ℕ → Float) → ℕ → Float
+unfoldable pub combinatorial : ℕ → Groups → Vector → Vector → Vector → ℕ → Float
 combinatorial n c R Q x i = combinatorialBy (size c Q i) (size c R i ⊘ sizeSum n c R x) (size c Q i ⊘ sizeSum n c Q x)
 
 -- all counts of component i
@@ -46,15 +47,15 @@ unfoldable pub counts : Groups → ℕ → Float
 counts c i = sum (c .length i) (c .count i)
 
 -- Σ_i x_i·count over the places where component i lists k: a group listed twice adds up
-unfoldable pub amount : ℕ → Groups → (ℕ → Float) → ℕ → Float
+unfoldable pub amount : ℕ → Groups → Vector → ℕ → Float
 amount n c x k = fold n +0 (λ i s. fold (c .length i) s (λ p s. cond (eqb (c .group i p) k) (s ⊕ x i ⊗ c .count i p) s))
 
 -- Σ_i x_i·(all counts of i)
-unfoldable pub amounts : ℕ → Groups → (ℕ → Float) → Float
+unfoldable pub amounts : ℕ → Groups → Vector → Float
 amounts n c x = sum n (λ i. x i ⊗ counts c i)
 
 -- X_k in the mixture; 0 where the amounts aren't above 0
-unfoldable pub fraction : ℕ → Groups → (ℕ → Float) → ℕ → Float
+unfoldable pub fraction : ℕ → Groups → Vector → ℕ → Float
 fraction n c x k = cond (lt +0 (amounts n c x)) (amount n c x k ⊘ amounts n c x) +0
 
 -- the count of k in pure component i: a group listed twice has its last count
@@ -66,35 +67,35 @@ unfoldable pub pureFraction : Groups → ℕ → ℕ → Float
 pureFraction c i k = pureCount c i k ⊘ counts c i
 
 -- Θ_k = Q_k X_k / Σ_m Q_m X_m
-unfoldable pub theta : ℕ → (ℕ → Float) → (ℕ → Float) → ℕ → Float
+unfoldable pub theta : ℕ → Vector → Vector → ℕ → Float
 theta ng Q X k = Q k ⊗ X k ⊘ sum ng (λ m. Q m ⊗ X m)
 
 -- ln Γ_k = Q_k·(1 - ln(Σ_m Θ_m Ψ_mk) - Σ_m Θ_m Ψ_km / Σ_n Θ_n Ψ_nm)
-unfoldable pub lnGroup : ℕ → (ℕ → Float) → (ℕ → ℕ → Float) → (ℕ → Float) → ℕ → Float
+unfoldable pub lnGroup : ℕ → Vector → Table → Vector → ℕ → Float
 lnGroup ng Q Ψ Θ k = Q k ⊗ (one ⊖ logOf (columnSum ng Ψ Θ k) ⊖ sum ng (λ m. Θ m ⊗ Ψ k m ⊘ columnSum ng Ψ Θ m))
 
 -- ln Γ_k in the mixture
-unfoldable pub mixed : ℕ → ℕ → Groups → (ℕ → Float) → (ℕ → ℕ → Float) → (ℕ → Float) → ℕ → Float
+unfoldable pub mixed : ℕ → ℕ → Groups → Vector → Table → Vector → ℕ → Float
 mixed n ng c Q Ψ x = lnGroup ng Q Ψ (theta ng Q (fraction n c x))
 
 -- ln Γ_k in pure component i
-unfoldable pub pure : ℕ → Groups → (ℕ → Float) → (ℕ → ℕ → Float) → ℕ → ℕ → Float
+unfoldable pub pure : ℕ → Groups → Vector → Table → ℕ → ℕ → Float
 pure ng c Q Ψ i = lnGroup ng Q Ψ (theta ng Q (pureFraction c i))
 
 -- Σ_p count·(ln Γ_k - ln Γ_k in pure i), k the group at place p of component i's list, P the pure ln Γ
-unfoldable pub residual : Groups → (ℕ → Float) → (ℕ → ℕ → Float) → ℕ → Float
+unfoldable pub residual : Groups → Vector → Table → ℕ → Float
 residual c M P i = sum (c .length i) (λ p. c .count i p ⊗ (M (c .group i p) ⊖ P i (c .group i p)))
 
-unfoldable pub lnGamma : ℕ → ℕ → Groups → (ℕ → Float) → (ℕ → Float) → (ℕ → ℕ → Float) → (ℕ → ℕ → Float) → (ℕ → Float) → ℕ → Float
+unfoldable pub lnGamma : ℕ → ℕ → Groups → Vector → Vector → Table → Table → Vector → ℕ → Float
 lnGamma n ng c R Q Ψ P x i = combinatorial n c R Q x i ⊕ residual c (mixed n ng c Q Ψ x) P i
 
 -- g/RT = Σ_i x_i ln γ_i
-unfoldable pub excess : ℕ → ℕ → Groups → (ℕ → Float) → (ℕ → Float) → (ℕ → ℕ → Float) → (ℕ → ℕ → Float) → (ℕ → Float) → Float
+unfoldable pub excess : ℕ → ℕ → Groups → Vector → Vector → Table → Table → Vector → Float
 excess n ng c R Q Ψ P x = sum n (λ i. x i ⊗ lnGamma n ng c R Q Ψ P x i)
 
-unfoldable pub unifac : ℕ → ℕ → Groups → (ℕ → Float) → (ℕ → Float) → (ℕ → ℕ → Float) → (ℕ → Float) → Quantity → Float
+unfoldable pub unifac : ℕ → ℕ → Groups → Vector → Vector → Table → Vector → Quantity → Float
 unifac n ng c R Q Ψ x q = quantity q (lnGamma n ng c R Q Ψ (pure ng c Q Ψ) x) (excess n ng c R Q Ψ (pure ng c Q Ψ) x)
 
 -- at T, over the td entries a
-unfoldable pub unifacAt : ℕ → ℕ → Groups → (ℕ → Float) → (ℕ → Float) → (ℕ → ℕ → TdParam) → Float → (ℕ → Float) → Quantity → Float
+unfoldable pub unifacAt : ℕ → ℕ → Groups → Vector → Vector → (ℕ → ℕ → TdParam) → Float → Vector → Quantity → Float
 unifacAt n ng c R Q a T x q = unifac n ng c R Q (groupEnergy (λ m k. tdAt (a m k) T) T) x q

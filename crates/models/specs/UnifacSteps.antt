@@ -6,7 +6,7 @@ use lib.Ieee.{Float, neg}
 use Rattle.arithmetic.specs.Floats.{_⊕_, _⊘_}
 use Rattle.arithmetic.specs.Exponential.{expOf}
 use Rattle.arithmetic.specs.Parameters.{tdBy}
-use Rattle.arithmetic.specs.Tables.{at, Filled}
+use Rattle.arithmetic.specs.Tables.{Table, Vector, at, Filled}
 use Rattle.models.specs.declared.unifac.Shared.{Shared}
 use Rattle.models.specs.Unifac.{Groups, size, sizeSum, combinatorialBy, fraction, theta, lnGroup, pure, residual}
 use Rattle.models.specs.Values.{fiveAt}
@@ -24,5 +24,5 @@ pub record Shares (n ng : ℕ) (c : Groups) (R Q : ℕ → Float) (x : ℕ → F
   pub thetas : Filled (theta ng Q (fraction n c x)) ng (s .theta)
 
 -- ln γ of component i from that
-unfoldable pub lnFrom : Shared → ℕ → Groups → (ℕ → Float) → (ℕ → ℕ → Float) → ℕ → Float
+unfoldable pub lnFrom : Shared → ℕ → Groups → Vector → Table → ℕ → Float
 lnFrom s ng c Q Ψ i = combinatorialBy (at (s .q) i) (at (s .r) i ⊘ s .rs) (at (s .q) i ⊘ s .qs) ⊕ residual c (lnGroup ng Q Ψ (at (s .theta))) (pure ng c Q Ψ) i

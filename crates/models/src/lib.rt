@@ -6,6 +6,7 @@ pub mod exponentials;
 pub mod exports;
 pub mod faults;
 pub mod groups;
+pub mod model;
 pub mod nrtl;
 pub mod parameters;
 pub mod unifac;
@@ -14,3 +15,4 @@ pub mod wilson;
 
 pub use answers::Answer;
 pub use answers::Quantity;
+pub use model::Model;

@@ -12,13 +12,13 @@ use Rattle.arithmetic.specs.Bytes.{floats, floatsAt, floatAt}
 use Rattle.arithmetic.specs.Floats.{+0}
 use Rattle.models.specs.declared.answers.Quantity.{Quantity}
 use Rattle.mixture.specs.declared.head.Head.{Head}
-use Rattle.mixture.specs.declared.head.Model.{Model}
+use Rattle.models.specs.declared.model.Model.{Model}
 use Rattle.mixture.specs.declared.setting.Setting.{Setting}
 use Rattle.mixture.specs.declared.setting.Setting.the-variants.{Temperature}
 use Rattle.mixture.specs.declared.answers.Answer.{Answer}
 use Rattle.mixture.specs.Names.{ModelData}
 use Rattle.mixture.specs.Memory.{Memory, memory, After, after}
-use Rattle.mixture.specs.Layout.{modelOf}
+use Rattle.models.specs.Model.{modelOf}
 use Rattle.mixture.specs.Calls.{afterOpen, afterLoad, afterSetting, afterFractions, afterQuery}
 use Rattle.mixture.specs.Plain.{plainCall}
 use Rattle.repeat.specs.Exports.{quantityOf, valueOf, plainValue, settingOf, asked, setAndAsked, askedTimes, setTimes, turns, begun, zeros, noHead, plainTurns, repeated, repeatedBytes}

@@ -7,6 +7,7 @@ use Prim.Native.Nat.{ℕ, zero, suc, _+_, _-_, _*_, _/_}
 use lib.Dec.{eqb, ltb}
 use lib.ListN.{length, replicate}
 use lib.Ieee.{Float}
+use Rattle.arithmetic.specs.Tables.{Vector}
 use Rattle.arithmetic.specs.declared.parameters.TdParam.{TdParam}
 use Rattle.arithmetic.specs.Bytes.{floats, floatAt}
 use Rattle.arithmetic.specs.Floats.{+0}
@@ -15,14 +16,14 @@ use Rattle.models.specs.declared.answers.Quantity.the-variants.{LnGamma, Gamma,
 use Rattle.models.specs.declared.answers.Answer as Plain
 use Rattle.models.specs.declared.answers.Answer.the-variants as PlainAnswer
 use Rattle.mixture.specs.declared.head.Head.{Head}
-use Rattle.mixture.specs.declared.head.Model.{Model}
+use Rattle.models.specs.declared.model.Model.{Model}
 use Rattle.mixture.specs.declared.setting.Setting.{Setting}
 use Rattle.mixture.specs.declared.setting.Setting.the-variants.{Temperature, Entry, TdEntry}
 use Rattle.mixture.specs.declared.answers.Answer.{Answer}
 use Rattle.mixture.specs.declared.answers.Answer.the-variants.{Refused, Done, Value}
-use Rattle.mixture.specs.Names.{byModel, ModelData}
+use Rattle.mixture.specs.Names.{ModelData}
+use Rattle.models.specs.Model.{byModel, modelOf}
 use Rattle.mixture.specs.Memory.{Memory, memory, After}
-use Rattle.mixture.specs.Layout.{modelOf}
 use Rattle.mixture.specs.Calls.{freshHead, afterOpen, afterLoad, afterSetting, afterFractions, afterQuery}
 use Rattle.mixture.specs.Plain.{plainCall}
 
@@ -62,12 +63,12 @@ askedTimes zero q a = a
 askedTimes (suc n) q a = asked q (askedTimes n q a)
 
 -- n times a setting and a query, at T 0, T 1, ..
-unfoldable pub setTimes : ℕ → ℕ → Model → Float → Quantity → (ℕ → Float) → After → After
+unfoldable pub setTimes : ℕ → ℕ → Model → Float → Quantity → Vector → After → After
 setTimes zero change k v q T a = a
 setTimes (suc n) change k v q T a = setAndAsked (settingOf change k v (T n)) q (setTimes n change k v q T a)
 
 -- the first turn sets T 0; the n - 1 others, at T 1, T 2, .., set what the change names, and nothing where it is 0
-unfoldable pub turns : ℕ → ℕ → Model → Float → Quantity → (ℕ → Float) → After → After
+unfoldable pub turns : ℕ → ℕ → Model → Float → Quantity → Vector → After → After
 turns n change k v q T a =
     let first = setAndAsked (Temperature (T 0)) q a in
     cond (eqb change 0) (askedTimes (n - 1) q first) (setTimes (n - 1) change k v q (λ j. T (1 + j)) first)
@@ -87,12 +88,12 @@ abbrev pub noHead : Head
 noHead = freshHead 0 0 0 [] []
 
 -- the last value of the plain call
-unfoldable pub plainTurns : ℕ → ModelData → List Float → Quantity → (ℕ → Float) → Float
+unfoldable pub plainTurns : ℕ → ModelData → List Float → Quantity → Vector → Float
 plainTurns zero d x q T = +0
 plainTurns (suc n) d x q T = plainValue (plainCall d (T n) x q)
 
 -- the last value over n temperatures: of the plain call where the change is 3, else of the mixture
-unfoldable pub repeated : ℕ → ModelData → List Float → Quantity → ℕ → Float → (ℕ → Float) → Float
+unfoldable pub repeated : ℕ → ModelData → List Float → Quantity → ℕ → Float → Vector → Float
 repeated n d x q change v T =
     cond (eqb change 3) (plainTurns n d x q T)
     (valueOf (turns n change (d .model) v q T (begun zeros noHead d x) .reply .answer))

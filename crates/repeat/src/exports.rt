@@ -14,7 +14,6 @@ use mixture::Head;
 use mixture::Model;
 use mixture::Reply;
 use mixture::Setting;
-use mixture::faults::model_of;
 use mixture::fractions::fractions;
 use mixture::head::bare_head;
 use mixture::load::load;
@@ -22,6 +21,7 @@ use mixture::open::open;
 use mixture::query::query;
 use mixture::set::set;
 use models::Quantity;
+use models::model::model_of;
 
 // What is asked, by the strip's numbers.
 fn quantity_of(asked: u32, i: usize) -> Quantity

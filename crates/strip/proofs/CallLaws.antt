@@ -13,12 +13,12 @@ use Rattle.arithmetic.specs.declared.parameters.TdParam.{TdParam}
 use Rattle.models.specs.Values.{fiveAt}
 use Rattle.models.specs.declared.answers.Quantity.{Quantity}
 use Rattle.mixture.specs.declared.head.Head.{Head}
-use Rattle.mixture.specs.declared.head.Model.{Model}
+use Rattle.models.specs.declared.model.Model.{Model}
 use Rattle.mixture.specs.declared.setting.Setting.{Setting}
 use Rattle.mixture.specs.declared.setting.Setting.the-variants.{Temperature, Entry, TdEntry, Size, Count}
 use Rattle.mixture.specs.declared.answers.Answer.the-variants.{Refused}
 use Rattle.mixture.specs.Memory.{Memory, After, after}
-use Rattle.mixture.specs.Layout.{modelOf}
+use Rattle.models.specs.Model.{modelOf}
 use Rattle.mixture.specs.Book.{Call, Load}
 use Rattle.mixture.specs.Calls.{afterLoad, afterSetting, afterFractions, afterQuery}
 use Rattle.mixture.specs.History.{afterCall}

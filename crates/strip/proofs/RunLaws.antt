@@ -16,7 +16,7 @@ use Rattle.mixture.specs.Memory.{Memory, isShort, After}
 use Rattle.mixture.specs.Calls.{afterOpen}
 use Rattle.mixture.specs.Book.{Call, empty, bookAnswers}
 use Rattle.mixture.specs.History.{afterCall, answers}
-use Rattle.mixture.proofs.History.{history}
+use Rattle.mixture.proofs.history.History.{history}
 use Rattle.strip.specs.declared.records.Rec.{Rec}
 use Rattle.strip.specs.declared.records.Read.{Read}
 use Rattle.strip.specs.declared.records.Read.the-variants.{Record, Broken, End}

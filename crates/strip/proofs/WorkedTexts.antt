@@ -8,7 +8,7 @@ use Rattle.mixture.specs.Faults.{dataFault}
 use Rattle.mixture.specs.Book.{empty, having, bookAnswer, bookAnswers}
 use Rattle.strip.specs.Lists.{isWord, pairsAt, listsAt}
 use Rattle.strip.specs.Records.{shapeOf, recordBy, readAt}
-use Rattle.mixture.specs.Layout.{modelOf}
+use Rattle.models.specs.Model.{modelOf}
 use Rattle.strip.specs.Calls.{quantityOf, callOf}
 use Rattle.strip.specs.Text.{placesTo, decimal, line}
 use Rattle.strip.specs.WorkedTexts.{WorkedTexts}

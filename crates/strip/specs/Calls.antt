@@ -12,7 +12,7 @@ use Rattle.models.specs.declared.answers.Quantity.the-variants.{LnGamma, Gamma,
 use Rattle.mixture.specs.declared.setting.Setting.{Setting}
 use Rattle.mixture.specs.declared.setting.Setting.the-variants.{Temperature, Entry, TdEntry, Size, Count}
 use Rattle.mixture.specs.Names.{ModelData}
-use Rattle.mixture.specs.Layout.{modelOf}
+use Rattle.models.specs.Model.{modelOf}
 use Rattle.mixture.specs.Book.{Call, Load, Set, Fractions, Query}
 use Rattle.strip.specs.declared.records.Rec.{Rec}
 use Rattle.strip.specs.Lists.{Lists, listsAt}

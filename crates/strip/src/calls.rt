@@ -2,7 +2,7 @@
 ghost use mathlib.Core.Path.{_≡_};
 ghost use Rattle.mixture.specs.Memory.{memory, after};
 ghost use Rattle.mixture.specs.Book.{Load};
-ghost use Rattle.mixture.specs.Layout.{modelOf};
+ghost use Rattle.models.specs.Model.{modelOf};
 ghost use Rattle.strip.specs.Calls.{dataOf, settingOf, quantityOf, callOf};
 ghost use Rattle.strip.specs.Inner.{made};
 use crate::lists::fill_lists;

@@ -4,9 +4,9 @@ use mathlib.Core.Bool.{true, false}
 use borrow.Author.Needs.{needs}
 use borrow.Author.Tests.{le-leb, lt-leb}
 use Rattle.models.specs.Plain.{between}
-use Rattle.mixture.specs.declared.head.Model.{Model}
-use Rattle.mixture.specs.declared.head.Model.the-variants.{Wilson, Uniquac, Nrtl}
-use Rattle.mixture.specs.Names.{byModel}
+use Rattle.models.specs.declared.model.Model.{Model}
+use Rattle.models.specs.declared.model.Model.the-variants.{Wilson, Uniquac, Nrtl}
+use Rattle.models.specs.Model.{byModel}
 use Rattle.mixture.specs.Memory.{Memory}
 use Rattle.mixture.specs.Layout.{dataIn}
 use Rattle.mixture.specs.Calls.{inRange}

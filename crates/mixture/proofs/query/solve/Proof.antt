@@ -5,9 +5,9 @@ use borrow.Author.Needs.{needs}
 use denote.Ref.{now}
 use lib.ListN.{length}
 use Rattle.models.specs.Answers.{indexFault}
-use Rattle.mixture.specs.declared.head.Model.{Model}
+use Rattle.models.specs.declared.model.Model.{Model}
 use Rattle.mixture.specs.Memory.{Memory, memory, leastValues, leastCells, leastMarks}
-use Rattle.mixture.specs.Layout.{modelOf}
+use Rattle.models.specs.Model.{modelOf}
 use Rattle.mixture.proofs.CallLaws.{Passed}
 use Rattle.mixture.proofs.QueryLaws.{query-passed, head-ranged, wilson-answered, uniquac-answered, nrtl-answered, unifac-answered}
 use Rattle.mixture.proofs.query.solve.Statement.{statement}

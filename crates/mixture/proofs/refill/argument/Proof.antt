@@ -1,6 +1,6 @@
 -- What entry j of row i is the exp of: each model's call gives its own.
 use borrow.Author.Needs.{needs}
-use Rattle.mixture.specs.Refills.{rowArgument}
+use Rattle.mixture.specs.steps.Refills.{rowArgument}
 use Rattle.mixture.proofs.refill.argument.Statement.{statement}
 use Rattle.mixture.proofs.refill.argument.Tie as tie
 

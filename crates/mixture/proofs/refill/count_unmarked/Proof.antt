@@ -4,7 +4,7 @@ use mathlib.Core.Logic.{⊎-elim}
 use Prim.Native.Nat.{_-_, _≤_}
 use native.Mathlib.Omega.{arith}
 use Rattle.mixture.specs.Lists.{howMany}
-use Rattle.mixture.specs.Refills.{unmarked}
+use Rattle.mixture.specs.steps.Refills.{unmarked}
 use Rattle.mixture.proofs.FreshLaws.{many-none, many-more, many-skip, many-few, many-done, is-unmarked, is-marked}
 use Rattle.mixture.proofs.refill.count_unmarked.Statement.{statement}
 use Rattle.mixture.proofs.refill.count_unmarked.Tie as tie

@@ -1,7 +1,7 @@
 -- Entry j of row i: each model's call gives its exponential.
 use borrow.Author.Needs.{needs}
 use Rattle.models.specs.Exponentials.{nonrandomness}
-use Rattle.mixture.specs.Refills.{rowCell}
+use Rattle.mixture.specs.steps.Refills.{rowCell}
 use Rattle.mixture.proofs.refill.exponential.Statement.{statement}
 use Rattle.mixture.proofs.refill.exponential.Tie as tie
 

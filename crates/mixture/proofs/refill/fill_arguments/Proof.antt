@@ -1,6 +1,6 @@
 -- Writes what row i's exponentials are the exp of: each model's call gives its own.
 use borrow.Author.Needs.{needs}
-use Rattle.mixture.specs.Refills.{rowArgument}
+use Rattle.mixture.specs.steps.Refills.{rowArgument}
 use Rattle.mixture.proofs.refill.fill_arguments.Statement.{statement}
 use Rattle.mixture.proofs.refill.fill_arguments.Tie as tie
 

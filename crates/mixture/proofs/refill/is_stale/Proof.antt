@@ -2,10 +2,10 @@
 use mathlib.Core.Path.{_≡_}
 use mathlib.Core.Bool.{true, false}
 use borrow.Author.Needs.{needs}
-use Rattle.mixture.specs.declared.head.Model.{Model}
-use Rattle.mixture.specs.declared.head.Model.the-variants.{Wilson, Uniquac, Nrtl, Unifac}
-use Rattle.mixture.specs.Names.{byModel}
-use Rattle.mixture.specs.Refills.{staleCell}
+use Rattle.models.specs.declared.model.Model.{Model}
+use Rattle.models.specs.declared.model.Model.the-variants.{Wilson, Uniquac, Nrtl, Unifac}
+use Rattle.models.specs.Model.{byModel}
+use Rattle.mixture.specs.steps.Refills.{staleCell}
 use Rattle.mixture.proofs.RefillLaws.{stale-fresh, stale-off, stale-diagonal}
 use Rattle.mixture.proofs.refill.is_stale.Statement.{statement}
 use Rattle.mixture.proofs.refill.is_stale.Tie as tie

@@ -8,7 +8,7 @@ use denote.Ref.{now}
 use lib.ListN.{getD}
 use Rattle.arithmetic.specs.Tables.{at}
 use Rattle.mixture.specs.Lists.{howMany}
-use Rattle.mixture.specs.Refills.{staleCell}
+use Rattle.mixture.specs.steps.Refills.{staleCell}
 use Rattle.mixture.proofs.RefillLaws.{Refilling, refilling, refilled-none, refilled-end, row-more, row-skip}
 use Rattle.mixture.proofs.refill.put_stale.Statement.{statement}
 use Rattle.mixture.proofs.refill.put_stale.Tie as tie

@@ -6,7 +6,7 @@ use native.Mathlib.Nat.{le-antisymm}
 use native.Mathlib.Omega.{arith}
 use borrow.Author.Needs.{needs}
 use lib.ListN.{getD}
-use Rattle.mixture.specs.Refills.{rowCell, staleCell}
+use Rattle.mixture.specs.steps.Refills.{rowCell, staleCell}
 use Rattle.mixture.proofs.RefillLaws.{Refilling, refilling, refilled-none, row-more, row-skip}
 use Rattle.mixture.proofs.refill.refill_cells.Statement.{statement}
 use Rattle.mixture.proofs.refill.refill_cells.Tie as tie

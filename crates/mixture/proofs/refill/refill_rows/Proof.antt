@@ -6,7 +6,7 @@ use denote.Ref.{now}
 use lib.ListN.{getD}
 use Rattle.arithmetic.specs.Tables.{from}
 use Rattle.arithmetic.proofs.TableLaws.{row-end}
-use Rattle.mixture.specs.Refills.{rowCell, staleCell}
+use Rattle.mixture.specs.steps.Refills.{rowCell, staleCell}
 use Rattle.mixture.proofs.RefillLaws.{Refilling, refilling, refilled-none, refilled-done, turn-lent, turn-more}
 use Rattle.mixture.proofs.refill.refill_rows.Statement.{statement}
 use Rattle.mixture.proofs.refill.refill_rows.Tie as tie

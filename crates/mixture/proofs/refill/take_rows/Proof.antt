@@ -8,7 +8,7 @@ use lib.ListN.{getD}
 use Rattle.arithmetic.specs.Tables.{at}
 use Rattle.arithmetic.proofs.TableLaws.{row-end}
 use Rattle.mixture.specs.Lists.{howMany}
-use Rattle.mixture.specs.Refills.{staleCell}
+use Rattle.mixture.specs.steps.Refills.{staleCell}
 use Rattle.mixture.proofs.RefillLaws.{Refilling, refilling, refilling-count, refilled-none, refilled-done, refilled-count, taken-lent, taken-more}
 use Rattle.mixture.proofs.refill.take_rows.Statement.{statement}
 use Rattle.mixture.proofs.refill.take_rows.Tie as tie

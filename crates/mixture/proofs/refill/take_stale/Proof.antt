@@ -7,7 +7,7 @@ use borrow.Author.Needs.{needs}
 use lib.ListN.{getD}
 use Rattle.arithmetic.specs.Tables.{at}
 use Rattle.mixture.specs.Lists.{howMany}
-use Rattle.mixture.specs.Refills.{staleCell}
+use Rattle.mixture.specs.steps.Refills.{staleCell}
 use Rattle.mixture.proofs.RefillLaws.{Refilling, refilling, refilling-count, refilled-none, refilled-end, row-more, row-skip}
 use Rattle.mixture.proofs.refill.take_stale.Statement.{statement}
 use Rattle.mixture.proofs.refill.take_stale.Tie as tie

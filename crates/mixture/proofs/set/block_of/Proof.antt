@@ -1,7 +1,7 @@
 -- The block of the cells that a setting makes stale: each case is the definition's.
 use mathlib.Core.Path.{_∙_}
 use borrow.Author.Needs.{needs}
-use Rattle.mixture.specs.Blocks.{blockOf}
+use Rattle.mixture.specs.steps.Blocks.{blockOf}
 use Rattle.mixture.proofs.set.block_of.Statement.{statement}
 use Rattle.mixture.proofs.set.block_of.Tie as tie
 

@@ -6,7 +6,7 @@ use lib.ListN.{length}
 use Rattle.arithmetic.proofs.TableLaws.{row-end}
 use Rattle.mixture.specs.Lists.{written}
 use Rattle.mixture.proofs.ListLaws.{length-as}
-use Rattle.mixture.proofs.StaleLaws.{toRow, stale-none, stale-turn, block-is}
+use Rattle.mixture.proofs.stale.StaleLaws.{toRow, stale-none, stale-turn, block-is}
 use Rattle.mixture.proofs.stale.stale.Statement.{statement}
 use Rattle.mixture.proofs.stale.stale.Tie as tie
 

@@ -5,7 +5,7 @@ use Prim.Native.Nat.{_-_, _≤_}
 use native.Mathlib.Omega.{arith}
 use Rattle.mixture.specs.Lists.{written}
 use Rattle.mixture.proofs.ListLaws.{length-as, written-none}
-use Rattle.mixture.proofs.StaleLaws.{inRow, row-write, row-keep, row-none}
+use Rattle.mixture.proofs.stale.StaleLaws.{inRow, row-write, row-keep, row-none}
 use Rattle.mixture.proofs.stale.stale_row.Statement.{statement}
 use Rattle.mixture.proofs.stale.stale_row.Tie as tie
 

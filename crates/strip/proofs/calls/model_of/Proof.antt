@@ -1,6 +1,6 @@
 -- The model that a kind loads: each kind in turn is the definition's.
 use borrow.Author.Tests.{ne-eqb}
-use Rattle.mixture.specs.Layout.{modelOf}
+use Rattle.models.specs.Model.{modelOf}
 use Rattle.strip.proofs.calls.model_of.Statement.{statement}
 use Rattle.strip.proofs.calls.model_of.Tie as tie
 

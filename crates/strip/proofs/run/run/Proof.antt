@@ -7,7 +7,7 @@ use Rattle.strip.proofs.run.run.Statement.{statement}
 use Rattle.strip.proofs.run.run.Tie as tie
 
 returns : tie.Need-returns
-unfolding short leastValues leastCells leastMarks
+unfolding short
 returns c =
     let w = c .before .before .before .before .before .walk .ensures in
     (run-opened _ _ _ _ (c .before .before .before .before .before .before .before .before .before .before .before .open .ensures) refl (w .0), w .1)

@@ -10,15 +10,16 @@ use lib.Ieee.{Float}
 use Rattle.arithmetic.specs.declared.parameters.TdParam.{TdParam}
 use Rattle.arithmetic.proofs.Tests.{le-or}
 use Rattle.models.specs.Values.{lists}
-use Rattle.mixture.specs.declared.head.Model.{Model}
-use Rattle.mixture.specs.declared.head.Model.the-variants.{Wilson, Uniquac, Nrtl, Unifac}
+use Rattle.models.specs.declared.model.Model.{Model}
+use Rattle.models.specs.declared.model.Model.the-variants.{Wilson, Uniquac, Nrtl, Unifac}
 use Rattle.mixture.specs.declared.setting.Setting.{Setting}
 use Rattle.mixture.specs.declared.setting.Setting.the-variants.{Temperature, Entry, TdEntry, Size, Count}
-use Rattle.mixture.specs.Names.{byModel, ModelData, Held, held, width, isCell}
+use Rattle.mixture.specs.Names.{ModelData, Held, held, width, isCell}
+use Rattle.models.specs.Model.{byModel}
 use Rattle.mixture.specs.Faults.{hasEntry, hasTdEntry, hasSize, hasCount, caseFault}
 use Rattle.mixture.specs.Book.{replaced, holding, setIn}
 use Rattle.mixture.proofs.PlaceLaws.{sizeOf}
-use Rattle.mixture.proofs.StoreLaws.{stored, entry-after, td-after, size-after, count-after}
+use Rattle.mixture.proofs.history.StoreLaws.{stored, entry-after, td-after, size-after, count-after}
 
 -- ng and lists, for UNIFAC
 pub record ListsAlike (c d : Held) : Type 0 where

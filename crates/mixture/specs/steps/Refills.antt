@@ -9,16 +9,19 @@ use lib.Ieee.{Float, neg}
 use Rattle.arithmetic.specs.Exponential.{expOf}
 use Rattle.arithmetic.specs.Floats.{_⊖_, _⊗_, _⊘_}
 use Rattle.arithmetic.specs.Parameters.{tdBy}
-use Rattle.arithmetic.specs.Tables.{at, grid}
+use denote.Ref.{RefT, now}
+use denote.Triple.Both.{Both}
+use Rattle.arithmetic.specs.Tables.{Table, at, grid}
 use Rattle.models.specs.declared.answers.Quantity.{Quantity}
 use Rattle.models.specs.Exponentials.{energy, nonrandomness}
 use Rattle.models.specs.Values.{start, fiveAt}
 use Rattle.models.specs.UnifacSteps.{psiBy}
 use Rattle.mixture.specs.declared.head.Head.{Head}
-use Rattle.mixture.specs.declared.head.Model.{Model}
+use Rattle.models.specs.declared.model.Model.{Model}
 use Rattle.mixture.specs.declared.query.Worked.{Worked}
 use Rattle.mixture.specs.Lists.{written, howMany}
-use Rattle.mixture.specs.Names.{byModel, held, width}
+use Rattle.mixture.specs.Names.{held, width}
+use Rattle.models.specs.Model.{byModel}
 use Rattle.mixture.specs.Memory.{Memory}
 use Rattle.mixture.specs.Layout.{dataIn}
 use Rattle.mixture.specs.Calls.{valueBy, staleAt, worked}
@@ -73,9 +76,13 @@ pub record OffDiagonalTaken (w : ℕ) (l l′ : List Float) : Type 0 where
   pub each : (i j : ℕ) → i < w → j < w → (i ≡ j → ⊥) → grid w l′ i j ≡ expOf (grid w l i j)
 
 -- the cells of a model with w rows, worked out by E, and the value f of the table that they make with the others
-pub record Solved (k : Model) (w : ℕ) (E : ℕ → ℕ → Float) (f : (ℕ → ℕ → Float) → Float) (cells : List Float) (marks : List ℕ) (cells′ : List Float) (marks′ : List ℕ) (r : Worked) : Type 0 where
+pub record Solved (k : Model) (w : ℕ) (E : Table) (f : Table → Float) (cells : List Float) (marks : List ℕ) (cells′ : List Float) (marks′ : List ℕ) (r : Worked) : Type 0 where
   pub refilled : Refilled (w * w) (λ c. staleCell k (getD marks c 0) (c / w) (c % w)) (λ c. E (c / w) (c % w)) cells marks cells′ marks′ (r .count)
   pub solved : r .value ≡ f (grid w cells′)
+
+-- the same, of slices before and after a call
+abbrev pub Solves : Model → ℕ → Table → (Table → Float) → Both (RefT (List Float)) (RefT (List Float)) → Both (RefT (List ℕ)) (RefT (List ℕ)) → Worked → Type 0
+Solves k w E f cells marks r = Solved k w E f (now (cells .entry)) (now (marks .entry)) (now (cells .exit)) (now (marks .exit)) r
 
 -- what UNIFAC's head has shown where it is in range
 pub record Ranged (n ng : ℕ) (lens groups : List ℕ) : Type 0 where

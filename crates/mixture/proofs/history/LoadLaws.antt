@@ -11,19 +11,20 @@ use lib.Ieee.{nan}
 use borrow.Author.Tests.{le-leb, lt-ltb}
 use Rattle.arithmetic.specs.Tables.{at}
 use Rattle.models.specs.Values.{fiveAt, start, lists}
-use Rattle.mixture.specs.declared.head.Model.{Model}
-use Rattle.mixture.specs.declared.head.Model.the-variants.{Wilson, Uniquac, Nrtl, Unifac}
+use Rattle.models.specs.declared.model.Model.{Model}
+use Rattle.models.specs.declared.model.Model.the-variants.{Wilson, Uniquac, Nrtl, Unifac}
 use Rattle.mixture.specs.declared.setting.Setting.{Setting}
 use Rattle.mixture.specs.declared.setting.Setting.the-variants.{Temperature, Entry, TdEntry, Size, Count}
 use Rattle.mixture.specs.Lists.{padded}
-use Rattle.mixture.specs.Names.{byModel, ModelData, held}
+use Rattle.mixture.specs.Names.{ModelData, held}
+use Rattle.models.specs.Model.{byModel, modelOf}
 use Rattle.mixture.specs.Memory.{Memory}
-use Rattle.mixture.specs.Layout.{modelOf, dataIn, place}
+use Rattle.mixture.specs.Layout.{dataIn, place}
 use Rattle.mixture.specs.Calls.{inRange, loadedHead, loadedMemory}
 use Rattle.mixture.proofs.ListLaws.{never, getD-past}
-use Rattle.mixture.proofs.RangeLaws.{at-all, Sound}
+use Rattle.mixture.proofs.history.RangeLaws.{at-all, Sound}
 use Rattle.mixture.proofs.PlaceLaws.{nought, sizeOf, D, entry-reads, td-reads, size-reads, count-reads, entry-in, td-in, size-in, count-in}
-use Rattle.mixture.proofs.AgreeLaws.{Alike, Agrees, at-unifac, hasEntry-same, hasTdEntry-same, hasSize-same, hasCount-same}
+use Rattle.mixture.proofs.history.AgreeLaws.{Alike, Agrees, at-unifac, hasEntry-same, hasTdEntry-same, hasSize-same, hasCount-same}
 
 module _ (e d : ModelData) (alike : Alike (held e) (held d)) (starts : d .model ≡ Unifac → (i : ℕ) → start (e .lens) i ≡ start (d .lens) i) where
   place-same : (s : Setting) → place e s ≡ place d s

@@ -6,11 +6,12 @@ use mathlib.Core.List.{[]}
 use Prim.Native.Nat.{ℕ, _+_, _/_, _%_}
 use lib.Dec.{leb, ltb, eqb}
 use Rattle.mixture.specs.declared.head.Head.{Head}
-use Rattle.mixture.specs.declared.head.Model.{Model}
+use Rattle.models.specs.declared.model.Model.{Model}
 use Rattle.mixture.specs.declared.setting.Setting.{Setting}
 use Rattle.mixture.specs.declared.setting.Setting.the-variants.{Temperature, Entry, TdEntry, Size, Count}
 use Rattle.mixture.specs.declared.stale.Block.{Block}
-use Rattle.mixture.specs.Names.{byModel, ModelData, held}
+use Rattle.mixture.specs.Names.{ModelData, held}
+use Rattle.models.specs.Model.{byModel}
 use Rattle.mixture.specs.Faults.{caseFault}
 use Rattle.mixture.specs.Memory.{memory}
 use Rattle.mixture.specs.Layout.{dataIn}

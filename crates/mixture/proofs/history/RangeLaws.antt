@@ -17,8 +17,8 @@ use Rattle.arithmetic.proofs.Tests.{either, le-or}
 use Rattle.models.specs.Answers.{first, firstTo}
 use Rattle.models.specs.Plain.{between, allTo, shapeFault, listsFault, placeFault, groupsFault, unifacFault}
 use Rattle.models.specs.Values.{wilsonSize, uniquacSize, nrtlSize, countsAt, start, unifacSize, lists}
-use Rattle.mixture.specs.declared.head.Model.{Model}
-use Rattle.mixture.specs.declared.head.Model.the-variants.{Wilson, Uniquac, Nrtl, Unifac}
+use Rattle.models.specs.declared.model.Model.{Model}
+use Rattle.models.specs.declared.model.Model.the-variants.{Wilson, Uniquac, Nrtl, Unifac}
 use Rattle.mixture.specs.Names.{ModelData, held, width}
 use Rattle.mixture.specs.Faults.{dataFault}
 use Rattle.mixture.specs.Memory.{Memory, leastValues, leastCells, leastMarks, short, isShort}

@@ -1,8 +1,8 @@
 -- The model of a number: the three tests in the definition's order.
 use borrow.Author.Tests.{eq-eqb, ne-eqb}
-use Rattle.mixture.specs.Layout.{modelOf}
-use Rattle.mixture.proofs.faults.model_of.Statement.{statement}
-use Rattle.mixture.proofs.faults.model_of.Tie as tie
+use Rattle.models.specs.Model.{modelOf}
+use Rattle.models.proofs.model.model_of.Statement.{statement}
+use Rattle.models.proofs.model.model_of.Tie as tie
 
 pub model-of-spec : {M : Type 1} → statement M
 unfolding modelOf

@@ -13,7 +13,7 @@ use Rattle.arithmetic.proofs.Tests.{le-or}
 use Rattle.arithmetic.proofs.TableLaws.{by-place, row-end}
 use Rattle.mixture.specs.declared.stale.Block.{Block}
 use Rattle.mixture.specs.Lists.{written}
-use Rattle.mixture.specs.Blocks.{inBlock}
+use Rattle.mixture.specs.steps.Blocks.{inBlock}
 use Rattle.mixture.proofs.ListLaws.{written-same, written-none, written-set, written-both}
 use Rattle.mixture.proofs.PlaceLaws.{eq-cases}
 

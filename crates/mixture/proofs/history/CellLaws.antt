@@ -26,18 +26,19 @@ use Rattle.models.proofs.NrtlLaws.{nonrandomness-same, nrtl-same}
 use Rattle.models.proofs.UnifacLaws.{unifac-same}
 use Rattle.models.proofs.WilsonLaws.{wilson-same}
 use Rattle.models.proofs.UniquacLaws.{uniquac-same}
-use Rattle.mixture.specs.declared.head.Model.{Model}
-use Rattle.mixture.specs.declared.head.Model.the-variants.{Wilson, Uniquac, Nrtl, Unifac}
+use Rattle.models.specs.declared.model.Model.{Model}
+use Rattle.models.specs.declared.model.Model.the-variants.{Wilson, Uniquac, Nrtl, Unifac}
 use Rattle.mixture.specs.declared.setting.Setting.{Setting}
 use Rattle.mixture.specs.declared.setting.Setting.the-variants.{Temperature, Entry, TdEntry, Size, Count}
 use Rattle.mixture.specs.Lists.{anyOf}
-use Rattle.mixture.specs.Names.{byModel, ModelData, Held, width, isCell, temperature, entry, tdEntry, inputs, named}
+use Rattle.mixture.specs.Names.{ModelData, Held, width, isCell, temperature, entry, tdEntry, inputs, named}
+use Rattle.models.specs.Model.{byModel}
 use Rattle.mixture.specs.Faults.{hasEntry, hasTdEntry, hasSize, hasCount, caseFault}
 use Rattle.mixture.specs.Calls.{exponential, valueBy, stales}
 use Rattle.mixture.specs.Book.{Call, Load, Set, Fractions, replaced, setIn, setT, gives, plain}
 use Rattle.mixture.proofs.ListLaws.{never, or-none}
 use Rattle.mixture.proofs.PlaceLaws.{had}
-use Rattle.mixture.proofs.AgreeLaws.{Agrees}
+use Rattle.mixture.proofs.history.AgreeLaws.{Agrees}
 
 -- ---- names that are there
 

@@ -23,7 +23,7 @@ use Rattle.models.specs.Answers.{indexFault}
 use Rattle.models.specs.Values.{start, lists}
 use Rattle.models.proofs.ListLaws.{list-place}
 use Rattle.mixture.specs.declared.head.Head.{Head}
-use Rattle.mixture.specs.declared.head.Model.the-variants.{Unifac}
+use Rattle.models.specs.declared.model.Model.the-variants.{Unifac}
 use Rattle.mixture.specs.declared.setting.Setting.{Setting}
 use Rattle.mixture.specs.declared.setting.Setting.the-variants.{Temperature, Entry, TdEntry, Size, Count}
 use Rattle.mixture.specs.declared.answers.Answer.{Answer}
@@ -39,13 +39,13 @@ use Rattle.mixture.specs.Book.{Call, Open, Load, Set, Fractions, Query, 
 use Rattle.mixture.specs.History.{afterCall, answers, History}
 use Rattle.mixture.proofs.ListLaws.{never, or-none, length-written, getD-written, howMany-rows, howManyPairs-same}
 use Rattle.mixture.proofs.PlaceLaws.{both, nought, sizeOf}
-use Rattle.mixture.proofs.StoreLaws.{stored}
-use Rattle.mixture.proofs.AgreeLaws.{Alike, Agrees, caseFault-same, width-same, isCell-same, alike-refl, agrees-trans, set-alike, set-agrees, store-agrees}
-use Rattle.mixture.proofs.RangeLaws.{Long, short-no, long-is, Sound, sound, bounds}
+use Rattle.mixture.proofs.history.StoreLaws.{stored}
+use Rattle.mixture.proofs.history.AgreeLaws.{Alike, Agrees, caseFault-same, width-same, isCell-same, alike-refl, agrees-trans, set-alike, set-agrees, store-agrees}
+use Rattle.mixture.proofs.history.RangeLaws.{Long, short-no, long-is, Sound, sound, bounds}
 use Rattle.mixture.proofs.CallLaws.{mix-length}
 use Rattle.mixture.proofs.SetLaws.{head-same}
-use Rattle.mixture.proofs.LoadLaws.{left-inRange, left-number, left-unset, left-agrees}
-use Rattle.mixture.proofs.CellLaws.{exponential-same, exponential-still, setT-still, stales-inputs, load-inputs, fractions-inputs, valueBy-same, plain-is}
+use Rattle.mixture.proofs.history.LoadLaws.{left-inRange, left-number, left-unset, left-agrees}
+use Rattle.mixture.proofs.history.CellLaws.{exponential-same, exponential-still, setT-still, stales-inputs, load-inputs, fractions-inputs, valueBy-same, plain-is}
 
 -- ---- what memory and head keep of a book
 

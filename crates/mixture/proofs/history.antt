@@ -1,0 +1,8 @@
+pub mod History
+pub mod AgreeLaws
+pub mod CellLaws
+pub mod CountLaws
+pub mod LoadLaws
+pub mod RangeLaws
+pub mod StoreLaws
+pub mod WrittenBack
