@@ -1,7 +1,7 @@
 //! The module in a Rust program: ln γ and γ by a plain call, and a strip run whole.
 //!
-//!     rt staticlib models && rt staticlib strip
-//!     rustc examples/embed.rs -L native=target/staticlib -l static=models -l static=strip -o target/embed && target/embed
+//!     rt staticlib kiltgrit
+//!     rustc examples/embed.rs -L native=target/staticlib -l static=kiltgrit -o target/embed && target/embed
 //!
 //! A slice of bytes passes as a pointer and then its length; an f64 in bytes has its lowest byte first.
 

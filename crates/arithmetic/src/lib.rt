@@ -2,7 +2,6 @@
 // Document 01, "Arithmetic".
 pub mod bytes;
 pub mod exponential;
-pub mod exports;
 pub mod logarithm;
 pub mod parameters;
 pub mod sums;

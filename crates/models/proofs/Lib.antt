@@ -7,5 +7,4 @@ pub mod WilsonLaws
 pub mod ColumnLaws
 pub mod NrtlLaws
 pub mod UniquacLaws
-pub mod ExportLaws
 pub mod WorkedValues

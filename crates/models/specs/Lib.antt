@@ -10,8 +10,6 @@ pub mod Nrtl
 pub mod Unifac
 pub mod Values
 pub mod Plain
-pub mod Exports
-pub mod ExportSteps
 pub mod WorkedValues
 pub mod Lists
 pub mod UnifacSteps

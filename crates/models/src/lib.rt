@@ -3,7 +3,6 @@ pub mod answers;
 pub mod columns;
 pub mod composition;
 pub mod exponentials;
-pub mod exports;
 pub mod faults;
 pub mod groups;
 pub mod model;

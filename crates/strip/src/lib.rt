@@ -1,6 +1,5 @@
 // A strip of 32-bit words: records, the calls that they make, and a line for each. Document 01, "Strip and program".
 mod calls;
-pub mod exports;
 mod lists;
 mod records;
 pub mod run;
