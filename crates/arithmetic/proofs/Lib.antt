@@ -3,15 +3,8 @@ pub mod SumLaws
 pub mod TableLaws
 pub mod AbsLaws
 pub mod Powers
-pub mod Within
-pub mod Cutting
 pub mod ExpBranches
-pub mod Differences
-pub mod Decomposing
-pub mod LogBranches
 pub mod Splitting
 pub mod WorkedValues
 pub mod ByteLaws
-pub mod Rounding
-pub mod Nearest
-pub mod EasyExp
+pub mod Within

@@ -6,7 +6,7 @@ use mathlib.Core.Bool.{true, false}
 use lib.IntN.{pos, negsuc}
 use lib.Ieee.{Float, nan, inf, fin, binary64, add, mul, sub, div, lt, le, eq, isNan, neg, ofInt, ofBits, round, size}
 use Rattle.arithmetic.specs.Floats.{_⊕_, _⊖_, _⊗_, _⊘_, abs, dec, +0, one, two, L1, L2}
-use Rattle.arithmetic.proofs.LogBranches.{rest}
+use Rattle.arithmetic.proofs.logarithm.LogBranches.{rest}
 use Rattle.arithmetic.proofs.Powers.{one-is, two-is, half-is}
 use Rattle.arithmetic.specs.Exponential.{expOf, highest, lowest}
 use Rattle.arithmetic.specs.Logarithm.{logOf, significand, binade, logBy, remainder, places, M, G1, G2, G3, G4, G5, G6, G7}

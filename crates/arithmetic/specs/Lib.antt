@@ -4,6 +4,5 @@ pub mod Logarithm
 pub mod Parameters
 pub mod Sums
 pub mod Tables
-pub mod Digits
 pub mod Bytes
-pub mod Nearest
+pub mod steps

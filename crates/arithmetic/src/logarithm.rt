@@ -8,7 +8,7 @@ ghost use lib.ListN.{length};
 ghost use Rattle.arithmetic.specs.Tables.{at, Filled, upTo};
 ghost use Rattle.arithmetic.specs.Logarithm.{logOf, logBy};
 ghost use Rattle.arithmetic.specs.Logarithm.{remainder as Log·remainder};
-ghost use Rattle.arithmetic.specs.Digits.{fromDigits, Normal};
+ghost use Rattle.arithmetic.specs.steps.Digits.{fromDigits, Normal};
 use crate::exponential::L1;
 use crate::exponential::L2;
 

@@ -6,6 +6,9 @@ use mixture::Answer;
 use mixture::Model;
 use mixture::Reply;
 use mixture::Setting;
+use mixture::faults::CELLS;
+use mixture::faults::MARKS;
+use mixture::faults::VALUES;
 use mixture::fractions::fractions;
 use mixture::head::bare_head;
 use mixture::load::load;
@@ -46,9 +49,9 @@ fn check(reply: Reply) {
 
 fn main() {
     // the memory that is lent to every call, and a head, which every call takes and gives back
-    let mut values = [0.0; 5328];
-    let mut cells = [0.0; 1024];
-    let mut marks = [0u8; 1024];
+    let mut values = [0.0; VALUES];
+    let mut cells = [0.0; CELLS];
+    let mut marks = [0u8; MARKS];
     let opened = open(&values, &cells, &marks, bare_head(0, 0));
     check(opened);
     // two components, no groups and no lists; energies by rows in kelvin, then the molar volumes

@@ -7,10 +7,12 @@ use arithmetic::TdParam;
 use arithmetic::bytes::fill_floats;
 use mixture::Answer;
 use mixture::Head;
-use mixture::Model;
 use mixture::Reply;
 use mixture::Setting;
 use models::Quantity;
+use models::limits::COMPONENTS;
+use models::limits::PLACES;
+use models::model::model_numbered;
 
 // The float at a place of a row, and 0 past its end.
 fn float(s: &[f64], k: usize) -> f64 {
@@ -26,15 +28,6 @@ fn byte(s: &[u8], k: usize) -> u8 {
         return s[k];
     }
     0
-}
-
-fn model_of(k: usize) -> Model {
-    match k {
-        1 => Model::Wilson,
-        2 => Model::Uniquac,
-        3 => Model::Nrtl,
-        _ => Model::Unifac,
-    }
 }
 
 // The record's a is the case, b is i, and c is j or which of the sizes.
@@ -85,11 +78,11 @@ fn put_floats(a: &mut [f64], s: &[f64]) {
 
 // Any head: 12 lengths, then whether T and the fractions are set; the groups; the fractions and T.
 fn head_of(r: Record, first: &[u8], second: &[u8], floats: &[f64]) -> Head {
-    let mut lens = [0u8; 12];
+    let mut lens = [0u8; COMPONENTS];
     put_bytes(&mut lens[..], first);
-    let mut groups = [0u8; 144];
+    let mut groups = [0u8; PLACES];
     put_bytes(&mut groups[..], second);
-    let mut x = [0.0; 12];
+    let mut x = [0.0; COMPONENTS];
     put_floats(&mut x[..], floats);
     Head {
         model: (r.a % 256) as u8,
@@ -123,7 +116,7 @@ fn on_lent(
             cells,
             marks,
             head,
-            model_of(r.a),
+            model_numbered(r.a),
             r.b,
             r.c,
             first,
@@ -151,7 +144,9 @@ fn on_parts(
     marks: &mut [u8],
     head: Head,
 ) -> Reply
-    requires { ⌜ (r .values ≤ length (now values)) × (r .cells ≤ length (now cells)) × (r .marks ≤ length (now marks)) ⌝ }
+    requires { ⌜ (r .values ≤ length (now values))
+        × (r .cells ≤ length (now cells))
+        × (r .marks ≤ length (now marks)) ⌝ }
 {
     let v = r.values;
     let c = r.cells;
@@ -178,7 +173,9 @@ pub fn call(
     head: Head,
 ) -> Reply
     requires { ⌜ (r .first + r .second + 8 * r .floats ≤ length (now rows)) × (r .floats ≤ 7000) ⌝ }
-    requires { ⌜ (r .values ≤ length (now values)) × (r .cells ≤ length (now cells)) × (r .marks ≤ length (now marks)) ⌝ }
+    requires { ⌜ (r .values ≤ length (now values))
+        × (r .cells ≤ length (now cells))
+        × (r .marks ≤ length (now marks)) ⌝ }
 {
     let first = r.first;
     let floats_at = first + r.second;

@@ -1,6 +1,8 @@
 // A digest of 64 bits: each place changes it, by its bits and by where it stands.
 use arithmetic::bytes::bits_of;
 use mixture::Head;
+use models::limits::COMPONENTS;
+use models::limits::PLACES;
 
 // One word more. Another word gives another digest, and so does another digest before.
 fn word(h: u64, w: u64) -> u64 {
@@ -36,11 +38,11 @@ pub fn bytes(h: u64, s: &[u8]) -> u64 {
     r
 }
 
-fn lists(h: u64, lens: [u8; 12], groups: [u8; 144]) -> u64 {
+fn lists(h: u64, lens: [u8; COMPONENTS], groups: [u8; PLACES]) -> u64 {
     bytes(bytes(h, &lens[..]), &groups[..])
 }
 
-fn numbers(h: u64, t: f64, x: [f64; 12]) -> u64 {
+fn numbers(h: u64, t: f64, x: [f64; COMPONENTS]) -> u64 {
     floats(word(h, bits_of(t)), &x[..])
 }
 

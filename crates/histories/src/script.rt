@@ -41,7 +41,10 @@ fn answered(
     head: Head,
 ) -> Reply
     requires { ⌜ Fitting r ⌝ }
-    requires { ⌜ (65536 ≤ length (now rows)) × (5400 ≤ length (now values)) × (1100 ≤ length (now cells)) × (1100 ≤ length (now marks)) ⌝ }
+    requires { ⌜ (65536 ≤ length (now rows))
+        × (5400 ≤ length (now values))
+        × (1100 ≤ length (now cells))
+        × (1100 ≤ length (now marks)) ⌝ }
 {
     if r.kind == records::MEMORY {
         put_memory(rows, values, cells, marks);
@@ -78,7 +81,9 @@ fn with_rows(
     head: Head,
 ) -> Turn
     requires { ⌜ Fitting r ⌝ }
-    requires { ⌜ (5400 ≤ length (now values)) × (1100 ≤ length (now cells)) × (1100 ≤ length (now marks)) ⌝ }
+    requires { ⌜ (5400 ≤ length (now values))
+        × (1100 ≤ length (now cells))
+        × (1100 ≤ length (now marks)) ⌝ }
 {
     let mut rows = [0u8; 65536];
     if !read_rows(fd, &mut rows[..], r.first + r.second + 8 * r.floats) {
@@ -95,7 +100,9 @@ fn with_rows(
 }
 
 fn one_record(fd: i32, values: &mut [f64], cells: &mut [f64], marks: &mut [u8], head: Head) -> Turn
-    requires { ⌜ (5400 ≤ length (now values)) × (1100 ≤ length (now cells)) × (1100 ≤ length (now marks)) ⌝ }
+    requires { ⌜ (5400 ≤ length (now values))
+        × (1100 ≤ length (now cells))
+        × (1100 ≤ length (now marks)) ⌝ }
 {
     let mut start = [0u8; 80];
     let got = io::read_full(fd, &mut start);
@@ -116,7 +123,9 @@ fn one_record(fd: i32, values: &mut [f64], cells: &mut [f64], marks: &mut [u8], 
 }
 
 fn all_records(fd: i32, values: &mut [f64], cells: &mut [f64], marks: &mut [u8])
-    requires { ⌜ (5400 ≤ length (now values)) × (1100 ≤ length (now cells)) × (1100 ≤ length (now marks)) ⌝ }
+    requires { ⌜ (5400 ≤ length (now values))
+        × (1100 ≤ length (now cells))
+        × (1100 ≤ length (now marks)) ⌝ }
 {
     let mut head = bare_head(0, 0);
     for _ in 0..MOST_RECORDS {

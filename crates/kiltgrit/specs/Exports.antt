@@ -5,34 +5,36 @@ use Prim.Native.Nat.{ℕ, _%_}
 use lib.Dec.{eqb}
 use lib.ListN.{length}
 use lib.Ieee.{Float}
+use denote.Ref.{RefT, now}
+use denote.Triple.Both.{Both}
 use Rattle.arithmetic.specs.Bytes.{floats}
 use Rattle.models.specs.declared.answers.Quantity.{Quantity}
 use Rattle.models.specs.declared.answers.Answer.{Answer}
 use Rattle.models.specs.declared.answers.Answer.the-variants.{Value, Refused}
-use Rattle.models.specs.Plain.{wilsonPlain, uniquacPlain, nrtlPlain, unifacPlain}
-
--- the model's case, or the last where there is no such model
-abbrev pub byNumber : {A : Type 0} → ℕ → A → A → A → A → A → A
-byNumber m a b c d e = cond (eqb m 1) a (cond (eqb m 2) b (cond (eqb m 3) c (cond (eqb m 4) d e)))
-
--- the plain call of a model; 2 where there is none
-unfoldable pub plainBy : ℕ → ℕ → ℕ → List ℕ → List ℕ → List Float → Float → List Float → Quantity → Answer
-plainBy m n ng lens groups values T x q =
-    byNumber m (wilsonPlain n values T x q) (uniquacPlain n values T x q) (nrtlPlain n values T x q)
-    (unifacPlain n ng lens groups values T x q) (Refused 2)
+use Rattle.models.specs.Faults.{between}
+use Rattle.models.specs.Model.{modelOf, ModelData}
+use Rattle.models.specs.Plain.{plainCall}
 
 -- the answer where r bytes of the fractions are left over: 7 in place of a value
 unfoldable pub withRest : ℕ → Answer → Answer
 withRest r (Value v) = cond (eqb r 0) (Value v) (Refused 7)
 withRest r (Refused k) = Refused k
 
--- with the fractions in bytes
-unfoldable pub exportedBy : ℕ → ℕ → ℕ → List ℕ → List ℕ → List Float → Float → List ℕ → Quantity → Answer
-exportedBy m n ng lens groups values T x q = withRest (length x % 8) (plainBy m n ng lens groups values T (floats x) q)
+-- the plain call with the fractions in bytes
+unfoldable pub plainRest : ModelData → Float → List ℕ → Quantity → Answer
+plainRest d T x q = withRest (length x % 8) (plainCall d T (floats x) q)
 
--- with the values in bytes too: a rest that is no f64 gives 2
+-- of the model with the number m, with the values in bytes too; 2 where there is none, or a rest that is no f64
 unfoldable pub exported : ℕ → ℕ → ℕ → List ℕ → List ℕ → List ℕ → Float → List ℕ → Quantity → Answer
-exported m n ng lens groups values T x q = cond (eqb (length values % 8) 0) (exportedBy m n ng lens groups (floats values) T x q) (Refused 2)
+exported m n ng lens groups values T x q =
+    cond (eqb (length values % 8) 0) (cond (between 1 4 m)
+    (plainRest (record { model = modelOf m; n = n; ng = ng; lens = lens; groups = groups; values = floats values }) T x q)
+    (Refused 2)) (Refused 2)
+
+-- the same of a call's arguments
+abbrev pub exportedBy : {A B C D : Type 0} → ℕ → ℕ → ℕ → Both (RefT (List ℕ)) A → Both (RefT (List ℕ)) B → Both (RefT (List ℕ)) C → Float → Both (RefT (List ℕ)) D → Quantity → Answer
+exportedBy m n ng lens groups values T x q =
+    exported m n ng (now (lens .entry)) (now (groups .entry)) (now (values .entry)) T (now (x .entry)) q
 
 -- the result that a call leaves: its value, or what was there where it declines
 unfoldable pub left : Answer → Float → Float

@@ -6,7 +6,8 @@ use strip::run::run;
 
 #[no_mangle]
 pub extern "C" fn kiltgrit_run(strip: &[u8], out: &mut [u8]) -> usize
-    ensures { λ r. ⌜ Put (now (out .entry)) 0 (transcript (now (strip .entry))) r (now (out .exit)) × (r ≤ mostText) ⌝ }
+    ensures { λ r. ⌜ Put (now (out .entry)) 0 (transcript (now (strip .entry))) r (now (out .exit))
+        × (r ≤ mostText) ⌝ }
 {
     run(strip, out)
 }

@@ -13,8 +13,9 @@ use Rattle.arithmetic.proofs.TableLaws.{by-place, cell-lt}
 use Rattle.models.specs.declared.model.Model.{Model}
 use Rattle.models.specs.declared.model.Model.the-variants.{Wilson, Uniquac, Nrtl, Unifac}
 use Rattle.mixture.specs.Lists.{written}
-use Rattle.mixture.specs.Names.{ModelData, Held, held, width, isCell}
-use Rattle.models.specs.Model.{byModel}
+use Rattle.mixture.specs.Holdings.{Held, held}
+use Rattle.mixture.specs.Cells.{width, isCell}
+use Rattle.models.specs.Model.{ModelData, byModel}
 use Rattle.mixture.specs.Layout.{cellAt}
 use Rattle.mixture.specs.steps.Blocks.{inBlock, block}
 use Rattle.mixture.proofs.ListLaws.{written-same}

@@ -9,8 +9,7 @@ use lib.ListN.{length, getD, drop, replicate, length-replicate}
 use lib.Ieee.{Float}
 use borrow.Author.Tests.{le-leb, eqb-true, lt-ltb, le-ltb, eq-eqb, ne-eqb}
 use Rattle.arithmetic.specs.Floats.{+0}
-use Rattle.models.specs.Composition.{tolerance, compositionFault}
-use Rattle.models.specs.Plain.{between, allTo}
+use Rattle.models.specs.Faults.{tolerance, compositionFault, between, allTo, dataFault, mixFault}
 use Rattle.models.specs.Values.{start}
 use Rattle.models.proofs.AnswerLaws.{first-left, first-right}
 use Rattle.mixture.specs.declared.head.Head.{Head}
@@ -18,12 +17,13 @@ use Rattle.models.specs.declared.model.Model.{Model}
 use Rattle.models.specs.declared.model.Model.the-variants.{Wilson, Uniquac, Nrtl, Unifac}
 use Rattle.mixture.specs.declared.answers.Answer.the-variants.{Refused, Done}
 use Rattle.mixture.specs.Lists.{written}
-use Rattle.mixture.specs.Names.{ModelData, held, width}
-use Rattle.models.specs.Model.{byModel}
-use Rattle.mixture.specs.Faults.{dataFault, mixFault}
+use Rattle.mixture.specs.Holdings.{held}
+use Rattle.mixture.specs.Cells.{width}
+use Rattle.models.specs.Model.{ModelData, byModel}
 use Rattle.mixture.specs.Memory.{Memory, memory, leastValues, leastMarks, short, isShort, After, after}
 use Rattle.mixture.specs.Layout.{dataIn, cellAt}
-use Rattle.mixture.specs.Calls.{memoryFault, inRange, headFault, outcome, fractionsFault, loadFault, loadedHead, loadedMemory, afterLoad}
+use Rattle.mixture.specs.Calls.{outcome, loadedHead, loadedMemory, afterLoad}
+use Rattle.mixture.specs.Faults.{memoryFault, inRange, headFault, fractionsFault, loadFault}
 use Rattle.mixture.proofs.ListLaws.{never}
 use Rattle.mixture.proofs.PlaceLaws.{both, passed, spared, nought}
 use Rattle.mixture.proofs.history.RangeLaws.{at-all, first-is, start-bound, Bounds, bounds, Long, long-is, Sound, sound}

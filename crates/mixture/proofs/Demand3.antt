@@ -15,18 +15,19 @@ use Rattle.arithmetic.proofs.Tests.{either}
 use Rattle.models.specs.declared.answers.Quantity.{Quantity}
 use Rattle.models.specs.declared.answers.Answer.{Answer as PlainAnswer}
 use Rattle.models.specs.declared.answers.Answer.the-variants.{Refused as Declined, Value as Plainly}
-use Rattle.models.specs.Answers.{indexFault, valuesOf as plainValues}
+use Rattle.models.specs.Answers.{valuesOf as plainValues}
+use Rattle.models.specs.Faults.{indexFault}
 use Rattle.mixture.specs.declared.head.Head.{Head}
 use Rattle.mixture.specs.declared.answers.Answer.{Answer}
 use Rattle.mixture.specs.declared.answers.Answer.the-variants.{Refused, Done, Value}
 use Rattle.mixture.specs.Answers.{valuesOf}
-use Rattle.mixture.specs.Names.{Held}
+use Rattle.mixture.specs.Holdings.{Held}
 use Rattle.mixture.specs.Memory.{Memory, isShort, short, leastValues, leastCells, leastMarks}
 use Rattle.mixture.specs.Book.{Call, Open, Query, Book, book, empty, plain, having, touchedCells, bookAnswer, bookAnswers, bookOf, sinceOf}
 use Rattle.mixture.specs.History.{afterCall, answers}
 use Rattle.mixture.specs.Demand3.{leftBy, answerAfter, bookAnswerAfter, ByPlainCall, Demand3}
 use Rattle.mixture.proofs.history.History.{history}
-use Rattle.mixture.proofs.Plain.{plain-call, one-more}
+use Rattle.mixture.proofs.PlainCall.{plain-call, one-more}
 
 -- ---- the last of a list
 

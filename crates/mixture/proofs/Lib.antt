@@ -5,13 +5,9 @@ pub mod CopyLaws
 pub mod CallLaws
 pub mod BlockLaws
 pub mod SetLaws
-pub mod FreshLaws
 pub mod RefillLaws
-pub mod GatherLaws
-pub mod SolvedLaws
-pub mod QueryLaws
 pub mod Writes
-pub mod Plain
+pub mod PlainCall
 pub mod history
 pub mod Demand3
 pub mod Pins

@@ -14,15 +14,15 @@ use borrow.Author.Tests.{lt-ltb, eq-eqb, eqb-true}
 use Rattle.arithmetic.specs.Floats.{+0}
 use Rattle.arithmetic.specs.declared.parameters.TdParam.{TdParam}
 use Rattle.arithmetic.proofs.Tests.{either, le-or}
-use Rattle.models.specs.Composition.{tolerance, compositionFault}
-use Rattle.models.specs.Plain.{fractionsFault}
+use Rattle.models.specs.Faults.{tolerance, compositionFault, fractionsFault, mixFault}
 use Rattle.models.specs.Values.{fiveAt, wilsonSize, uniquacSize, nrtlSize, countsAt, start, unifacSize, lists}
 use Rattle.models.specs.declared.model.Model.{Model}
 use Rattle.models.specs.declared.model.Model.the-variants.{Wilson, Uniquac, Nrtl, Unifac}
 use Rattle.mixture.specs.declared.setting.Setting.{Setting}
 use Rattle.mixture.specs.declared.setting.Setting.the-variants.{Temperature, Entry, TdEntry, Size, Count}
-use Rattle.mixture.specs.Names.{ModelData, held, name, named}
-use Rattle.mixture.specs.Faults.{below, hasEntry, hasTdEntry, hasSize, hasCount, caseFault, mixFault}
+use Rattle.mixture.specs.Holdings.{held, name, named}
+use Rattle.models.specs.Model.{ModelData}
+use Rattle.mixture.specs.Faults.{below, hasEntry, hasTdEntry, hasSize, hasCount, caseFault}
 use Rattle.mixture.specs.Layout.{place}
 use Rattle.mixture.specs.Pins.{FractionsAlike, Over, ValuesNamed, Within}
 use Rattle.mixture.proofs.PlaceLaws.{both, had, sizeOf, store-in, D, entry-places, size-places, count-places, td-places, td-entry, entry-size, size-td, td-count, size-count, entry-count}

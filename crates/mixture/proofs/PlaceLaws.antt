@@ -17,13 +17,13 @@ use Rattle.arithmetic.specs.declared.parameters.TdParam.{TdParam}
 use Rattle.arithmetic.proofs.Tests.{either, le-or}
 use Rattle.arithmetic.proofs.TableLaws.{cell-lt, cell-row, cell-column, from-at}
 use Rattle.models.specs.Values.{fiveAt, tdGrid, wilsonSize, energies, volumes, uniquacSize, rs, qs, nrtlSize, taus, alphas, countsAt, groupRs, groupQs, groupAs, start, unifacSize, lists}
-use Rattle.models.proofs.ListLaws.{list-place}
+use Rattle.models.proofs.GroupListLaws.{list-place}
 use Rattle.models.specs.declared.model.Model.{Model}
 use Rattle.models.specs.declared.model.Model.the-variants.{Wilson, Uniquac, Nrtl, Unifac}
 use Rattle.mixture.specs.declared.setting.Setting.{Setting}
 use Rattle.mixture.specs.declared.setting.Setting.the-variants.{Temperature, Entry, TdEntry, Size, Count}
-use Rattle.mixture.specs.Names.{ModelData, held, entries, tdEntries, sizes}
-use Rattle.models.specs.Model.{byModel}
+use Rattle.mixture.specs.Holdings.{held, entries, tdEntries, sizes}
+use Rattle.models.specs.Model.{ModelData, byModel}
 use Rattle.mixture.specs.Faults.{below, hasEntry, hasTdEntry, hasSize, hasCount, caseFault}
 use Rattle.mixture.specs.Layout.{place, numbers}
 use Rattle.mixture.proofs.ListLaws.{never}

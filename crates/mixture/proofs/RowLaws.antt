@@ -15,7 +15,7 @@ use Rattle.arithmetic.proofs.Tests.{le-or}
 use Rattle.arithmetic.proofs.TableLaws.{cell-lt}
 use Rattle.models.specs.Values.{fiveAt, start}
 use Rattle.mixture.specs.Lists.{row, rows}
-use Rattle.mixture.specs.Plain.{fives}
+use Rattle.mixture.specs.WrittenBack.{fives}
 
 module _ {A : Type 0} where
   -- the second of two lists

@@ -17,11 +17,13 @@ use Rattle.mixture.specs.declared.head.Head.{Head}
 use Rattle.models.specs.declared.model.Model.{Model}
 use Rattle.models.specs.declared.model.Model.the-variants.{Wilson, Uniquac, Nrtl, Unifac}
 use Rattle.mixture.specs.Answers.{numberOf}
-use Rattle.mixture.specs.Names.{Held, held, width, isCell}
-use Rattle.mixture.specs.Faults.{dataFault}
+use Rattle.mixture.specs.Holdings.{Held, held}
+use Rattle.mixture.specs.Cells.{width, isCell}
+use Rattle.models.specs.Faults.{dataFault}
 use Rattle.mixture.specs.Memory.{Memory, After}
 use Rattle.mixture.specs.Layout.{dataIn, place, numbers, cellAt}
-use Rattle.mixture.specs.Calls.{memoryFault, outcome, afterOpen, loadFault, loadedMemory, afterLoad, settingFault, stalesAt, setMemory, afterSetting, fractionsFault, afterFractions, queryFault, staleAt, worked, answered, afterQuery}
+use Rattle.mixture.specs.Calls.{outcome, afterOpen, loadedMemory, afterLoad, stalesAt, setMemory, afterSetting, afterFractions, staleAt, worked, answered, afterQuery}
+use Rattle.mixture.specs.Faults.{memoryFault, loadFault, settingFault, fractionsFault, queryFault}
 use Rattle.mixture.specs.Book.{Open, Load, Set, Fractions, Query}
 use Rattle.mixture.specs.History.{afterCall}
 use Rattle.mixture.specs.Writes.{callFault, Numbers, Declined, heldBy, valuePlaces, cellPlaces, markPlaces, Writes, OnlyThere, DiagonalKept}

@@ -8,7 +8,7 @@ use lib.Ieee.{Float}
 use Rattle.arithmetic.specs.Tables.{Table, at}
 use Rattle.arithmetic.specs.declared.parameters.TdParam.{TdParam}
 use Rattle.models.specs.declared.answers.Quantity.{Quantity}
-use Rattle.models.specs.Answers.{indexFault}
+use Rattle.models.specs.Faults.{indexFault, dataFault, mixFault}
 use Rattle.models.specs.Wilson.{wilsonAt}
 use Rattle.models.specs.Uniquac.{uniquacAt}
 use Rattle.models.specs.Nrtl.{nrtlAt}
@@ -20,9 +20,10 @@ use Rattle.mixture.specs.declared.answers.Answer.{Answer}
 use Rattle.mixture.specs.declared.answers.Answer.the-variants.{Refused, Done, Value}
 use Rattle.mixture.specs.Answers.{numberOf, unless}
 use Rattle.mixture.specs.Lists.{anyOf, howManyPairs}
-use Rattle.mixture.specs.Names.{ModelData, Held, held, width, isCell, Name, temperature, same, inputs, named}
-use Rattle.models.specs.Model.{byModel}
-use Rattle.mixture.specs.Faults.{dataFault, caseFault, mixFault}
+use Rattle.mixture.specs.Holdings.{Held, held, Name, temperature, same, named}
+use Rattle.mixture.specs.Cells.{width, isCell, inputs}
+use Rattle.models.specs.Model.{ModelData, byModel}
+use Rattle.mixture.specs.Faults.{caseFault}
 
 -- a call and its arguments other than the lent memory and the head
 pub data Call : Type 0 where

@@ -1,5 +1,4 @@
--- The calls on lent memory: what each declines, and what it leaves of memory and head (document 01, "Mixture" and "What each
--- call declines").
+-- The calls on lent memory: what each leaves of memory and head (document 01, "Mixture").
 use mathlib.Core.Bool.{Bool, true, false, not, _&&_, _||_, cond}
 use mathlib.Core.List.{List, [], _++_}
 use Prim.Native.Nat.{ℕ, _*_, _/_, _%_}
@@ -11,9 +10,7 @@ use Rattle.arithmetic.specs.Floats.{+0}
 use Rattle.arithmetic.specs.Tables.{Table, Vector, at, grid}
 use Rattle.arithmetic.specs.Parameters.{tdAt}
 use Rattle.models.specs.declared.answers.Quantity.{Quantity}
-use Rattle.models.specs.Answers.{first, indexFault}
-use Rattle.models.specs.Plain.{between, allTo}
-use Rattle.models.specs.Values.{start}
+use Rattle.models.specs.Limits.{mostComponents, mostPlaces}
 use Rattle.models.specs.Exponentials.{energy, nonrandomness, groupEnergy}
 use Rattle.models.specs.Wilson.{wilson}
 use Rattle.models.specs.Uniquac.{uniquac}
@@ -24,29 +21,14 @@ use Rattle.mixture.specs.declared.setting.Setting.{Setting}
 use Rattle.mixture.specs.declared.setting.Setting.the-variants.{Temperature, Entry, TdEntry, Size, Count}
 use Rattle.mixture.specs.declared.answers.Answer.the-variants.{Refused, Done, Value}
 use Rattle.mixture.specs.Lists.{written, padded, howMany}
-use Rattle.mixture.specs.Names.{ModelData, Held, held, width}
-use Rattle.models.specs.Model.{byModel}
-use Rattle.mixture.specs.Faults.{dataFault, caseFault, mixFault}
-use Rattle.mixture.specs.Memory.{Memory, memory, isShort, After, after}
+use Rattle.mixture.specs.Holdings.{Held, held}
+use Rattle.mixture.specs.Cells.{width}
+use Rattle.models.specs.Model.{ModelData, byModel}
+use Rattle.mixture.specs.Faults.{memoryFault, loadFault, settingFault, fractionsFault, queryFault}
+use Rattle.mixture.specs.Memory.{Memory, memory, After, after}
 use Rattle.mixture.specs.Layout.{dataIn, place, numbers, cellAt}
 
 -- ---- what all calls share
-
--- 1, a lent slice is short
-unfoldable pub memoryFault : Memory → ℕ
-memoryFault m = cond (isShort m) 1 0
-
--- an n, ng, list length and group that the model uses are in range
-unfoldable pub inRange : ModelData → Bool
-inRange d =
-    byModel (d .model) (between 1 12 (d .n)) (between 1 12 (d .n)) (between 1 12 (d .n))
-    (between 1 12 (d .n) && between 1 32 (d .ng) && allTo (d .n) (λ i. leb (getD (d .lens) i 0) 12)
-    && allTo (start (d .lens) (d .n)) (λ p. ltb (getD (d .groups) p 0) (d .ng)))
-
--- from setting to query: 1, a slice is short or the head is out of range; 8, no model, where only the slices count
-unfoldable pub headFault : Memory → Head → ℕ
-headFault m h =
-    first (memoryFault m) (cond (eqb (h .model) 0) 8 (cond (ltb (h .model) 5 && inRange (dataIn m h)) 0 1))
 
 -- a declined call leaves memory and head; one that isn't, with the number 0, leaves a
 abbrev pub outcome : ℕ → Memory → Head → After → After
@@ -61,10 +43,10 @@ freshHead model n ng lens groups =
       model = model;
       n = n;
       ng = ng;
-      lens = padded 12 0 lens;
-      groups = padded 144 0 groups;
+      lens = padded mostComponents 0 lens;
+      groups = padded mostPlaces 0 groups;
       t = +0;
-      x = replicate 12 +0;
+      x = replicate mostComponents +0;
       «has_t» = false;
       «has_x» = false;
     }
@@ -74,9 +56,6 @@ unfoldable pub afterOpen : Memory → Head → After
 afterOpen m h = outcome (memoryFault m) m h (after m (freshHead 0 0 0 [] []) Done)
 
 -- ---- load
-
-unfoldable pub loadFault : Memory → ModelData → ℕ
-loadFault m d = first (memoryFault m) (dataFault d)
 
 unfoldable pub loadedHead : ModelData → Head
 loadedHead d =
@@ -92,9 +71,6 @@ unfoldable pub afterLoad : Memory → Head → ModelData → After
 afterLoad m h d = outcome (loadFault m d) m h (after (loadedMemory m d) (loadedHead d) Done)
 
 -- ---- setting
-
-unfoldable pub settingFault : Memory → Head → Setting → ℕ
-settingFault m h s = first (headFault m h) (caseFault (held (dataIn m h)) s)
 
 -- the setting makes the cell k, l stale: T every cell; an entry or td entry its own, an energy a_ii row i's; sizes and
 -- counts none
@@ -141,22 +117,14 @@ afterSetting m h s = outcome (settingFault m h s) m h (after (setMemory m (dataI
 
 -- ---- fractions
 
-unfoldable pub fractionsFault : Memory → Head → List Float → ℕ
-fractionsFault m h x = first (headFault m h) (mixFault (h .n) x)
-
 -- 0 in the places past n
 abbrev pub withFractions : Head → List Float → Head
-withFractions h x = headWith h (h .t) (h .«has_t») (padded 12 +0 x) true
+withFractions h x = headWith h (h .t) (h .«has_t») (padded mostComponents +0 x) true
 
 unfoldable pub afterFractions : Memory → Head → List Float → After
 afterFractions m h x = outcome (fractionsFault m h x) m h (after m (withFractions h x) Done)
 
 -- ---- query
-
--- 9, T or fractions unset; 7, i ≥ n
-unfoldable pub queryFault : Memory → Head → Quantity → ℕ
-queryFault m h q =
-    first (headFault m h) (first (cond (h .«has_t») 0 9) (first (cond (h .«has_x») 0 9) (indexFault (h .n) q)))
 
 -- E_ij, G_ij or Ψ_ij at T
 unfoldable pub exponential : Held → Float → ℕ → ℕ → Float

@@ -11,11 +11,12 @@ use Rattle.models.specs.declared.answers.Answer.the-variants.{Value as Plainly}
 use Rattle.mixture.specs.declared.head.Head.{Head}
 use Rattle.mixture.specs.declared.answers.Answer.{Answer}
 use Rattle.mixture.specs.declared.answers.Answer.the-variants.{Refused, Done, Value}
-use Rattle.mixture.specs.Names.{Held}
+use Rattle.mixture.specs.Holdings.{Held}
 use Rattle.mixture.specs.Memory.{Memory}
 use Rattle.mixture.specs.Book.{Call, Open, Query, book, empty, touchedCells, bookAnswer, bookOf, sinceOf}
 use Rattle.mixture.specs.History.{afterCall}
-use Rattle.mixture.specs.Plain.{dataOf, plainCall}
+use Rattle.mixture.specs.WrittenBack.{dataOf}
+use Rattle.models.specs.Plain.{plainCall}
 
 -- ---- a further call, after the calls
 

@@ -1,27 +1,26 @@
--- What a load, a setting and fractions are declined for, whatever memory they meet: document 01, "What each call declines".
+-- What the calls on a mixture decline: document 01, "What each call declines". 0 for nothing. A load's and the fractions' own faults
+-- are the models' (`dataFault`, `mixFault`).
 use mathlib.Core.Bool.{Bool, false, _&&_, cond}
 use mathlib.Core.List.{List}
 use Prim.Native.Nat.{ℕ}
-use lib.Dec.{ltb, eqb}
-use lib.ListN.{length}
+use lib.Dec.{leb, ltb, eqb}
+use lib.ListN.{getD}
 use lib.Ieee.{Float, lt}
 use Rattle.arithmetic.specs.Floats.{+0}
+use Rattle.models.specs.Limits.{mostComponents, mostGroups, mostListed}
+use Rattle.models.specs.declared.answers.Quantity.{Quantity}
 use Rattle.models.specs.Answers.{first}
-use Rattle.models.specs.Composition.{tolerance, compositionFault}
-use Rattle.models.specs.Plain.{shapeFault, unifacFault}
-use Rattle.models.specs.Values.{wilsonSize, uniquacSize, nrtlSize}
+use Rattle.models.specs.Faults.{mixFault, indexFault, between, allTo, dataFault}
+use Rattle.models.specs.Model.{byModel, ModelData}
+use Rattle.models.specs.Values.{start}
+use Rattle.mixture.specs.declared.head.Head.{Head}
 use Rattle.mixture.specs.declared.setting.Setting.{Setting}
 use Rattle.mixture.specs.declared.setting.Setting.the-variants.{Temperature, Entry, TdEntry, Size, Count}
-use Rattle.mixture.specs.Names.{ModelData, Held}
-use Rattle.models.specs.Model.{byModel}
+use Rattle.mixture.specs.Holdings.{Held, held}
+use Rattle.mixture.specs.Memory.{Memory, isShort}
+use Rattle.mixture.specs.Layout.{dataIn}
 
--- a load: 2; then 3 or 4
-unfoldable pub dataFault : ModelData → ℕ
-dataFault d =
-    byModel (d .model) (shapeFault (d .n) (wilsonSize (d .n)) (d .values)) (shapeFault (d .n) (uniquacSize (d .n)) (d .values))
-    (shapeFault (d .n) (nrtlSize (d .n)) (d .values)) (unifacFault (d .n) (d .ng) (d .lens) (d .groups) (d .values))
-
--- ---- the cases and indices that a model has
+-- ---- whatever memory a call meets: the cases and indices that a model has
 
 abbrev pub below : ℕ → ℕ → ℕ → ℕ → Bool
 below i m j n = ltb i m && ltb j n
@@ -47,6 +46,34 @@ caseFault d (TdEntry i j p) = cond (hasTdEntry d i j) 0 10
 caseFault d (Size i which v) = cond (hasSize d i which) 0 10
 caseFault d (Count i j v) = cond (hasCount d i j) (cond (lt v +0) 4 0) 10
 
--- fractions: 5, empty; 6, |sum - 1| > 1e-6; 7, length not n
-unfoldable pub mixFault : ℕ → List Float → ℕ
-mixFault n x = first (compositionFault tolerance x) (cond (eqb (length x) n) 0 7)
+-- ---- on lent memory, with a head
+
+-- 1, a lent slice is short
+unfoldable pub memoryFault : Memory → ℕ
+memoryFault m = cond (isShort m) 1 0
+
+-- an n, ng, list length and group that the model uses are in range
+unfoldable pub inRange : ModelData → Bool
+inRange d =
+    byModel (d .model) (between 1 mostComponents (d .n)) (between 1 mostComponents (d .n)) (between 1 mostComponents (d .n))
+    (between 1 mostComponents (d .n) && between 1 mostGroups (d .ng) && allTo (d .n) (λ i. leb (getD (d .lens) i 0) mostListed)
+    && allTo (start (d .lens) (d .n)) (λ p. ltb (getD (d .groups) p 0) (d .ng)))
+
+-- from setting to query: 1, a slice is short or the head is out of range; 8, no model, where only the slices count
+unfoldable pub headFault : Memory → Head → ℕ
+headFault m h =
+    first (memoryFault m) (cond (eqb (h .model) 0) 8 (cond (ltb (h .model) 5 && inRange (dataIn m h)) 0 1))
+
+unfoldable pub loadFault : Memory → ModelData → ℕ
+loadFault m d = first (memoryFault m) (dataFault d)
+
+unfoldable pub settingFault : Memory → Head → Setting → ℕ
+settingFault m h s = first (headFault m h) (caseFault (held (dataIn m h)) s)
+
+unfoldable pub fractionsFault : Memory → Head → List Float → ℕ
+fractionsFault m h x = first (headFault m h) (mixFault (h .n) x)
+
+-- 9, T or fractions unset; 7, i ≥ n
+unfoldable pub queryFault : Memory → Head → Quantity → ℕ
+queryFault m h q =
+    first (headFault m h) (first (cond (h .«has_t») 0 9) (first (cond (h .«has_x») 0 9) (indexFault (h .n) q)))

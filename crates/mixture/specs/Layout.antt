@@ -6,10 +6,11 @@ use lib.Dec.{ltb}
 use lib.Ieee.{Float}
 use Rattle.models.specs.Values.{countsAt, start}
 use Rattle.mixture.specs.declared.head.Head.{Head}
-use Rattle.models.specs.Model.{byModel, modelOf}
+use Rattle.models.specs.Model.{byModel, modelOf, ModelData}
 use Rattle.mixture.specs.declared.setting.Setting.{Setting}
 use Rattle.mixture.specs.declared.setting.Setting.the-variants.{Temperature, Entry, TdEntry, Size, Count}
-use Rattle.mixture.specs.Names.{ModelData, Held, width, isCell}
+use Rattle.mixture.specs.Holdings.{Held}
+use Rattle.mixture.specs.Cells.{width, isCell}
 use Rattle.mixture.specs.Memory.{Memory}
 
 -- what memory and head hold, as a load brings it

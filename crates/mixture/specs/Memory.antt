@@ -8,6 +8,7 @@ use lib.ListN.{length}
 use lib.Ieee.{Float}
 use denote.Ref.{RefT, now}
 use denote.Triple.Both.{Both}
+use Rattle.models.specs.Limits.{mostValues, tableSize}
 use Rattle.mixture.specs.declared.head.Head.{Head}
 use Rattle.mixture.specs.declared.answers.Answer.{Answer}
 use Rattle.mixture.specs.declared.answers.Reply.{Reply}
@@ -34,13 +35,13 @@ OfLengths lv lc lm m = (length (m .values) ≡ lv) × (length (m .cells) ≡ lc)
 
 -- the least lengths of the three slices
 abbrev pub leastValues : ℕ
-leastValues = 5328
+leastValues = mostValues
 
 abbrev pub leastCells : ℕ
-leastCells = 1024
+leastCells = tableSize
 
 abbrev pub leastMarks : ℕ
-leastMarks = 1024
+leastMarks = tableSize
 
 -- of three slices of these lengths one is short
 unfoldable pub short : ℕ → ℕ → ℕ → Bool

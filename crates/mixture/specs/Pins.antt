@@ -8,14 +8,15 @@ use lib.Dec.{eqb}
 use lib.ListN.{length}
 use lib.Ieee.{Float}
 use Rattle.models.specs.declared.answers.Quantity.{Quantity}
-use Rattle.models.specs.Answers.{first, indexFault}
-use Rattle.models.specs.Plain.{fractionsFault}
+use Rattle.models.specs.Answers.{first}
+use Rattle.models.specs.Faults.{indexFault, fractionsFault, dataFault, mixFault}
 use Rattle.mixture.specs.declared.setting.Setting.{Setting}
 use Rattle.mixture.specs.declared.setting.Setting.the-variants.{Temperature, Entry, TdEntry, Size, Count}
 use Rattle.mixture.specs.Lists.{howManyPairs}
-use Rattle.mixture.specs.Names.{ModelData, Held, held, width, isCell, named}
-use Rattle.models.specs.Model.{byModel}
-use Rattle.mixture.specs.Faults.{dataFault, caseFault, mixFault}
+use Rattle.mixture.specs.Holdings.{Held, held, named}
+use Rattle.mixture.specs.Cells.{width, isCell}
+use Rattle.models.specs.Model.{ModelData, byModel}
+use Rattle.mixture.specs.Faults.{caseFault}
 use Rattle.mixture.specs.Layout.{place, numbers}
 use Rattle.mixture.specs.Calls.{stales}
 

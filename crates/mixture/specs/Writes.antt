@@ -9,10 +9,12 @@ use Rattle.arithmetic.specs.Tables.{at}
 use Rattle.mixture.specs.declared.head.Head.{Head}
 use Rattle.models.specs.declared.model.Model.the-variants.{Unifac}
 use Rattle.mixture.specs.Answers.{numberOf}
-use Rattle.mixture.specs.Names.{Held, held, width}
+use Rattle.mixture.specs.Holdings.{Held, held}
+use Rattle.mixture.specs.Cells.{width}
 use Rattle.mixture.specs.Memory.{Memory}
 use Rattle.mixture.specs.Layout.{dataIn, place, numbers, cellAt}
-use Rattle.mixture.specs.Calls.{memoryFault, loadFault, settingFault, stales, fractionsFault, queryFault}
+use Rattle.mixture.specs.Calls.{stales}
+use Rattle.mixture.specs.Faults.{memoryFault, loadFault, settingFault, fractionsFault, queryFault}
 use Rattle.mixture.specs.Book.{Call, Open, Load, Set, Fractions, Query}
 use Rattle.mixture.specs.History.{afterCall}
 

@@ -4,23 +4,34 @@ ghost use mathlib.Core.Bool.{_&&_, cond};
 ghost use Prim.Native.Nat.{_≤_};
 ghost use lib.Dec.{leb, ltb};
 ghost use lib.ListN.{length, getD};
-ghost use Rattle.models.specs.Plain.{between, allTo};
+ghost use lib.Ieee.{lt};
+ghost use Rattle.arithmetic.specs.Floats.{+0};
+ghost use Rattle.models.specs.Limits.{mostComponents, mostGroups, mostListed};
+ghost use Rattle.models.specs.Faults.{between, allTo};
+ghost use Rattle.models.specs.Model.{byModel};
 ghost use Rattle.models.specs.Values.{start};
+ghost use Rattle.mixture.specs.Holdings.{held};
 ghost use Rattle.mixture.specs.Memory.{Memory, OfLengths, short};
 ghost use Rattle.mixture.specs.Layout.{dataIn};
-ghost use Rattle.mixture.specs.Calls.{inRange, headFault};
-use crate::head::COMPONENTS;
+ghost use Rattle.mixture.specs.Faults.{below, caseFault};
+ghost use Rattle.mixture.specs.Faults.{inRange, headFault, settingFault, fractionsFault, queryFault};
 use crate::head::Head;
-use crate::head::PLACES;
+use crate::setting::Setting;
 use models::Model;
+use models::Quantity;
+use models::limits::COMPONENTS;
+use models::limits::GROUPS;
+use models::limits::PLACES;
+use models::limits::TABLE;
+use models::model::by_model;
 use models::model::model_of;
 
 // The least lengths of the three lent slices.
-pub const VALUES: usize = 5328;
+pub const VALUES: usize = models::limits::VALUES;
 
-pub const CELLS: usize = 1024;
+pub const CELLS: usize = TABLE;
 
-pub const MARKS: usize = 1024;
+pub const MARKS: usize = TABLE;
 
 // 1: a lent slice is short.
 pub fn memory_fault(lv: usize, lc: usize, lm: usize) -> u8
@@ -53,16 +64,18 @@ fn groups_below(groups: &[u8], places: usize, ng: usize) -> bool
 
 // Whether ng, the lengths of n lists and their groups are in range.
 fn lists_in_range(n: usize, ng: usize, lens: [u8; COMPONENTS], groups: [u8; PLACES]) -> bool
-    requires { ⌜ n ≤ 12 ⌝ }
-    ensures { λ r. ⌜ r ≡ (between 1 32 ng && allTo n (λ i. leb (getD lens i 0) 12) && allTo (start lens n) (λ p. ltb (getD groups p 0) ng)) ⌝ }
+    requires { ⌜ n ≤ mostComponents ⌝ }
+    ensures { λ r. ⌜ r ≡ (between 1 mostGroups ng
+        && allTo n (λ i. leb (getD lens i 0) mostListed)
+        && allTo (start lens n) (λ p. ltb (getD groups p 0) ng)) ⌝ }
 {
     if ng < 1 {
         return false;
     }
-    if 32 < ng {
+    if GROUPS < ng {
         return false;
     }
-    if !models::groups::none_over_12(&lens[..], n) {
+    if !models::faults::none_over_12(&lens[..], n) {
         return false;
     }
     let places = models::groups::start_of(&lens[..], n);
@@ -77,7 +90,7 @@ fn in_range(head: Head) -> bool
     if n < 1 {
         return false;
     }
-    if 12 < n {
+    if COMPONENTS < n {
         return false;
     }
     let model = model_of(head.model);
@@ -111,4 +124,108 @@ pub fn head_fault(lv: usize, lc: usize, lm: usize, head: Head) -> u8
         return 0;
     }
     1
+}
+
+// 10: i isn't below m or j isn't below n.
+fn pair_fault(i: usize, m: usize, j: usize, n: usize) -> u8
+    ensures { λ r. ⌜ r ≡ cond (below i m j n) 0 10 ⌝ }
+{
+    if i < m {
+        if j < n {
+            return 0;
+        }
+    }
+    10
+}
+
+// 10: i isn't below k, or j isn't within the list of i. 4: the count is below 0.
+fn count_fault(lens: &[u8], k: usize, i: usize, j: usize, v: f64) -> u8
+    requires { ⌜ k ≤ length (now lens) ⌝ }
+    ensures { λ r. ⌜ r ≡ cond (below i k j (getD (now (lens .entry)) i 0)) (cond (lt v +0) 4 0) 10 ⌝ }
+{
+    if i < k {
+        if j < (lens[i] as usize) {
+            if v < 0.0 {
+                return 4;
+            }
+            return 0;
+        }
+    }
+    10
+}
+
+// 4 and 10 of a count, for a head whose n is in range.
+fn list_fault(n: usize, lens: [u8; COMPONENTS], model: Model, i: usize, j: usize, v: f64) -> u8
+    requires { ⌜ n ≤ mostComponents ⌝ }
+    ensures { λ r. ⌜ r ≡ cond (below i (byModel model 0 0 0 n) j (getD lens i 0)) (cond (lt v +0) 4 0) 10 ⌝ }
+{
+    let k = by_model(model, 0, 0, 0, n);
+    count_fault(&lens[..], k, i, j, v)
+}
+
+// 10: no such case or index for this model. 4: a count is below 0. The lent values don't count.
+fn case_fault(head: Head, s: Setting) -> u8
+    requires { ⌜ head .n ≤ mostComponents ⌝ }
+    ensures { λ r. ⌜ ((m : Memory) → r ≡ caseFault (held (dataIn m head)) s) ⌝ }
+{
+    let model = model_of(head.model);
+    let w = by_model(model, head.n, head.n, head.n, head.ng);
+    match s {
+        Setting::Temperature(_) => 0,
+        Setting::Entry(i, j, _) => {
+            let k = by_model(model, w, w, w, 0);
+            pair_fault(i, k, j, k)
+        }
+        Setting::TdEntry(i, j, _) => {
+            let k = by_model(model, 0, 0, w, w);
+            pair_fault(i, k, j, k)
+        }
+        Setting::Size(i, which, _) => {
+            let k = by_model(model, 1, 2, 0, 2);
+            pair_fault(i, w, which, k)
+        }
+        Setting::Count(i, j, v) => {
+            let lens = head.lens;
+            list_fault(head.n, lens, model, i, j, v)
+        }
+    }
+}
+
+// What a setting is declined for. Memory counts by its lengths alone.
+pub fn setting_fault(lv: usize, lc: usize, lm: usize, head: Head, s: Setting) -> u8
+    ensures { λ r. ⌜ ((m : Memory) → OfLengths lv lc lm m → r ≡ settingFault m head s) ⌝ }
+{
+    let fault = head_fault(lv, lc, lm, head);
+    if fault != 0 {
+        return fault;
+    }
+    case_fault(head, s)
+}
+
+// What fractions are declined for. Memory counts by its lengths alone.
+pub fn fractions_fault(lv: usize, lc: usize, lm: usize, head: Head, x: &[f64]) -> u8
+    ensures { λ r. ⌜ ((m : Memory) → OfLengths lv lc lm m → r ≡ fractionsFault m head (now (x .entry))) ⌝ }
+{
+    let fault = head_fault(lv, lc, lm, head);
+    if fault != 0 {
+        return fault;
+    }
+    models::faults::mix_fault(head.n, x)
+}
+
+// What a query is declined for: 1 and 8; 9, T or fractions unset; 7, no component i. Memory counts by its lengths alone.
+pub fn query_fault(lv: usize, lc: usize, lm: usize, head: Head, q: Quantity) -> u8
+    ensures { λ r. ⌜ ((m : Memory) → OfLengths lv lc lm m → r ≡ queryFault m head q) ⌝ }
+{
+    let fault = head_fault(lv, lc, lm, head);
+    if fault != 0 {
+        return fault;
+    }
+    if !head.has_t {
+        return 9;
+    }
+    if !head.has_x {
+        return 9;
+    }
+    models::faults::index_fault(head.n, q)
 }

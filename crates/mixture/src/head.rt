@@ -5,13 +5,11 @@ ghost use mathlib.Core.List.{[], _++_};
 ghost use Prim.Native.Nat.{_≤_};
 ghost use lib.ListN.{length, drop, replicate};
 ghost use Rattle.arithmetic.specs.Floats.{+0};
+ghost use Rattle.models.specs.Limits.{mostComponents, mostPlaces};
 ghost use Rattle.mixture.specs.Lists.{padded};
 ghost use Rattle.mixture.specs.Calls.{freshHead, headWith};
-
-// The most components, and the most places of all their lists.
-pub const COMPONENTS: usize = 12;
-
-pub const PLACES: usize = COMPONENTS * COMPONENTS;
+use models::limits::COMPONENTS;
+use models::limits::PLACES;
 
 // The model's number is 0 for none, 1 Wilson, 2 UNIQUAC, 3 NRTL, 4 UNIFAC. Groups stand list after list.
 pub struct Head {
@@ -38,8 +36,8 @@ fn copy_bytes(r: &mut [u8], s: &[u8])
 
 // The fractions, with 0 in the places past them.
 pub fn pad_fractions(s: &[f64]) -> [f64; COMPONENTS]
-    requires { ⌜ length (now s) ≤ 12 ⌝ }
-    ensures { λ r. ⌜ r ≡ padded 12 +0 (now (s .entry)) ⌝ }
+    requires { ⌜ length (now s) ≤ mostComponents ⌝ }
+    ensures { λ r. ⌜ r ≡ padded mostComponents +0 (now (s .entry)) ⌝ }
 {
     let mut r = [0.0; COMPONENTS];
     for k in 0..s.len() {
@@ -50,7 +48,7 @@ pub fn pad_fractions(s: &[f64]) -> [f64; COMPONENTS]
 
 // A head with T and fractions unset.
 fn unset_head(model: u8, n: usize, ng: usize, lens: [u8; COMPONENTS], groups: [u8; PLACES]) -> Head
-    ensures { λ r. ⌜ r ≡ record { model = model; n = n; ng = ng; lens = lens; groups = groups; t = +0; x = replicate 12 +0; «has_t» = false; «has_x» = false } ⌝ }
+    ensures { λ r. ⌜ r ≡ record { model = model; n = n; ng = ng; lens = lens; groups = groups; t = +0; x = replicate mostComponents +0; «has_t» = false; «has_x» = false } ⌝ }
 {
     Head {
         model: model,
@@ -74,7 +72,7 @@ pub fn bare_head(model: u8, n: usize) -> Head
 
 // UNIFAC's head with T and fractions unset.
 pub fn listed_head(n: usize, ng: usize, lens: &[u8], groups: &[u8]) -> Head
-    requires { ⌜ (length (now lens) ≤ 12) × (length (now groups) ≤ 144) ⌝ }
+    requires { ⌜ (length (now lens) ≤ mostComponents) × (length (now groups) ≤ mostPlaces) ⌝ }
     ensures { λ r. ⌜ r ≡ freshHead 4 n ng (now (lens .entry)) (now (groups .entry)) ⌝ }
 {
     let mut all_lens = [0u8; COMPONENTS];

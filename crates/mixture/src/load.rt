@@ -6,9 +6,10 @@ ghost use lib.ListN.{length, drop};
 ghost use lib.Ieee.{Float};
 ghost use Rattle.models.specs.declared.model.Model.the-variants.{Unifac};
 ghost use Rattle.mixture.specs.Lists.{written};
-ghost use Rattle.mixture.specs.Names.{ModelData, held};
-ghost use Rattle.models.specs.Model.{byModel};
-ghost use Rattle.mixture.specs.Faults.{dataFault};
+ghost use Rattle.mixture.specs.Holdings.{held};
+ghost use Rattle.models.specs.Limits.{mostComponents, mostGroups, mostPlaces};
+ghost use Rattle.models.specs.Model.{byModel, ModelData};
+ghost use Rattle.models.specs.Model.{given as dataGiven};
 ghost use Rattle.mixture.specs.Memory.{before, later, left, leastMarks};
 ghost use Rattle.mixture.specs.Layout.{cellAt};
 ghost use Rattle.mixture.specs.Calls.{loadedHead, afterLoad};
@@ -24,18 +25,6 @@ use models::Model;
 use models::model::by_model;
 use models::model::has_diagonal;
 
-// 2; for UNIFAC then 3 or 4 at the first place at fault.
-fn data_fault(model: Model, n: usize, ng: usize, lens: &[u8], groups: &[u8], given: &[f64]) -> u8
-    ensures { λ r. ⌜ r ≡ dataFault (record { model = model; n = n; ng = ng; lens = now (lens .entry); groups = now (groups .entry); values = now (given .entry) }) ⌝ }
-{
-    match model {
-        Model::Wilson => models::faults::shape_fault(n, models::wilson::size(n), given),
-        Model::Uniquac => models::faults::shape_fault(n, models::uniquac::size(n), given),
-        Model::Nrtl => models::faults::shape_fault(n, models::nrtl::size(n), given),
-        Model::Unifac => models::unifac::unifac_fault(n, ng, lens, groups, given),
-    }
-}
-
 // The given values in the first places.
 fn copy(values: &mut [f64], given: &[f64])
     requires { ⌜ length (now given) ≤ length (now values) ⌝ }
@@ -48,7 +37,7 @@ fn copy(values: &mut [f64], given: &[f64])
 
 // Writes 0 to the marks of all the model's cells.
 fn stale_cells(marks: &mut [u8], model: Model, n: usize, ng: usize)
-    requires { ⌜ (1 ≤ byModel model n n n ng) × (byModel model n n n ng ≤ 32) × (leastMarks ≤ length (now marks)) ⌝ }
+    requires { ⌜ (1 ≤ byModel model n n n ng) × (byModel model n n n ng ≤ mostGroups) × (leastMarks ≤ length (now marks)) ⌝ }
     ensures { λ _. ⌜ ((d : ModelData) → (d .model ≡ model) × (d .n ≡ n) × (d .ng ≡ ng) → now (marks .exit) ≡ written (cellAt (held d)) (λ c. 0) (now (marks .entry))) ⌝ }
 {
     let w = by_model(model, n, n, n, ng);
@@ -64,7 +53,7 @@ fn stale_cells(marks: &mut [u8], model: Model, n: usize, ng: usize)
 
 // The head of a load that is accepted, with 0 in its unset and unused fields.
 fn loaded_head(model: Model, n: usize, ng: usize, lens: &[u8], groups: &[u8]) -> Head
-    requires { ⌜ (model ≡ Unifac → (length (now lens) ≤ 12) × (length (now groups) ≤ 144)) ⌝ }
+    requires { ⌜ (model ≡ Unifac → (length (now lens) ≤ mostComponents) × (length (now groups) ≤ mostPlaces)) ⌝ }
     ensures { λ r. ⌜ ((v : List Float) → r ≡ loadedHead (record { model = model; n = n; ng = ng; lens = now (lens .entry); groups = now (groups .entry); values = v })) ⌝ }
 {
     match model {
@@ -88,7 +77,8 @@ pub fn load(
     groups: &[u8],
     given: &[f64],
 ) -> Reply
-    ensures { λ r. ⌜ left (later values cells marks) r ≡ afterLoad (before values cells marks) head (record { model = model; n = n; ng = ng; lens = now (lens .entry); groups = now (groups .entry); values = now (given .entry) }) ⌝ }
+    ensures { λ r. ⌜ left (later values cells marks) r ≡ afterLoad (before values cells marks) head
+        (dataGiven model n ng lens groups given) ⌝ }
 {
     let short = memory_fault(values.len(), cells.len(), marks.len());
     if short != 0 {
@@ -97,7 +87,7 @@ pub fn load(
             answer: Answer::Refused(short),
         };
     }
-    let fault = data_fault(model, n, ng, lens, groups, given);
+    let fault = models::faults::data_fault(model, n, ng, lens, groups, given);
     if fault != 0 {
         return Reply {
             head: head,

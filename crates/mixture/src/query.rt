@@ -4,7 +4,8 @@ ghost use Prim.Native.Nat.{_*_, _≤_};
 ghost use lib.ListN.{length};
 ghost use Rattle.arithmetic.specs.Parameters.{tdAt};
 ghost use Rattle.arithmetic.specs.Tables.{at, from};
-ghost use Rattle.models.specs.Answers.{indexFault};
+ghost use Rattle.models.specs.Limits.{mostComponents};
+ghost use Rattle.models.specs.Faults.{indexFault};
 ghost use Rattle.models.specs.Exponentials.{energy, nonrandomness, groupEnergy};
 ghost use Rattle.models.specs.Values.{energies, volumes, rs, qs, taus, alphas, lists, countsAt, groupRs, groupQs, groupAs};
 ghost use Rattle.models.specs.Wilson.{wilson as W·wilson};
@@ -12,17 +13,19 @@ ghost use Rattle.models.specs.Uniquac.{uniquac as U·uniquac};
 ghost use Rattle.models.specs.Nrtl.{nrtl as N·nrtl};
 ghost use Rattle.models.specs.Unifac.{unifac as F·unifac};
 ghost use Rattle.mixture.specs.Memory.{Memory, OfLengths, memory, after, leastValues, leastCells, leastMarks, before, later, left};
-ghost use Rattle.mixture.specs.Calls.{queryFault, afterQuery};
+ghost use Rattle.mixture.specs.Calls.{afterQuery};
+ghost use Rattle.mixture.specs.Faults.{queryFault};
 ghost use Rattle.mixture.specs.steps.Refills.{Ranged, Solves, Answered};
 use crate::answers::Answer;
 use crate::answers::Reply;
-use crate::faults::head_fault;
-use crate::head::COMPONENTS;
+use crate::faults::query_fault;
 use crate::head::Head;
-use crate::head::PLACES;
 use crate::refill;
 use models::Model;
 use models::Quantity;
+use models::limits::COMPONENTS;
+use models::limits::PAIRS;
+use models::limits::PLACES;
 use models::model::model_of;
 
 // A value and the number of cells worked.
@@ -41,7 +44,7 @@ fn wilson(
     cells: &mut [f64],
     marks: &mut [u8],
 ) -> Worked
-    requires { ⌜ (n ≤ 12) × (indexFault n q ≡ 0) × (leastValues ≤ length (now values)) × (leastCells ≤ length (now cells)) × (leastMarks ≤ length (now marks)) ⌝ }
+    requires { ⌜ (n ≤ mostComponents) × (indexFault n q ≡ 0) × (leastValues ≤ length (now values)) × (leastCells ≤ length (now cells)) × (leastMarks ≤ length (now marks)) ⌝ }
     ensures { λ r.
         let v = now (values .entry) in
         ⌜ Solves Model.Wilson n (energy (energies n v) t) (λ E. W·wilson n (volumes n v) E (at x) q) cells marks r ⌝ }
@@ -62,7 +65,7 @@ fn uniquac(
     cells: &mut [f64],
     marks: &mut [u8],
 ) -> Worked
-    requires { ⌜ (n ≤ 12) × (indexFault n q ≡ 0) × (leastValues ≤ length (now values)) × (leastCells ≤ length (now cells)) × (leastMarks ≤ length (now marks)) ⌝ }
+    requires { ⌜ (n ≤ mostComponents) × (indexFault n q ≡ 0) × (leastValues ≤ length (now values)) × (leastCells ≤ length (now cells)) × (leastMarks ≤ length (now marks)) ⌝ }
     ensures { λ r. ⌜ Solves Model.Uniquac n (energy (energies n (now (values .entry))) t) (λ E. U·uniquac n (rs n (now (values .entry))) (qs n (now (values .entry))) E (at x) q) cells marks r ⌝ }
 {
     let count = refill::refill(Model::Uniquac, n, n, values, values, t, 0.0, cells, marks);
@@ -90,7 +93,7 @@ fn nrtl_over(
     cells: &mut [f64],
     marks: &mut [u8],
 ) -> Worked
-    requires { ⌜ (n ≤ 12) × (n * n ≤ length (now tau)) × (indexFault n q ≡ 0) × (leastValues ≤ length (now values)) × (leastCells ≤ length (now cells)) × (leastMarks ≤ length (now marks)) × (n ≤ length (now x)) ⌝ }
+    requires { ⌜ (n ≤ mostComponents) × (n * n ≤ length (now tau)) × (indexFault n q ≡ 0) × (leastValues ≤ length (now values)) × (leastCells ≤ length (now cells)) × (leastMarks ≤ length (now marks)) × (n ≤ length (now x)) ⌝ }
     ensures { λ r. ⌜ Solves Model.Nrtl n (nonrandomness (alphas n (now (values .entry))) (λ i j. tdAt (taus n (now (values .entry)) i j) t)) (λ G. N·nrtl n (λ i j. tdAt (taus n (now (values .entry)) i j) t) G (at (now (x .entry))) q) cells marks r ⌝ }
 {
     models::nrtl::fill_taus(n, values, t, tau);
@@ -120,14 +123,14 @@ fn nrtl(
     cells: &mut [f64],
     marks: &mut [u8],
 ) -> Worked
-    requires { ⌜ (n ≤ 12) × (indexFault n q ≡ 0) × (leastValues ≤ length (now values)) × (leastCells ≤ length (now cells)) × (leastMarks ≤ length (now marks)) ⌝ }
+    requires { ⌜ (n ≤ mostComponents) × (indexFault n q ≡ 0) × (leastValues ≤ length (now values)) × (leastCells ≤ length (now cells)) × (leastMarks ≤ length (now marks)) ⌝ }
     ensures { λ r. ⌜ Solves Model.Nrtl n (nonrandomness (alphas n (now (values .entry))) (λ i j. tdAt (taus n (now (values .entry)) i j) t)) (λ G. N·nrtl n (λ i j. tdAt (taus n (now (values .entry)) i j) t) G (at x) q) cells marks r ⌝ }
 {
     if n < 5 {
         let mut few = [0.0; 16];
         return nrtl_over(n, t, &x[..], q, values, &mut few[..], cells, marks);
     }
-    let mut tau = [0.0; 144];
+    let mut tau = [0.0; PAIRS];
     nrtl_over(n, t, &x[..], q, values, &mut tau[..], cells, marks)
 }
 
@@ -162,23 +165,6 @@ fn unifac(
         q,
     );
     Worked { value, count }
-}
-
-// What a query is declined for: 1 and 8; 9, T or fractions unset; 7, no component i. Memory counts by its lengths alone.
-fn query_fault(lv: usize, lc: usize, lm: usize, head: Head, q: Quantity) -> u8
-    ensures { λ r. ⌜ ((m : Memory) → OfLengths lv lc lm m → r ≡ queryFault m head q) ⌝ }
-{
-    let fault = head_fault(lv, lc, lm, head);
-    if fault != 0 {
-        return fault;
-    }
-    if !head.has_t {
-        return 9;
-    }
-    if !head.has_x {
-        return 9;
-    }
-    models::faults::index_fault(head.n, q)
 }
 
 // Refills and answers by the head's model.

@@ -4,10 +4,13 @@ ghost use mathlib.Core.Bool.{true, false};
 ghost use Prim.Native.Nat.{_+_, _*_, _-_, _/_, _%_, _≤_, _<_};
 ghost use lib.ListN.{length, getD};
 ghost use Rattle.arithmetic.specs.Tables.{at, from, Filled};
+ghost use Rattle.models.specs.Limits.{mostGroups, tableSize};
 ghost use Rattle.mixture.specs.Lists.{howMany};
 ghost use Rattle.models.specs.Model.{byModel};
 ghost use Rattle.mixture.specs.steps.Refills.{rowCell, rowArgument, staleCell, unmarked, Refilled, Gathered, Laid, Lifted, OffDiagonalTaken};
 use models::Model;
+use models::limits::GROUPS;
+use models::limits::PAIRS;
 use models::model::has_diagonal;
 
 // The mark of a fresh cell.
@@ -86,7 +89,7 @@ fn refill_cells(
 
 // How many of the first n marks are other than 1.
 fn count_unmarked(marks: &[u8], n: usize) -> u16
-    requires { ⌜ (n ≤ 1024) × (n ≤ length (now marks)) ⌝ }
+    requires { ⌜ (n ≤ tableSize) × (n ≤ length (now marks)) ⌝ }
     ensures { λ r. ⌜ r ≡ howMany n (λ c. unmarked (now (marks .entry)) c) ⌝ }
 {
     let mut count: u16 = 0;
@@ -136,7 +139,7 @@ fn gather_row(
     count: usize,
     out: &mut [f64],
 )
-    requires { ⌜ (i < w) × (w ≤ 32) × (w * 5 ≤ length (now row)) × (w ≤ length (now tau)) × (w ≤ length (now marks)) × (w ≤ length (now out)) × (count ≡ howMany w (λ j. staleCell model (getD (now marks) j 0) i j)) ⌝ }
+    requires { ⌜ (i < w) × (w ≤ mostGroups) × (w * 5 ≤ length (now row)) × (w ≤ length (now tau)) × (w ≤ length (now marks)) × (w ≤ length (now out)) × (count ≡ howMany w (λ j. staleCell model (getD (now marks) j 0) i j)) ⌝ }
     ensures { λ _. ⌜ Gathered w (λ j. staleCell model (getD (now (marks .entry)) j 0) i j) (rowArgument model (now (row .entry)) (now (tau .entry)) t ln i) (now (out .exit)) count ⌝ }
 {
     if has_diagonal(model) {
@@ -164,7 +167,7 @@ fn put_stale(model: Model, w: usize, i: usize, worked: &[f64], cells: &mut [f64]
 
 // How many cells of row i are stale.
 fn count_row(model: Model, w: usize, i: usize, marks: &[u8]) -> usize
-    requires { ⌜ (i < w) × (w ≤ 32) × (w ≤ length (now marks)) ⌝ }
+    requires { ⌜ (i < w) × (w ≤ mostGroups) × (w ≤ length (now marks)) ⌝ }
     ensures { λ r. ⌜ r ≡ howMany w (λ j. staleCell model (getD (now (marks .entry)) j 0) i j) ⌝ }
 {
     let count = count_unmarked(marks, w) as usize;
@@ -190,7 +193,7 @@ fn refill_row(
     cells: &mut [f64],
     marks: &mut [u8],
 ) -> usize
-    requires { ⌜ (i < w) × (w ≤ 32) × (w * 5 ≤ length (now row)) × (w ≤ length (now tau)) × (w ≤ length (now cells)) × (w ≤ length (now marks)) ⌝ }
+    requires { ⌜ (i < w) × (w ≤ mostGroups) × (w * 5 ≤ length (now row)) × (w ≤ length (now tau)) × (w ≤ length (now cells)) × (w ≤ length (now marks)) ⌝ }
     ensures { λ r. ⌜ Refilled w (λ j. staleCell model (getD (now (marks .entry)) j 0) i j) (rowCell model (now (row .entry)) (now (tau .entry)) t ln i) (now (cells .entry)) (now (marks .entry)) (now (cells .exit)) (now (marks .exit)) r ⌝ }
 {
     if w < 4 {
@@ -200,7 +203,7 @@ fn refill_row(
     if count == 0 {
         return 0;
     }
-    let mut worked = [0.0; 32];
+    let mut worked = [0.0; GROUPS];
     gather_row(model, w, i, row, tau, t, ln, marks, count, &mut worked[..]);
     arithmetic::exp_each(&mut worked[..], count);
     put_stale(model, w, i, &worked[..], cells, marks);
@@ -219,7 +222,7 @@ fn refill_rows(
     cells: &mut [f64],
     marks: &mut [u8],
 ) -> usize
-    requires { ⌜ (w ≤ 32) × ((w - 1) * stride + w * 5 ≤ length (now table)) × ((w - 1) * stride + w ≤ length (now tau)) × (w * w ≤ length (now cells)) × (w * w ≤ length (now marks)) ⌝ }
+    requires { ⌜ (w ≤ mostGroups) × ((w - 1) * stride + w * 5 ≤ length (now table)) × ((w - 1) * stride + w ≤ length (now tau)) × (w * w ≤ length (now cells)) × (w * w ≤ length (now marks)) ⌝ }
     ensures { λ r. ⌜ Refilled (w * w) (λ c. staleCell model (getD (now (marks .entry)) c 0) (c / w) (c % w)) (λ c. rowCell model (from (c / w * stride) (now (table .entry))) (from (c / w * stride) (now (tau .entry))) t ln (c / w) (c % w)) (now (cells .entry)) (now (marks .entry)) (now (cells .exit)) (now (marks .exit)) r ⌝ }
 {
     let mut count: usize = 0;
@@ -243,7 +246,7 @@ fn refill_rows(
 
 // How many marks on the diagonal of w rows are other than 1.
 fn count_diagonal(marks: &[u8], w: usize) -> u16
-    requires { ⌜ (w ≤ 32) × (w * w ≤ length (now marks)) ⌝ }
+    requires { ⌜ (w ≤ mostGroups) × (w * w ≤ length (now marks)) ⌝ }
     ensures { λ r. ⌜ r ≡ howMany w (λ i. unmarked (now (marks .entry)) (i * w + i)) ⌝ }
 {
     let mut count: u16 = 0;
@@ -257,7 +260,7 @@ fn count_diagonal(marks: &[u8], w: usize) -> u16
 
 // How many cells are stale: marks other than 1, less those on a diagonal that has no cells.
 fn count_table(model: Model, w: usize, marks: &[u8]) -> usize
-    requires { ⌜ (w ≤ 32) × (w * w ≤ length (now marks)) ⌝ }
+    requires { ⌜ (w ≤ mostGroups) × (w * w ≤ length (now marks)) ⌝ }
     ensures { λ r. ⌜ r ≡ howMany (w * w) (λ c. staleCell model (getD (now (marks .entry)) c 0) (c / w) (c % w)) ⌝ }
 {
     let count = count_unmarked(marks, w * w) as usize;
@@ -279,7 +282,7 @@ fn fill_arguments(
     ln: f64,
     out: &mut [f64],
 )
-    requires { ⌜ (i < w) × (w ≤ 32) × (w * 5 ≤ length (now row)) × (w ≤ length (now tau)) × (w ≤ length (now out)) ⌝ }
+    requires { ⌜ (i < w) × (w ≤ mostGroups) × (w * 5 ≤ length (now row)) × (w ≤ length (now tau)) × (w ≤ length (now out)) ⌝ }
     ensures { λ _. ⌜ Filled (rowArgument model (now (row .entry)) (now (tau .entry)) t ln i) w (now (out .exit)) ⌝ }
 {
     match model {
@@ -301,7 +304,7 @@ fn fill_table(
     ln: f64,
     out: &mut [f64],
 )
-    requires { ⌜ (w ≤ 32) × ((w - 1) * stride + w * 5 ≤ length (now table)) × ((w - 1) * stride + w ≤ length (now tau)) × (w * w ≤ length (now out)) ⌝ }
+    requires { ⌜ (w ≤ mostGroups) × ((w - 1) * stride + w * 5 ≤ length (now table)) × ((w - 1) * stride + w ≤ length (now tau)) × (w * w ≤ length (now out)) ⌝ }
     ensures { λ _. ⌜ Filled (λ c. rowArgument model (from (c / w * stride) (now (table .entry))) (from (c / w * stride) (now (tau .entry))) t ln (c / w) (c % w)) (w * w) (now (out .exit)) ⌝ }
 {
     for i in 0..w {
@@ -322,7 +325,7 @@ fn fill_table(
 
 // Puts the last row of a table by rows of w, but for its own diagonal, on the diagonal of the rows above it.
 fn lay_last(a: &mut [f64], w: usize)
-    requires { ⌜ (1 ≤ w) × (w ≤ 32) × (w * w ≤ length (now a)) ⌝ }
+    requires { ⌜ (1 ≤ w) × (w ≤ mostGroups) × (w * w ≤ length (now a)) ⌝ }
     ensures { λ _. ⌜ Laid w (w - 1) (now (a .entry)) (now (a .exit)) ⌝ }
 {
     let last = (w - 1) * w;
@@ -333,7 +336,7 @@ fn lay_last(a: &mut [f64], w: usize)
 
 // Takes it back from there.
 fn lift_last(a: &mut [f64], w: usize)
-    requires { ⌜ (1 ≤ w) × (w ≤ 32) × (w * w ≤ length (now a)) ⌝ }
+    requires { ⌜ (1 ≤ w) × (w ≤ mostGroups) × (w * w ≤ length (now a)) ⌝ }
     ensures { λ _. ⌜ Lifted w (w - 1) (now (a .entry)) (now (a .exit)) ⌝ }
 {
     let last = (w - 1) * w;
@@ -345,7 +348,7 @@ fn lift_last(a: &mut [f64], w: usize)
 // Each place off the diagonal takes its exp; there are `count`. Meanwhile the last row stands on the diagonal of the others, so that
 // exp runs over so many places in one go, and over no other.
 fn exp_off_diagonal(a: &mut [f64], w: usize, count: usize)
-    requires { ⌜ (1 ≤ w) × (w ≤ 32) × (w * w ≤ length (now a)) × (count ≡ (w - 1) * w) ⌝ }
+    requires { ⌜ (1 ≤ w) × (w ≤ mostGroups) × (w * w ≤ length (now a)) × (count ≡ (w - 1) * w) ⌝ }
     ensures { λ _. ⌜ OffDiagonalTaken w (now (a .entry)) (now (a .exit)) ⌝ }
 {
     lay_last(a, w);
@@ -368,7 +371,7 @@ fn take_stale(model: Model, w: usize, i: usize, worked: &[f64], cells: &mut [f64
 
 // The same for w rows.
 fn take_rows(model: Model, w: usize, worked: &[f64], cells: &mut [f64], marks: &mut [u8])
-    requires { ⌜ (w ≤ 32) × (w * w ≤ length (now worked)) × (w * w ≤ length (now cells)) × (w * w ≤ length (now marks)) ⌝ }
+    requires { ⌜ (w ≤ mostGroups) × (w * w ≤ length (now worked)) × (w * w ≤ length (now cells)) × (w * w ≤ length (now marks)) ⌝ }
     ensures { λ _. ⌜ Refilled (w * w) (λ c. staleCell model (getD (now (marks .entry)) c 0) (c / w) (c % w)) (at (now (worked .entry))) (now (cells .entry)) (now (marks .entry)) (now (cells .exit)) (now (marks .exit)) (howMany (w * w) (λ c. staleCell model (getD (now (marks .entry)) c 0) (c / w) (c % w))) ⌝ }
 {
     for i in 0..w {
@@ -399,7 +402,7 @@ fn refill_table(
     cells: &mut [f64],
     marks: &mut [u8],
 ) -> usize
-    requires { ⌜ (1 ≤ w) × (w ≤ 32) × ((w - 1) * stride + w * 5 ≤ length (now table)) × ((w - 1) * stride + w ≤ length (now tau)) × (count ≡ (w - 1) * w) × (byModel model false false false true ≡ false) × (w * w ≤ length (now out)) × (w * w ≤ length (now cells)) × (w * w ≤ length (now marks)) × (count ≡ howMany (w * w) (λ c. staleCell model (getD (now marks) c 0) (c / w) (c % w))) ⌝ }
+    requires { ⌜ (1 ≤ w) × (w ≤ mostGroups) × ((w - 1) * stride + w * 5 ≤ length (now table)) × ((w - 1) * stride + w ≤ length (now tau)) × (count ≡ (w - 1) * w) × (byModel model false false false true ≡ false) × (w * w ≤ length (now out)) × (w * w ≤ length (now cells)) × (w * w ≤ length (now marks)) × (count ≡ howMany (w * w) (λ c. staleCell model (getD (now marks) c 0) (c / w) (c % w))) ⌝ }
     ensures { λ r. ⌜ Refilled (w * w) (λ c. staleCell model (getD (now (marks .entry)) c 0) (c / w) (c % w)) (λ c. rowCell model (from (c / w * stride) (now (table .entry))) (from (c / w * stride) (now (tau .entry))) t ln (c / w) (c % w)) (now (cells .entry)) (now (marks .entry)) (now (cells .exit)) (now (marks .exit)) r ⌝ }
 {
     fill_table(model, w, stride, table, tau, t, ln, out);
@@ -440,7 +443,7 @@ fn refill_whole(
             marks,
         );
     }
-    let mut worked = [0.0; 144];
+    let mut worked = [0.0; PAIRS];
     refill_table(
         model,
         w,
@@ -458,7 +461,7 @@ fn refill_whole(
 
 // Whether `count` stale cells are all cells there are, in a model of at most 12 rows with none on the diagonal.
 fn is_whole(model: Model, w: usize, count: usize) -> bool
-    requires { ⌜ (1 ≤ w) × (w ≤ 32) ⌝ }
+    requires { ⌜ (1 ≤ w) × (w ≤ mostGroups) ⌝ }
     ensures { λ r. ⌜ (r ≡ true → (w ≤ 12) × (count ≡ (w - 1) * w) × (byModel model false false false true ≡ false)) ⌝ }
 {
     if has_diagonal(model) {
@@ -483,7 +486,7 @@ pub fn refill(
     cells: &mut [f64],
     marks: &mut [u8],
 ) -> usize
-    requires { ⌜ (w ≤ 32) × ((w - 1) * stride + w * 5 ≤ length (now table)) × ((w - 1) * stride + w ≤ length (now tau)) × (w * w ≤ length (now cells)) × (w * w ≤ length (now marks)) ⌝ }
+    requires { ⌜ (w ≤ mostGroups) × ((w - 1) * stride + w * 5 ≤ length (now table)) × ((w - 1) * stride + w ≤ length (now tau)) × (w * w ≤ length (now cells)) × (w * w ≤ length (now marks)) ⌝ }
     ensures { λ r. ⌜ Refilled (w * w) (λ c. staleCell model (getD (now (marks .entry)) c 0) (c / w) (c % w)) (λ c. rowCell model (from (c / w * stride) (now (table .entry))) (from (c / w * stride) (now (tau .entry))) t ln (c / w) (c % w)) (now (cells .entry)) (now (marks .entry)) (now (cells .exit)) (now (marks .exit)) r ⌝ }
 {
     if 3 < w {

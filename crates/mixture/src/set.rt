@@ -7,108 +7,33 @@ ghost use lib.ListN.{length, getD};
 ghost use lib.Seq.{sets};
 ghost use lib.Ieee.{lt};
 ghost use Rattle.arithmetic.specs.Floats.{+0};
+ghost use Rattle.models.specs.Limits.{mostComponents, mostGroups, mostListed, mostPlaces};
 ghost use Rattle.models.specs.Values.{countsAt, start};
 ghost use Rattle.mixture.specs.declared.answers.Answer.the-variants.{Refused, Done};
 ghost use Rattle.mixture.specs.Lists.{written};
-ghost use Rattle.mixture.specs.Names.{held};
+ghost use Rattle.mixture.specs.Holdings.{held};
 ghost use Rattle.models.specs.Model.{byModel};
-ghost use Rattle.mixture.specs.Faults.{below, caseFault};
+ghost use Rattle.mixture.specs.Faults.{below, caseFault, settingFault};
 ghost use Rattle.mixture.specs.Memory.{Memory, OfLengths, after, before, later, left, leastMarks};
 ghost use Rattle.mixture.specs.Layout.{dataIn, numbers, place};
-ghost use Rattle.mixture.specs.Calls.{settingFault, stalesAt, setHead, afterSetting};
+ghost use Rattle.mixture.specs.Calls.{stalesAt, setHead, afterSetting};
 ghost use Rattle.mixture.specs.steps.Blocks.{headOnly, Settable, block, blockOf};
 use crate::answers::Answer;
 use crate::answers::Reply;
-use crate::faults::head_fault;
-use crate::head::COMPONENTS;
+use crate::faults::setting_fault;
 use crate::head::Head;
 use crate::setting::Setting;
 use crate::stale::Block;
 use crate::stale::stale;
 use models::Model;
+use models::limits::COMPONENTS;
 use models::model::by_model;
 use models::model::has_diagonal;
 use models::model::model_of;
 
-// 10: i isn't below m or j isn't below n.
-fn pair_fault(i: usize, m: usize, j: usize, n: usize) -> u8
-    ensures { λ r. ⌜ r ≡ cond (below i m j n) 0 10 ⌝ }
-{
-    if i < m {
-        if j < n {
-            return 0;
-        }
-    }
-    10
-}
-
-// 10: i isn't below k, or j isn't within the list of i. 4: the count is below 0.
-fn count_fault(lens: &[u8], k: usize, i: usize, j: usize, v: f64) -> u8
-    requires { ⌜ k ≤ length (now lens) ⌝ }
-    ensures { λ r. ⌜ r ≡ cond (below i k j (getD (now (lens .entry)) i 0)) (cond (lt v +0) 4 0) 10 ⌝ }
-{
-    if i < k {
-        if j < (lens[i] as usize) {
-            if v < 0.0 {
-                return 4;
-            }
-            return 0;
-        }
-    }
-    10
-}
-
-// 4 and 10 of a count, for a head whose n is in range.
-fn list_fault(n: usize, lens: [u8; COMPONENTS], model: Model, i: usize, j: usize, v: f64) -> u8
-    requires { ⌜ n ≤ 12 ⌝ }
-    ensures { λ r. ⌜ r ≡ cond (below i (byModel model 0 0 0 n) j (getD lens i 0)) (cond (lt v +0) 4 0) 10 ⌝ }
-{
-    let k = by_model(model, 0, 0, 0, n);
-    count_fault(&lens[..], k, i, j, v)
-}
-
-// 10: no such case or index for this model. 4: a count is below 0. The lent values don't count.
-fn case_fault(head: Head, s: Setting) -> u8
-    requires { ⌜ head .n ≤ 12 ⌝ }
-    ensures { λ r. ⌜ ((m : Memory) → r ≡ caseFault (held (dataIn m head)) s) ⌝ }
-{
-    let model = model_of(head.model);
-    let w = by_model(model, head.n, head.n, head.n, head.ng);
-    match s {
-        Setting::Temperature(_) => 0,
-        Setting::Entry(i, j, _) => {
-            let k = by_model(model, w, w, w, 0);
-            pair_fault(i, k, j, k)
-        }
-        Setting::TdEntry(i, j, _) => {
-            let k = by_model(model, 0, 0, w, w);
-            pair_fault(i, k, j, k)
-        }
-        Setting::Size(i, which, _) => {
-            let k = by_model(model, 1, 2, 0, 2);
-            pair_fault(i, w, which, k)
-        }
-        Setting::Count(i, j, v) => {
-            let lens = head.lens;
-            list_fault(head.n, lens, model, i, j, v)
-        }
-    }
-}
-
-// What a setting is declined for. Memory counts by its lengths alone.
-fn setting_fault(lv: usize, lc: usize, lm: usize, head: Head, s: Setting) -> u8
-    ensures { λ r. ⌜ ((m : Memory) → OfLengths lv lc lm m → r ≡ settingFault m head s) ⌝ }
-{
-    let fault = head_fault(lv, lc, lm, head);
-    if fault != 0 {
-        return fault;
-    }
-    case_fault(head, s)
-}
-
 // Where entry i, j stands in rows of w.
 fn entry_at(model: Model, w: usize, i: usize, j: usize) -> usize
-    requires { ⌜ (w ≤ 32) × (i < w) × (j < w) ⌝ }
+    requires { ⌜ (w ≤ mostGroups) × (i < w) × (j < w) ⌝ }
     ensures { λ r. ⌜ r ≡ byModel model 0 0 (w * w * 5) 0 + (i * w + j) ⌝ }
 {
     by_model(model, 0, 0, w * w * 5, 0) + (i * w + j)
@@ -116,7 +41,7 @@ fn entry_at(model: Model, w: usize, i: usize, j: usize) -> usize
 
 // Where td entry i, j stands in rows of w.
 fn td_at(model: Model, w: usize, i: usize, j: usize) -> usize
-    requires { ⌜ (w ≤ 32) × (i < w) × (j < w) ⌝ }
+    requires { ⌜ (w ≤ mostGroups) × (i < w) × (j < w) ⌝ }
     ensures { λ r. ⌜ r ≡ byModel model 0 0 0 (w + w) + (i * w + j) * 5 ⌝ }
 {
     by_model(model, 0, 0, 0, w + w) + (i * w + j) * 5
@@ -124,7 +49,7 @@ fn td_at(model: Model, w: usize, i: usize, j: usize) -> usize
 
 // Where size i, which stands, w of each.
 fn size_at(model: Model, w: usize, i: usize, which: usize) -> usize
-    requires { ⌜ (w ≤ 32) × (i < w) × (which < 2) ⌝ }
+    requires { ⌜ (w ≤ mostGroups) × (i < w) × (which < 2) ⌝ }
     ensures { λ r. ⌜ r ≡ byModel model (w * w) (w * w) 0 0 + (which * w + i) ⌝ }
 {
     by_model(model, w * w, w * w, 0, 0) + (which * w + i)
@@ -132,7 +57,7 @@ fn size_at(model: Model, w: usize, i: usize, which: usize) -> usize
 
 // Where the count of component i at list place j stands.
 fn count_at(lens: [u8; COMPONENTS], ng: usize, i: usize, j: usize) -> usize
-    requires { ⌜ (ng ≤ 32) × (i ≤ 12) × (j ≤ 12) × (start lens i ≤ 144) ⌝ }
+    requires { ⌜ (ng ≤ mostGroups) × (i ≤ mostComponents) × (j ≤ mostListed) × (start lens i ≤ mostPlaces) ⌝ }
     ensures { λ r. ⌜ r ≡ countsAt ng + (start lens i + j) ⌝ }
 {
     let before = models::groups::start_of(&lens[..], i);

@@ -4,6 +4,7 @@ ghost use mathlib.Core.Bool.{not, _&&_, cond};
 ghost use Prim.Native.Nat.{_+_, _*_, _≤_};
 ghost use lib.Dec.{leb, ltb, eqb};
 ghost use lib.ListN.{length};
+ghost use Rattle.models.specs.Limits.{mostGroups};
 ghost use Rattle.mixture.specs.Lists.{written};
 ghost use Rattle.mixture.specs.steps.Blocks.{inBlock};
 
@@ -39,7 +40,7 @@ fn skipped(w: usize, diagonal: bool, i: usize) -> usize
 
 // Writes 0 to the marks of the block's cells in rows of w, those of the diagonal only where it has cells.
 pub fn stale(marks: &mut [u8], w: usize, diagonal: bool, block: Block)
-    requires { ⌜ (1 ≤ w) × (w ≤ 32) × (block .top + block .rows ≤ w) × (block .left + block .columns ≤ w) × (w * w ≤ length (now marks)) ⌝ }
+    requires { ⌜ (1 ≤ w) × (w ≤ mostGroups) × (block .top + block .rows ≤ w) × (block .left + block .columns ≤ w) × (w * w ≤ length (now marks)) ⌝ }
     ensures { λ _. ⌜ now (marks .exit) ≡ written (inBlock w diagonal block) (λ c. 0) (now (marks .entry)) ⌝ }
 {
     let bottom = block.top + block.rows;

@@ -1,4 +1,4 @@
-pub mod ListLaws
+pub mod GroupListLaws
 pub mod UnifacLaws
 pub mod AnswerLaws
 pub mod ExponentialLaws

@@ -18,7 +18,7 @@ use Rattle.arithmetic.proofs.SumLaws.{sum-same}
 use Rattle.arithmetic.proofs.TableLaws.{from-at, cell-lt, Filling}
 use Rattle.models.specs.declared.answers.Quantity.{Quantity}
 use Rattle.models.specs.declared.answers.Quantity.the-variants.{LnGamma, Gamma, ExcessGibbs}
-use Rattle.models.specs.Answers.{indexFault}
+use Rattle.models.specs.Faults.{indexFault}
 use Rattle.models.specs.Columns.{unitAt, unitDiagonal, columnSum}
 use Rattle.models.specs.Exponentials.{nonrandomness}
 use Rattle.models.specs.Nrtl.{tauAt, tau, numerator, lnGamma, excess, nrtl, nrtlAt}

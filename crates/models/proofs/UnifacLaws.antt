@@ -19,16 +19,17 @@ use Rattle.arithmetic.proofs.TableLaws.{row-end, filled-as, filled-cell, from-a
 use Rattle.models.specs.declared.answers.Quantity.{Quantity}
 use Rattle.models.specs.declared.answers.Quantity.the-variants.{LnGamma, Gamma, ExcessGibbs}
 use Rattle.models.specs.declared.unifac.Shared.{Shared}
-use Rattle.models.specs.Answers.{indexFault, quantity}
+use Rattle.models.specs.Answers.{quantity}
+use Rattle.models.specs.Faults.{indexFault}
 use Rattle.models.specs.Columns.{columnSum}
 use Rattle.models.specs.Exponentials.{groupEnergy}
-use Rattle.models.specs.Lists.{Listed, Loaded, Named}
+use Rattle.models.specs.steps.GroupLists.{Listed, Loaded, Named}
 use Rattle.models.specs.Unifac.{Groups, size, sizeSum, combinatorial, combinatorialBy, counts, amount, amounts, fraction, pureCount, pureFraction, theta, lnGroup, mixed, pure, residual, lnGamma, excess, unifac, unifacAt}
-use Rattle.models.specs.UnifacSteps.{psiBy, Shares, lnFrom}
+use Rattle.models.specs.steps.Unifac.{psiBy, Shares, lnFrom}
 use Rattle.models.specs.Values.{fiveAt, countsAt, groupRs, groupQs, groupAs, lists}
 use Rattle.models.proofs.AnswerLaws.{quantity-ln, quantity-gamma, quantity-excess, quantity-same}
 use Rattle.models.proofs.ParameterLaws.{five-from}
-use Rattle.models.proofs.ListLaws.{listed-less, list-group}
+use Rattle.models.proofs.GroupListLaws.{listed-less, list-group}
 
 -- ---- an exponential
 

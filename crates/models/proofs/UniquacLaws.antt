@@ -13,10 +13,10 @@ use Rattle.arithmetic.specs.Tables.{at, grid, from, flat, Filled}
 use Rattle.arithmetic.proofs.SumLaws.{sum-same}
 use Rattle.arithmetic.proofs.TableLaws.{filled-as, filled-cell, from-at, Filling}
 use Rattle.models.specs.declared.answers.Quantity.{Quantity}
-use Rattle.models.specs.Answers.{indexFault}
+use Rattle.models.specs.Faults.{indexFault}
 use Rattle.models.specs.Columns.{unitAt, columnSum}
 use Rattle.models.specs.Exponentials.{energy}
-use Rattle.models.specs.Shared.{UniquacShared}
+use Rattle.models.specs.steps.Uniquac.{UniquacShared}
 use Rattle.models.specs.Uniquac.{Z, tau, share, l, segmentRatio, areaRatio, combinatorial, residual, lnGamma, excess, uniquac, uniquacAt}
 use Rattle.models.specs.Values.{energies, rs, qs}
 use Rattle.models.proofs.AnswerLaws.{quantity-same}

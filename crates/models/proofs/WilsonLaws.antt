@@ -14,7 +14,7 @@ use Rattle.arithmetic.specs.Tables.{at, grid, from, flat, Filled, upTo}
 use Rattle.arithmetic.proofs.SumLaws.{fold-same, sum-same}
 use Rattle.arithmetic.proofs.TableLaws.{from-at, filled-cell, upto-below, Filling}
 use Rattle.models.specs.declared.answers.Quantity.{Quantity}
-use Rattle.models.specs.Answers.{indexFault}
+use Rattle.models.specs.Faults.{indexFault}
 use Rattle.models.specs.Exponentials.{energy}
 use Rattle.models.specs.Values.{energies, volumes}
 use Rattle.models.specs.Wilson.{lambda, rowSum, lnGamma, excess, wilson, wilsonAt}

@@ -8,7 +8,7 @@ use lib.Ieee.{Float, nan, fin, add, sub, neg, lt, round}
 use Rattle.arithmetic.specs.Floats.{_⊕_, abs, dec, +0, one, two, half}
 use Rattle.arithmetic.specs.Sums.{fold, sum, total}
 use Rattle.arithmetic.proofs.WorkedValues.{worked}
-use Rattle.models.specs.Composition.{tolerance, sumFault, compositionFault}
+use Rattle.models.specs.Faults.{tolerance, sumFault, compositionFault}
 use Rattle.models.specs.WorkedValues.{Worked}
 
 -- a composition of two, its sum step by step

@@ -34,12 +34,6 @@ unfoldable pub firstTo : ℕ → (ℕ → ℕ) → ℕ
 firstTo zero f = 0
 firstTo (suc n) f = first (firstTo n f) (f n)
 
--- 7: no component i (the excess energy has no i)
-unfoldable pub indexFault : ℕ → Quantity → ℕ
-indexFault n (LnGamma i) = cond (ltb i n) 0 7
-indexFault n (Gamma i) = cond (ltb i n) 0 7
-indexFault n ExcessGibbs = 0
-
 -- the quantity, from ln γ of each component and the excess energy; γ is exp(ln γ)
 unfoldable pub quantity : Quantity → Vector → Float → Float
 quantity (LnGamma i) lnGamma excess = lnGamma i

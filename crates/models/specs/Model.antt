@@ -1,7 +1,11 @@
 -- The four models, and what goes by them.
 use mathlib.Core.Bool.{cond}
+use mathlib.Core.List.{List}
 use Prim.Native.Nat.{ℕ}
 use lib.Dec.{eqb}
+use lib.Ieee.{Float}
+use denote.Ref.{RefT, now}
+use denote.Triple.Both.{Both}
 use Rattle.models.specs.declared.model.Model.{Model}
 use Rattle.models.specs.declared.model.Model.the-variants.{Wilson, Uniquac, Nrtl, Unifac}
 
@@ -15,3 +19,17 @@ byModel Unifac a b c d = d
 -- the model of a number from 1 to 4, a head's or a kind's
 unfoldable pub modelOf : ℕ → Model
 modelOf k = cond (eqb k 1) Wilson (cond (eqb k 2) Uniquac (cond (eqb k 3) Nrtl Unifac))
+
+-- what a load brings: values in the strip's order, groups list after list
+pub record ModelData : Type 0 where
+  pub model : Model
+  pub n : ℕ
+  pub ng : ℕ
+  pub lens : List ℕ
+  pub groups : List ℕ
+  pub values : List Float
+
+-- the data in a call's arguments
+abbrev pub given : {A B C : Type 0} → Model → ℕ → ℕ → Both (RefT (List ℕ)) A → Both (RefT (List ℕ)) B → Both (RefT (List Float)) C → ModelData
+given m n ng lens groups values =
+    record { model = m; n = n; ng = ng; lens = now (lens .entry); groups = now (groups .entry); values = now (values .entry) }

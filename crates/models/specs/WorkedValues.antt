@@ -6,7 +6,7 @@ use lib.Ieee.{nan, inf, neg}
 use Rattle.arithmetic.specs.Floats.{_⊕_, dec, +0, one, two, half, L1, L2}
 use Rattle.arithmetic.specs.Exponential.{expOf}
 use Rattle.arithmetic.specs.Logarithm.{logOf}
-use Rattle.models.specs.Composition.{tolerance, compositionFault}
+use Rattle.models.specs.Faults.{tolerance, compositionFault}
 
 -- exp 0 = 1; exp -0 = 1; exp 709.79 infinite; exp -746 = +0; log 1 = +0; log 0 = -infinity; log -1 = NaN; log 2 = L2 + L1;
 -- the check of (0.25, 0.75) and (2, -1) passes, (0.5, 0.25) gives 6, (NaN) passes

@@ -5,6 +5,7 @@ ghost use lib.ListN.{length};
 ghost use lib.Ieee.{neg};
 ghost use Rattle.arithmetic.specs.Floats.{_⊖_, _⊘_};
 ghost use Rattle.arithmetic.specs.Tables.{at, flat, Filled};
+ghost use Rattle.models.specs.Limits.{mostComponents};
 ghost use Rattle.models.specs.Exponentials.{energy as E·energy};
 ghost use Rattle.models.specs.Values.{energies};
 
@@ -38,7 +39,7 @@ pub fn fill_arguments(row: &[f64], t: f64, n: usize, i: usize, out: &mut [f64])
 
 // Writes the table of a model whose values begin with its energies: every argument first, then exp of them all at once.
 pub fn fill_energies(values: &[f64], t: f64, n: usize, out: &mut [f64])
-    requires { ⌜ (n ≤ 12) × (n * n ≤ length (now values)) × (n * n ≤ length (now out)) ⌝ }
+    requires { ⌜ (n ≤ mostComponents) × (n * n ≤ length (now values)) × (n * n ≤ length (now out)) ⌝ }
     ensures { λ _. ⌜ Filled (flat n (E·energy (energies n (now (values .entry))) t)) (n * n) (now (out .exit)) ⌝ }
 {
     for i in 0..n {

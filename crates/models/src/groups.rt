@@ -1,21 +1,21 @@
 // UNIFAC's group lists: lens has their lengths; groups and counts stand list after list.
 ghost use mathlib.Core.Path.{_≡_};
-ghost use mathlib.Core.Bool.{true, _&&_};
 ghost use Prim.Native.Nat.{ℕ, _+_, _≤_, _<_};
-ghost use lib.Dec.{leb};
 ghost use lib.ListN.{length, getD};
 ghost use Rattle.arithmetic.specs.Floats.{_⊘_};
 ghost use Rattle.arithmetic.specs.Sums.{sum};
 ghost use Rattle.arithmetic.specs.Tables.{at, Filled};
+ghost use Rattle.models.specs.Limits.{mostComponents, mostGroups};
 ghost use Rattle.models.specs.Values.{start, countsAt, lists};
-ghost use Rattle.models.specs.Lists.{Listed, Sized, added, put};
-ghost use Rattle.models.specs.Plain.{between, allTo, listsFault, groupsFault};
+ghost use Rattle.models.specs.steps.GroupLists.{Listed, added, put};
 ghost use Rattle.models.specs.Unifac.{size as Unifac·size, amount as Unifac·amount, amounts as Unifac·amounts, residual as Unifac·residual};
 ghost use Rattle.models.specs.Unifac.{fraction, pureFraction};
+use crate::limits::COMPONENTS;
+use crate::limits::GROUPS;
 
 // How many places stand before the list of component i.
 pub fn start_of(lens: &[u8], i: usize) -> usize
-    requires { ⌜ (i ≤ length (now lens)) × (i ≤ 12) ⌝ }
+    requires { ⌜ (i ≤ length (now lens)) × (i ≤ mostComponents) ⌝ }
     ensures { λ r. ⌜ r ≡ start (now (lens .entry)) i ⌝ }
 {
     let mut s = 0;
@@ -27,7 +27,7 @@ pub fn start_of(lens: &[u8], i: usize) -> usize
 
 // r_i for s = R, q_i for s = Q: the sum of count·s over the list of i.
 fn size(lens: &[u8], groups: &[u8], counts: &[f64], s: &[f64], i: usize) -> f64
-    requires { ⌜ (Listed (i + 1) (length (now s)) (now lens) (now groups) (now counts)) × (i < 12) ⌝ }
+    requires { ⌜ (Listed (i + 1) (length (now s)) (now lens) (now groups) (now counts)) × (i < mostComponents) ⌝ }
     ensures { λ r. ⌜ r ≡ Unifac·size (lists (now (lens .entry)) (now (groups .entry)) (now (counts .entry))) (at (now (s .entry))) i ⌝ }
 {
     let start = start_of(lens, i);
@@ -42,11 +42,11 @@ fn size(lens: &[u8], groups: &[u8], counts: &[f64], s: &[f64], i: usize) -> f64
 }
 
 // The size of each component.
-pub fn sizes(lens: &[u8], groups: &[u8], counts: &[f64], s: &[f64], n: usize) -> [f64; 12]
-    requires { ⌜ (Listed n (length (now s)) (now lens) (now groups) (now counts)) × (n ≤ 12) ⌝ }
+pub fn sizes(lens: &[u8], groups: &[u8], counts: &[f64], s: &[f64], n: usize) -> [f64; COMPONENTS]
+    requires { ⌜ (Listed n (length (now s)) (now lens) (now groups) (now counts)) × (n ≤ mostComponents) ⌝ }
     ensures { λ r. ⌜ Filled (Unifac·size (lists (now (lens .entry)) (now (groups .entry)) (now (counts .entry))) (at (now (s .entry)))) n r ⌝ }
 {
-    let mut sizes = [0.0; 12];
+    let mut sizes = [0.0; COMPONENTS];
     for i in 0..n {
         sizes[i] = size(lens, groups, counts, s, i);
     }
@@ -55,7 +55,7 @@ pub fn sizes(lens: &[u8], groups: &[u8], counts: &[f64], s: &[f64], n: usize) ->
 
 // All counts of component i.
 fn count_sum(lens: &[u8], counts: &[f64], i: usize) -> f64
-    requires { ⌜ (i + 1 ≤ length (now lens)) × (start (now lens) (i + 1) ≤ length (now counts)) × (i < 12) ⌝ }
+    requires { ⌜ (i + 1 ≤ length (now lens)) × (start (now lens) (i + 1) ≤ length (now counts)) × (i < mostComponents) ⌝ }
     ensures { λ r. ⌜ r ≡ sum (getD (now (lens .entry)) i 0) (λ p. at (now (counts .entry)) (start (now (lens .entry)) i + p)) ⌝ }
 {
     let start = start_of(lens, i);
@@ -65,7 +65,7 @@ fn count_sum(lens: &[u8], counts: &[f64], i: usize) -> f64
 
 // The sum over the components of x_i times all its counts.
 fn amounts(lens: &[u8], groups: &[u8], counts: &[f64], x: &[f64], n: usize) -> f64
-    requires { ⌜ (Listed n 32 (now lens) (now groups) (now counts)) × (n ≤ 12) × (n ≤ length (now x)) ⌝ }
+    requires { ⌜ (Listed n mostGroups (now lens) (now groups) (now counts)) × (n ≤ mostComponents) × (n ≤ length (now x)) ⌝ }
     ensures { λ r. ⌜ r ≡ Unifac·amounts n (lists (now (lens .entry)) (now (groups .entry)) (now (counts .entry))) (at (now (x .entry))) ⌝ }
 {
     let mut s = 0.0;
@@ -77,7 +77,7 @@ fn amounts(lens: &[u8], groups: &[u8], counts: &[f64], x: &[f64], n: usize) -> f
 
 // Adds x·count to the group's number, for each place of the list of i in turn.
 fn add_counts(lens: &[u8], groups: &[u8], counts: &[f64], x: f64, i: usize, num: &mut [f64])
-    requires { ⌜ (Listed (i + 1) (length (now num)) (now lens) (now groups) (now counts)) × (i < 12) ⌝ }
+    requires { ⌜ (Listed (i + 1) (length (now num)) (now lens) (now groups) (now counts)) × (i < mostComponents) ⌝ }
     ensures { λ _. ⌜ Filled (λ k. added (lists (now (lens .entry)) (now (groups .entry)) (now (counts .entry))) x i k (at (now (num .entry)) k)) (length (now (num .entry))) (now (num .exit)) ⌝ }
 {
     let start = start_of(lens, i);
@@ -91,7 +91,7 @@ fn add_counts(lens: &[u8], groups: &[u8], counts: &[f64], x: f64, i: usize, num:
 
 // Writes the count of each place of the list of i to its group's number, the last for a group listed twice.
 fn put_counts(lens: &[u8], groups: &[u8], counts: &[f64], i: usize, num: &mut [f64])
-    requires { ⌜ (Listed (i + 1) (length (now num)) (now lens) (now groups) (now counts)) × (i < 12) ⌝ }
+    requires { ⌜ (Listed (i + 1) (length (now num)) (now lens) (now groups) (now counts)) × (i < mostComponents) ⌝ }
     ensures { λ _. ⌜ Filled (λ k. put (lists (now (lens .entry)) (now (groups .entry)) (now (counts .entry))) i k (at (now (num .entry)) k)) (length (now (num .entry))) (now (num .exit)) ⌝ }
 {
     let start = start_of(lens, i);
@@ -104,11 +104,11 @@ fn put_counts(lens: &[u8], groups: &[u8], counts: &[f64], i: usize, num: &mut [f
 }
 
 // The sum of x_i·count for each group.
-fn amount(lens: &[u8], groups: &[u8], counts: &[f64], x: &[f64], n: usize) -> [f64; 32]
-    requires { ⌜ (Listed n 32 (now lens) (now groups) (now counts)) × (n ≤ 12) × (n ≤ length (now x)) ⌝ }
+fn amount(lens: &[u8], groups: &[u8], counts: &[f64], x: &[f64], n: usize) -> [f64; GROUPS]
+    requires { ⌜ (Listed n mostGroups (now lens) (now groups) (now counts)) × (n ≤ mostComponents) × (n ≤ length (now x)) ⌝ }
     ensures { λ r. ⌜ Filled (Unifac·amount n (lists (now (lens .entry)) (now (groups .entry)) (now (counts .entry))) (at (now (x .entry)))) 32 r ⌝ }
 {
-    let mut num = [0.0; 32];
+    let mut num = [0.0; GROUPS];
     for i in 0..n {
         add_counts(lens, groups, counts, x[i], i, &mut num[..]);
     }
@@ -116,11 +116,11 @@ fn amount(lens: &[u8], groups: &[u8], counts: &[f64], x: &[f64], n: usize) -> [f
 }
 
 // The first ng numbers over d.
-fn over(num: &[f64], d: f64, ng: usize) -> [f64; 32]
-    requires { ⌜ (ng ≤ 32) × (ng ≤ length (now num)) ⌝ }
+fn over(num: &[f64], d: f64, ng: usize) -> [f64; GROUPS]
+    requires { ⌜ (ng ≤ mostGroups) × (ng ≤ length (now num)) ⌝ }
     ensures { λ r. ⌜ Filled (λ k. at (now (num .entry)) k ⊘ d) ng r ⌝ }
 {
-    let mut xg = [0.0; 32];
+    let mut xg = [0.0; GROUPS];
     for g in 0..ng {
         xg[g] = num[g] / d;
     }
@@ -135,8 +135,8 @@ pub fn group_fractions(
     x: &[f64],
     n: usize,
     ng: usize,
-) -> [f64; 32]
-    requires { ⌜ (Listed n 32 (now lens) (now groups) (now counts)) × (n ≤ 12) × (n ≤ length (now x)) × (ng ≤ 32) ⌝ }
+) -> [f64; GROUPS]
+    requires { ⌜ (Listed n mostGroups (now lens) (now groups) (now counts)) × (n ≤ mostComponents) × (n ≤ length (now x)) × (ng ≤ mostGroups) ⌝ }
     ensures { λ r. ⌜ Filled (fraction n (lists (now (lens .entry)) (now (groups .entry)) (now (counts .entry))) (at (now (x .entry)))) ng r ⌝ }
 {
     let denom = amounts(lens, groups, counts, x, n);
@@ -144,7 +144,7 @@ pub fn group_fractions(
         let num = amount(lens, groups, counts, x, n);
         return over(&num[..], denom, ng);
     }
-    [0.0; 32]
+    [0.0; GROUPS]
 }
 
 // X of each group in pure component i.
@@ -154,11 +154,11 @@ pub fn group_fractions_pure(
     counts: &[f64],
     ng: usize,
     i: usize,
-) -> [f64; 32]
-    requires { ⌜ (Listed (i + 1) 32 (now lens) (now groups) (now counts)) × (i < 12) × (ng ≤ 32) ⌝ }
+) -> [f64; GROUPS]
+    requires { ⌜ (Listed (i + 1) mostGroups (now lens) (now groups) (now counts)) × (i < mostComponents) × (ng ≤ mostGroups) ⌝ }
     ensures { λ r. ⌜ Filled (pureFraction (lists (now (lens .entry)) (now (groups .entry)) (now (counts .entry))) i) ng r ⌝ }
 {
-    let mut num = [0.0; 32];
+    let mut num = [0.0; GROUPS];
     put_counts(lens, groups, counts, i, &mut num[..]);
     let tot = count_sum(lens, counts, i);
     over(&num[..], tot, ng)
@@ -166,7 +166,7 @@ pub fn group_fractions_pure(
 
 // The sum of count·(m - p) over the list of i: m has ln Γ in the mixture, p in pure i.
 pub fn residual(lens: &[u8], groups: &[u8], counts: &[f64], m: &[f64], p: &[f64], i: usize) -> f64
-    requires { ⌜ (Listed (i + 1) (length (now m)) (now lens) (now groups) (now counts)) × (i < 12) × (length (now m) ≤ length (now p)) ⌝ }
+    requires { ⌜ (Listed (i + 1) (length (now m)) (now lens) (now groups) (now counts)) × (i < mostComponents) × (length (now m) ≤ length (now p)) ⌝ }
     ensures { λ r. ⌜ r ≡ Unifac·residual (lists (now (lens .entry)) (now (groups .entry)) (now (counts .entry))) (at (now (m .entry))) (λ j. at (now (p .entry))) i ⌝ }
 {
     let start = start_of(lens, i);
@@ -182,80 +182,8 @@ pub fn residual(lens: &[u8], groups: &[u8], counts: &[f64], m: &[f64], p: &[f64]
 
 // Where the counts stand among the values.
 pub fn counts_at(ng: usize) -> usize
-    requires { ⌜ ng ≤ 32 ⌝ }
+    requires { ⌜ ng ≤ mostGroups ⌝ }
     ensures { λ r. ⌜ (r ≡ countsAt ng) × (r ≤ 5184) ⌝ }
 {
     ng + ng + ng * ng * 5
-}
-
-// Whether none of the first n lists is over 12.
-pub fn none_over_12(lens: &[u8], n: usize) -> bool
-    requires { ⌜ n ≤ length (now lens) ⌝ }
-    ensures { λ r. ⌜ r ≡ allTo n (λ i. leb (getD (now (lens .entry)) i 0) 12) ⌝ }
-{
-    for i in 0..n {
-        if 12 < lens[i] {
-            return false;
-        }
-    }
-    true
-}
-
-// Whether n is within 1–12 and ng within 1–32.
-fn in_range(n: usize, ng: usize) -> bool
-    ensures { λ r. ⌜ (r ≡ between 1 12 n && between 1 32 ng) × (r ≡ true → (1 ≤ n) × (n ≤ 12) × (1 ≤ ng) × (ng ≤ 32)) ⌝ }
-{
-    if n < 1 {
-        return false;
-    }
-    if 12 < n {
-        return false;
-    }
-    if ng < 1 {
-        return false;
-    }
-    if 32 < ng {
-        return false;
-    }
-    true
-}
-
-// 2: n outside 1–12, ng outside 1–32, a list over 12, or a slice of the wrong length.
-pub fn lists_fault(n: usize, ng: usize, lens: &[u8], groups: &[u8], values: &[f64]) -> u8
-    ensures { λ r. ⌜ (r ≡ listsFault n ng (now (lens .entry)) (now (groups .entry)) (now (values .entry))) × (r ≡ 0 → Sized n ng (now (lens .entry)) (now (groups .entry)) (now (values .entry))) ⌝ }
-{
-    if !in_range(n, ng) {
-        return 2;
-    }
-    if lens.len() != n {
-        return 2;
-    }
-    if !none_over_12(lens, n) {
-        return 2;
-    }
-    let places = start_of(lens, n);
-    if groups.len() != places {
-        return 2;
-    }
-    let size = counts_at(ng) + places;
-    if values.len() != size {
-        return 2;
-    }
-    0
-}
-
-// The first place at fault decides: 3, its group is ng or more; 4, its count is below 0.
-pub fn groups_fault(ng: usize, groups: &[u8], counts: &[f64]) -> u8
-    requires { ⌜ length (now groups) ≤ length (now counts) ⌝ }
-    ensures { λ r. ⌜ (r ≡ groupsFault ng (now (groups .entry)) (now (counts .entry))) × (r ≡ 0 → ((p : ℕ) → p < length (now (groups .entry)) → getD (now (groups .entry)) p 0 < ng)) ⌝ }
-{
-    for p in 0..groups.len() {
-        if ng <= (groups[p] as usize) {
-            return 3;
-        }
-        if counts[p] < 0.0 {
-            return 4;
-        }
-    }
-    0
 }

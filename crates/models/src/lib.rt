@@ -1,10 +1,10 @@
 // Four activity-coefficient models: Wilson, UNIQUAC, NRTL and UNIFAC. Document 01, "Models".
 pub mod answers;
 pub mod columns;
-pub mod composition;
 pub mod exponentials;
 pub mod faults;
 pub mod groups;
+pub mod limits;
 pub mod model;
 pub mod nrtl;
 pub mod parameters;

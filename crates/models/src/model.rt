@@ -1,7 +1,20 @@
 // The four models, and what goes by them.
 ghost use mathlib.Core.Path.{_≡_};
 ghost use mathlib.Core.Bool.{true, false};
-ghost use Rattle.models.specs.Model.{byModel, modelOf};
+ghost use Prim.Native.Nat.{_≤_};
+ghost use lib.ListN.{length};
+ghost use Rattle.arithmetic.specs.Tables.{at};
+ghost use Rattle.models.specs.Faults.{indexFault};
+ghost use Rattle.models.specs.Model.{byModel, modelOf, given};
+ghost use Rattle.models.specs.Plain.{valueAt, plainCall};
+ghost use Rattle.models.specs.steps.Model.{Ready};
+use crate::answers::Answer;
+use crate::answers::Quantity;
+use crate::faults;
+use crate::nrtl;
+use crate::unifac;
+use crate::uniquac;
+use crate::wilson;
 
 pub enum Model {
     Wilson,
@@ -10,8 +23,8 @@ pub enum Model {
     Unifac,
 }
 
-// The model of a head's number from 1 to 4.
-pub fn model_of(k: u8) -> Model
+// The model of a number from 1 to 4: a record's or an exported call's.
+pub fn model_numbered(k: usize) -> Model
     ensures { λ r. ⌜ r ≡ modelOf k ⌝ }
 {
     if k == 1 {
@@ -24,6 +37,13 @@ pub fn model_of(k: u8) -> Model
         return Model::Nrtl;
     }
     Model::Unifac
+}
+
+// The same of a head's.
+pub fn model_of(k: u8) -> Model
+    ensures { λ r. ⌜ r ≡ modelOf k ⌝ }
+{
+    model_numbered(k as usize)
 }
 
 // One of four, by the model.
@@ -48,4 +68,54 @@ pub fn has_diagonal(model: Model) -> bool
         Model::Nrtl => false,
         Model::Unifac => true,
     }
+}
+
+// The quantity at T.
+pub fn value_at(
+    model: Model,
+    n: usize,
+    ng: usize,
+    lens: &[u8],
+    groups: &[u8],
+    values: &[f64],
+    t: f64,
+    x: &[f64],
+    q: Quantity,
+) -> f64
+    requires { ⌜ Ready (record { model = model; n = n; ng = ng; lens = now lens; groups = now groups; values = now values })
+        × (n ≤ length (now x))
+        × (indexFault n q ≡ 0) ⌝ }
+    ensures { λ r. ⌜ r ≡ valueAt (given model n ng lens groups values) t (at (now (x .entry))) q ⌝ }
+{
+    match model {
+        Model::Wilson => wilson::value_at(n, values, t, x, q),
+        Model::Uniquac => uniquac::value_at(n, values, t, x, q),
+        Model::Nrtl => nrtl::value_at(n, values, t, x, q),
+        Model::Unifac => unifac::value_at(n, ng, lens, groups, values, t, x, q),
+    }
+}
+
+// The plain call.
+pub fn plain(
+    model: Model,
+    n: usize,
+    ng: usize,
+    lens: &[u8],
+    groups: &[u8],
+    values: &[f64],
+    t: f64,
+    x: &[f64],
+    q: Quantity,
+) -> Answer
+    ensures { λ r. ⌜ r ≡ plainCall (given model n ng lens groups values) t (now (x .entry)) q ⌝ }
+{
+    let fault = faults::data_fault(model, n, ng, lens, groups, values);
+    if fault != 0 {
+        return Answer::Refused(fault);
+    }
+    let fault = faults::fractions_fault(n, x, q);
+    if fault != 0 {
+        return Answer::Refused(fault);
+    }
+    Answer::Value(value_at(model, n, ng, lens, groups, values, t, x, q))
 }

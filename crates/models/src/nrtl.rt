@@ -7,7 +7,8 @@ ghost use Rattle.arithmetic.specs.Exponential.{expOf};
 ghost use Rattle.arithmetic.specs.Parameters.{tdAt};
 ghost use Rattle.arithmetic.specs.Floats.{_⊕_, _⊖_, _⊗_, _⊘_, +0};
 ghost use Rattle.arithmetic.specs.Tables.{at, grid, Filled, upTo};
-ghost use Rattle.models.specs.Answers.{indexFault};
+ghost use Rattle.models.specs.Limits.{mostComponents};
+ghost use Rattle.models.specs.Faults.{indexFault};
 ghost use Rattle.models.specs.Columns.{unitAt, unitDiagonal, columnSum};
 ghost use Rattle.models.specs.Nrtl.{tauAt, numerator, nrtl, nrtlAt};
 ghost use Rattle.models.specs.Plain.{nrtlPlain};
@@ -17,11 +18,15 @@ ghost use Rattle.arithmetic.specs.Sums.{sum};
 use crate::answers::Answer;
 use crate::answers::Quantity;
 use crate::columns;
+use crate::limits::COMPONENTS;
+use crate::limits::PAIRS;
+use crate::model::Model;
+use crate::model::plain;
 use crate::parameters;
 
 // How many values n components have: τ by rows, five each, α. Past 12, which `shape_fault` refuses, it answers 0.
 pub fn size(n: usize) -> usize
-    ensures { λ r. ⌜ (n ≤ 12 → r ≡ nrtlSize n) ⌝ }
+    ensures { λ r. ⌜ (n ≤ mostComponents → r ≡ nrtlSize n) ⌝ }
 {
     if 12 < n {
         return 0;
@@ -31,7 +36,7 @@ pub fn size(n: usize) -> usize
 
 // τ at T, by rows of n: the five of entry k stand from place 5·k on.
 pub fn fill_taus(n: usize, values: &[f64], t: f64, out: &mut [f64])
-    requires { ⌜ (n ≤ 12) × (nrtlSize n ≤ length (now values)) × (n * n ≤ length (now out)) ⌝ }
+    requires { ⌜ (n ≤ mostComponents) × (nrtlSize n ≤ length (now values)) × (n * n ≤ length (now out)) ⌝ }
     ensures { λ _. ⌜ Filled (λ k. tdAt (fiveAt (now (values .entry)) (k * 5)) t) (n * n) (now (out .exit)) ⌝ }
 {
     parameters::fill_values(values, n * n, t, out);
@@ -106,10 +111,10 @@ fn column_sums(n: usize, tau: &[f64], g: &[f64], x: &[f64], u: &mut [f64], d: &m
 // The second sum of ln γ_i; tau and g are row i of their tables, u the numerators and d the
 // denominators. The terms run without a test for the diagonal, then its own is put right.
 fn second(n: usize, tau: &[f64], g: &[f64], u: &[f64], d: &[f64], x: &[f64], i: usize) -> f64
-    requires { ⌜ (n ≤ length (now tau)) × (n ≤ length (now g)) × (n ≤ length (now u)) × (n ≤ length (now d)) × (n ≤ length (now x)) × (i < n) × (n ≤ 12) ⌝ }
+    requires { ⌜ (n ≤ length (now tau)) × (n ≤ length (now g)) × (n ≤ length (now u)) × (n ≤ length (now d)) × (n ≤ length (now x)) × (i < n) × (n ≤ mostComponents) ⌝ }
     ensures { λ r. ⌜ r ≡ sum n (λ j. at (now (x .entry)) j ⊗ unitAt i (at (now (g .entry))) j ⊘ at (now (d .entry)) j ⊗ (tauAt i (at (now (tau .entry))) j ⊖ at (now (u .entry)) j ⊘ at (now (d .entry)) j)) ⌝ }
 {
-    let mut terms = [0.0; 12];
+    let mut terms = [0.0; COMPONENTS];
     for j in 0..n {
         terms[j] = x[j] * g[j] / d[j] * (tau[j] - u[j] / d[j]);
     }
@@ -119,7 +124,7 @@ fn second(n: usize, tau: &[f64], g: &[f64], u: &[f64], d: &[f64], x: &[f64], i: 
 
 // ln γ_i, u being the numerators and d the denominators.
 fn ln_gamma(n: usize, tau: &[f64], g: &[f64], u: &[f64], d: &[f64], x: &[f64], i: usize) -> f64
-    requires { ⌜ (n ≤ 12) × (i < n) × (n * n ≤ length (now tau)) × (n * n ≤ length (now g)) × (n ≤ length (now u)) × (n ≤ length (now d)) × (n ≤ length (now x)) ⌝ }
+    requires { ⌜ (n ≤ mostComponents) × (i < n) × (n * n ≤ length (now tau)) × (n * n ≤ length (now g)) × (n ≤ length (now u)) × (n ≤ length (now d)) × (n ≤ length (now x)) ⌝ }
     ensures { λ r. ⌜ r ≡ at (now (u .entry)) i ⊘ at (now (d .entry)) i ⊕ sum n (λ j. at (now (x .entry)) j ⊗ unitDiagonal (grid n (now (g .entry))) i j ⊘ at (now (d .entry)) j ⊗ (Nrtl·tau (grid n (now (tau .entry))) i j ⊖ at (now (u .entry)) j ⊘ at (now (d .entry)) j)) ⌝ }
 {
     let start = i * n;
@@ -141,11 +146,11 @@ fn excess_by(n: usize, u: &[f64], d: &[f64], x: &[f64]) -> f64
 // The value over a table of τ at T and one of exponentials, both by rows of n; what stands on their
 // diagonals doesn't count.
 pub fn value_over(n: usize, tau: &[f64], g: &[f64], x: &[f64], q: Quantity) -> f64
-    requires { ⌜ (n ≤ 12) × (n * n ≤ length (now tau)) × (n * n ≤ length (now g)) × (n ≤ length (now x)) × (indexFault n q ≡ 0) ⌝ }
+    requires { ⌜ (n ≤ mostComponents) × (n * n ≤ length (now tau)) × (n * n ≤ length (now g)) × (n ≤ length (now x)) × (indexFault n q ≡ 0) ⌝ }
     ensures { λ r. ⌜ r ≡ nrtl n (grid n (now (tau .entry))) (grid n (now (g .entry))) (at (now (x .entry))) q ⌝ }
 {
-    let mut u = [0.0; 12];
-    let mut d = [0.0; 12];
+    let mut u = [0.0; COMPONENTS];
+    let mut d = [0.0; COMPONENTS];
     column_sums(n, tau, g, x, &mut u[..], &mut d[..]);
     match q {
         Quantity::LnGamma(i) => ln_gamma(n, tau, g, &u[..], &d[..], x, i),
@@ -156,42 +161,62 @@ pub fn value_over(n: usize, tau: &[f64], g: &[f64], x: &[f64], q: Quantity) -> f
 
 // The quantity at T, from the values.
 pub fn value_at(n: usize, values: &[f64], t: f64, x: &[f64], q: Quantity) -> f64
-    requires { ⌜ (n ≤ 12) × (nrtlSize n ≤ length (now values)) × (n ≤ length (now x)) × (indexFault n q ≡ 0) ⌝ }
+    requires { ⌜ (n ≤ mostComponents) × (nrtlSize n ≤ length (now values)) × (n ≤ length (now x)) × (indexFault n q ≡ 0) ⌝ }
     ensures { λ r. ⌜ r ≡ nrtlAt n (taus n (now (values .entry))) (alphas n (now (values .entry))) t (at (now (x .entry))) q ⌝ }
 {
-    let mut tau = [0.0; 144];
+    let mut tau = [0.0; PAIRS];
     fill_taus(n, values, t, &mut tau[..]);
     let at = n * n * 5;
-    let mut g = [0.0; 144];
+    let mut g = [0.0; PAIRS];
     fill_exponentials(&values[at..], &tau[..], n * n, &mut g[..]);
     value_over(n, &tau[..], &g[..], x, q)
 }
 
-// The plain call: the values are τ by rows, five each, then α by rows.
-pub fn plain(n: usize, values: &[f64], t: f64, x: &[f64], q: Quantity) -> Answer
-    ensures { λ r. ⌜ r ≡ nrtlPlain n (now (values .entry)) t (now (x .entry)) q ⌝ }
-{
-    let fault = crate::faults::plain_fault(n, size(n), values, x, q);
-    if fault != 0 {
-        return Answer::Refused(fault);
-    }
-    Answer::Value(value_at(n, values, t, x, q))
-}
-
+// The plain calls: the values are τ by rows, five each, then α.
 pub fn ln_gamma_at(n: usize, values: &[f64], t: f64, x: &[f64], i: usize) -> Answer
     ensures { λ r. ⌜ r ≡ nrtlPlain n (now (values .entry)) t (now (x .entry)) (Quantity.LnGamma i) ⌝ }
 {
-    plain(n, values, t, x, Quantity::LnGamma(i))
+    plain(
+        Model::Nrtl,
+        n,
+        0,
+        &[],
+        &[],
+        values,
+        t,
+        x,
+        Quantity::LnGamma(i),
+    )
 }
 
 pub fn gamma_at(n: usize, values: &[f64], t: f64, x: &[f64], i: usize) -> Answer
     ensures { λ r. ⌜ r ≡ nrtlPlain n (now (values .entry)) t (now (x .entry)) (Quantity.Gamma i) ⌝ }
 {
-    plain(n, values, t, x, Quantity::Gamma(i))
+    plain(
+        Model::Nrtl,
+        n,
+        0,
+        &[],
+        &[],
+        values,
+        t,
+        x,
+        Quantity::Gamma(i),
+    )
 }
 
 pub fn reduced_excess_gibbs_at(n: usize, values: &[f64], t: f64, x: &[f64]) -> Answer
     ensures { λ r. ⌜ r ≡ nrtlPlain n (now (values .entry)) t (now (x .entry)) Quantity.ExcessGibbs ⌝ }
 {
-    plain(n, values, t, x, Quantity::ExcessGibbs)
+    plain(
+        Model::Nrtl,
+        n,
+        0,
+        &[],
+        &[],
+        values,
+        t,
+        x,
+        Quantity::ExcessGibbs,
+    )
 }

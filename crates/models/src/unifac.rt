@@ -7,17 +7,23 @@ ghost use Rattle.arithmetic.specs.Floats.{_⊕_, _⊖_, _⊗_, _⊘_, one};
 ghost use Rattle.arithmetic.specs.Sums.{sum};
 ghost use Rattle.arithmetic.specs.Parameters.{tdAt, tdBy};
 ghost use Rattle.arithmetic.specs.Tables.{at, grid, flat, from, Filled};
-ghost use Rattle.models.specs.Answers.{indexFault};
+ghost use Rattle.models.specs.Limits.{mostComponents, mostGroups};
+ghost use Rattle.models.specs.Faults.{indexFault};
 ghost use Rattle.models.specs.Columns.{columnSum};
 ghost use Rattle.models.specs.Exponentials.{groupEnergy};
-ghost use Rattle.models.specs.Lists.{Listed, Loaded, Named};
-ghost use Rattle.models.specs.Plain.{unifacFault, unifacPlain};
+ghost use Rattle.models.specs.steps.GroupLists.{Listed, Loaded, Named};
+ghost use Rattle.models.specs.Plain.{unifacPlain};
 ghost use Rattle.models.specs.Unifac.{theta as Unifac·theta, pure as Unifac·pure, fraction, lnGroup, combinatorialBy, residual, unifac, unifacAt};
-ghost use Rattle.models.specs.UnifacSteps.{psiBy, lnFrom, Shares};
+ghost use Rattle.models.specs.steps.Unifac.{psiBy, lnFrom, Shares};
 ghost use Rattle.models.specs.Values.{fiveAt, lists, countsAt, groupRs, groupQs, groupAs};
 use crate::answers::Answer;
 use crate::answers::Quantity;
 use crate::columns;
+use crate::limits::COMPONENTS;
+use crate::limits::GROUPS;
+use crate::limits::TABLE;
+use crate::model::Model;
+use crate::model::plain;
 
 // What Ψ of column k is the exp of: row is the part of the td entries, five each, that starts at its row; ln is log(T).
 pub fn argument(row: &[f64], t: f64, ln: f64, k: usize) -> f64
@@ -49,7 +55,7 @@ fn over_t(out: &mut [f64], count: usize, t: f64)
 
 // Writes what a row of Ψ is the exp of to the first ng places of out; ln is log(T).
 pub fn fill_arguments(row: &[f64], t: f64, ln: f64, ng: usize, out: &mut [f64])
-    requires { ⌜ (ng ≤ 32) × (ng * 5 ≤ length (now row)) × (ng ≤ length (now out)) ⌝ }
+    requires { ⌜ (ng ≤ mostGroups) × (ng * 5 ≤ length (now row)) × (ng ≤ length (now out)) ⌝ }
     ensures { λ _. ⌜ Filled (λ k. neg (tdBy (fiveAt (now (row .entry)) (k * 5)) t ln) ⊘ t) ng (now (out .exit)) ⌝ }
 {
     crate::parameters::fill_values_by(row, ng, t, ln, out);
@@ -58,7 +64,7 @@ pub fn fill_arguments(row: &[f64], t: f64, ln: f64, ng: usize, out: &mut [f64])
 
 // Writes Ψ by full rows of ng: every a at T first, then exp(-a/T) of them all at once.
 fn fill_table(values: &[f64], t: f64, ng: usize, table: &mut [f64])
-    requires { ⌜ (ng ≤ 32) × (countsAt ng ≤ length (now values)) × (ng * ng ≤ length (now table)) ⌝ }
+    requires { ⌜ (ng ≤ mostGroups) × (countsAt ng ≤ length (now values)) × (ng * ng ≤ length (now table)) ⌝ }
     ensures { λ _. ⌜ Filled (flat ng (groupEnergy (λ m k. tdAt (groupAs ng (now (values .entry)) m k) t) t)) (ng * ng) (now (table .exit)) ⌝ }
 {
     let five = ng + ng;
@@ -69,12 +75,12 @@ fn fill_table(values: &[f64], t: f64, ng: usize, table: &mut [f64])
 }
 
 // Θ of each group from the group fractions.
-fn theta(q: &[f64], xg: &[f64], ng: usize) -> [f64; 32]
-    requires { ⌜ (ng ≤ 32) × (ng ≤ length (now q)) × (ng ≤ length (now xg)) ⌝ }
+fn theta(q: &[f64], xg: &[f64], ng: usize) -> [f64; GROUPS]
+    requires { ⌜ (ng ≤ mostGroups) × (ng ≤ length (now q)) × (ng ≤ length (now xg)) ⌝ }
     ensures { λ r. ⌜ Filled (Unifac·theta ng (at (now (q .entry))) (at (now (xg .entry)))) ng r ⌝ }
 {
     let qs = arithmetic::dot(q, xg, ng);
-    let mut theta = [0.0; 32];
+    let mut theta = [0.0; GROUPS];
     for g in 0..ng {
         theta[g] = q[g] * xg[g] / qs;
     }
@@ -82,11 +88,11 @@ fn theta(q: &[f64], xg: &[f64], ng: usize) -> [f64; 32]
 }
 
 // The sum of Θ_m Ψ_mk for each k, row after row.
-fn column_sums(theta: &[f64], psi: &[f64], ng: usize) -> [f64; 32]
-    requires { ⌜ (ng ≤ 32) × (ng ≤ length (now theta)) × (ng * ng ≤ length (now psi)) ⌝ }
+fn column_sums(theta: &[f64], psi: &[f64], ng: usize) -> [f64; GROUPS]
+    requires { ⌜ (ng ≤ mostGroups) × (ng ≤ length (now theta)) × (ng * ng ≤ length (now psi)) ⌝ }
     ensures { λ r. ⌜ Filled (columnSum ng (grid ng (now (psi .entry))) (at (now (theta .entry)))) ng r ⌝ }
 {
-    let mut sums = [0.0; 32];
+    let mut sums = [0.0; GROUPS];
     for m in 0..ng {
         let place = m * ng;
         columns::add_row(&psi[place..], theta[m], ng, &mut sums[..]);
@@ -96,10 +102,10 @@ fn column_sums(theta: &[f64], psi: &[f64], ng: usize) -> [f64; 32]
 
 // The sum of Θ_m row_m / denom_m: the quotients first, which don't wait for each other, then their fold.
 fn row_sum(theta: &[f64], row: &[f64], denom: &[f64], ng: usize) -> f64
-    requires { ⌜ (ng ≤ length (now theta)) × (ng ≤ length (now row)) × (ng ≤ length (now denom)) × (ng ≤ 32) ⌝ }
+    requires { ⌜ (ng ≤ length (now theta)) × (ng ≤ length (now row)) × (ng ≤ length (now denom)) × (ng ≤ mostGroups) ⌝ }
     ensures { λ r. ⌜ r ≡ sum ng (λ m. at (now (theta .entry)) m ⊗ at (now (row .entry)) m ⊘ at (now (denom .entry)) m) ⌝ }
 {
-    let mut terms = [0.0; 32];
+    let mut terms = [0.0; GROUPS];
     for m in 0..ng {
         terms[m] = theta[m] * row[m] / denom[m];
     }
@@ -116,7 +122,7 @@ fn group_gamma(
     ng: usize,
     k: usize,
 ) -> f64
-    requires { ⌜ (ng ≤ 32) × (k < ng) × (ng ≤ length (now theta)) × (ng * ng ≤ length (now psi)) × (ng ≤ length (now denom)) ⌝ }
+    requires { ⌜ (ng ≤ mostGroups) × (k < ng) × (ng ≤ length (now theta)) × (ng * ng ≤ length (now psi)) × (ng ≤ length (now denom)) ⌝ }
     ensures { λ r. ⌜ r ≡ q ⊗ (one ⊖ log ⊖ sum ng (λ m. at (now (theta .entry)) m ⊗ grid ng (now (psi .entry)) k m ⊘ at (now (denom .entry)) m)) ⌝ }
 {
     let place = k * ng;
@@ -124,14 +130,14 @@ fn group_gamma(
 }
 
 // ln Γ of each group; the column sums that every one divides by, and their logs, are worked out once.
-fn gamma_k(q: &[f64], theta: &[f64], psi: &[f64], ng: usize) -> [f64; 32]
-    requires { ⌜ (ng ≤ 32) × (ng ≤ length (now q)) × (ng ≤ length (now theta)) × (ng * ng ≤ length (now psi)) ⌝ }
+fn gamma_k(q: &[f64], theta: &[f64], psi: &[f64], ng: usize) -> [f64; GROUPS]
+    requires { ⌜ (ng ≤ mostGroups) × (ng ≤ length (now q)) × (ng ≤ length (now theta)) × (ng * ng ≤ length (now psi)) ⌝ }
     ensures { λ r. ⌜ Filled (lnGroup ng (at (now (q .entry))) (grid ng (now (psi .entry))) (at (now (theta .entry)))) ng r ⌝ }
 {
     let denom = column_sums(theta, psi, ng);
     let mut logs = denom;
     arithmetic::log_each(&mut logs[..], ng);
-    let mut gamma = [0.0; 32];
+    let mut gamma = [0.0; GROUPS];
     for k in 0..ng {
         gamma[k] = group_gamma(q[k], logs[k], theta, psi, &denom[..], ng, k);
     }
@@ -139,12 +145,12 @@ fn gamma_k(q: &[f64], theta: &[f64], psi: &[f64], ng: usize) -> [f64; 32]
 }
 
 // ln Γ of the groups named, each at its own place.
-fn gammas_of(named: &[u8], q: &[f64], theta: &[f64], psi: &[f64], ng: usize) -> [f64; 32]
-    requires { ⌜ (ng ≤ 32) × (ng ≤ length (now q)) × (ng ≤ length (now theta)) × (ng * ng ≤ length (now psi)) × ((p : ℕ) → p < length (now named) → getD (now named) p 0 < ng) ⌝ }
+fn gammas_of(named: &[u8], q: &[f64], theta: &[f64], psi: &[f64], ng: usize) -> [f64; GROUPS]
+    requires { ⌜ (ng ≤ mostGroups) × (ng ≤ length (now q)) × (ng ≤ length (now theta)) × (ng * ng ≤ length (now psi)) × ((p : ℕ) → p < length (now named) → getD (now named) p 0 < ng) ⌝ }
     ensures { λ r. ⌜ Named (length (now (named .entry))) (λ p. getD (now (named .entry)) p 0) (lnGroup ng (at (now (q .entry))) (grid ng (now (psi .entry))) (at (now (theta .entry)))) r ⌝ }
 {
     let denom = column_sums(theta, psi, ng);
-    let mut gamma = [0.0; 32];
+    let mut gamma = [0.0; GROUPS];
     for p in 0..named.len() {
         let k = named[p] as usize;
         let log = arithmetic::log(denom[k]);
@@ -163,8 +169,8 @@ fn listed_gammas(
     psi: &[f64],
     ng: usize,
     i: usize,
-) -> [f64; 32]
-    requires { ⌜ (Listed (i + 1) ng (now lens) (now groups) (now counts)) × (i < 12) × (ng ≤ 32) × (ng ≤ length (now q)) × (ng ≤ length (now theta)) × (ng * ng ≤ length (now psi)) ⌝ }
+) -> [f64; GROUPS]
+    requires { ⌜ (Listed (i + 1) ng (now lens) (now groups) (now counts)) × (i < mostComponents) × (ng ≤ mostGroups) × (ng ≤ length (now q)) × (ng ≤ length (now theta)) × (ng * ng ≤ length (now psi)) ⌝ }
     ensures { λ r. ⌜ Named (lists (now (lens .entry)) (now (groups .entry)) (now (counts .entry)) .length i) (lists (now (lens .entry)) (now (groups .entry)) (now (counts .entry)) .group i) (lnGroup ng (at (now (q .entry))) (grid ng (now (psi .entry))) (at (now (theta .entry)))) r ⌝ }
 {
     let start = crate::groups::start_of(lens, i);
@@ -181,8 +187,8 @@ fn theta_mixed(
     x: &[f64],
     n: usize,
     ng: usize,
-) -> [f64; 32]
-    requires { ⌜ (Listed n ng (now lens) (now groups) (now counts)) × (n ≤ 12) × (ng ≤ 32) × (ng ≤ length (now q)) × (n ≤ length (now x)) ⌝ }
+) -> [f64; GROUPS]
+    requires { ⌜ (Listed n ng (now lens) (now groups) (now counts)) × (n ≤ mostComponents) × (ng ≤ mostGroups) × (ng ≤ length (now q)) × (n ≤ length (now x)) ⌝ }
     ensures { λ r. ⌜ Filled (Unifac·theta ng (at (now (q .entry))) (fraction n (lists (now (lens .entry)) (now (groups .entry)) (now (counts .entry))) (at (now (x .entry))))) ng r ⌝ }
 {
     let xg = crate::groups::group_fractions(lens, groups, counts, x, n, ng);
@@ -198,8 +204,8 @@ fn pure_listed(
     psi: &[f64],
     ng: usize,
     i: usize,
-) -> [f64; 32]
-    requires { ⌜ (Listed (i + 1) ng (now lens) (now groups) (now counts)) × (i < 12) × (ng ≤ 32) × (ng ≤ length (now q)) × (ng * ng ≤ length (now psi)) ⌝ }
+) -> [f64; GROUPS]
+    requires { ⌜ (Listed (i + 1) ng (now lens) (now groups) (now counts)) × (i < mostComponents) × (ng ≤ mostGroups) × (ng ≤ length (now q)) × (ng * ng ≤ length (now psi)) ⌝ }
     ensures { λ r. ⌜ Named (lists (now (lens .entry)) (now (groups .entry)) (now (counts .entry)) .length i) (lists (now (lens .entry)) (now (groups .entry)) (now (counts .entry)) .group i) (Unifac·pure ng (lists (now (lens .entry)) (now (groups .entry)) (now (counts .entry))) (at (now (q .entry))) (grid ng (now (psi .entry))) i) r ⌝ }
 {
     let xg = crate::groups::group_fractions_pure(lens, groups, counts, ng, i);
@@ -216,11 +222,11 @@ fn combinatorial(q: f64, v: f64, f: f64) -> f64
 
 // What the components share: their sizes r and q, the sums of these over the fractions, Θ of each group.
 pub struct Shared {
-    pub r: [f64; 12],
-    pub q: [f64; 12],
+    pub r: [f64; COMPONENTS],
+    pub q: [f64; COMPONENTS],
     pub rs: f64,
     pub qs: f64,
-    pub theta: [f64; 32],
+    pub theta: [f64; GROUPS],
 }
 
 fn share(
@@ -233,7 +239,7 @@ fn share(
     n: usize,
     ng: usize,
 ) -> Shared
-    requires { ⌜ (Listed n ng (now lens) (now groups) (now counts)) × (n ≤ 12) × (ng ≤ 32) × (ng ≤ length (now r)) × (ng ≤ length (now q)) × (n ≤ length (now x)) ⌝ }
+    requires { ⌜ (Listed n ng (now lens) (now groups) (now counts)) × (n ≤ mostComponents) × (ng ≤ mostGroups) × (ng ≤ length (now r)) × (ng ≤ length (now q)) × (n ≤ length (now x)) ⌝ }
     ensures { λ s. ⌜ Shares n ng (lists (now (lens .entry)) (now (groups .entry)) (now (counts .entry))) (at (now (r .entry))) (at (now (q .entry))) (at (now (x .entry))) s ⌝ }
 {
     let r_each = crate::groups::sizes(lens, groups, counts, r, n);
@@ -265,7 +271,7 @@ fn ln_gamma_by(
     ng: usize,
     i: usize,
 ) -> f64
-    requires { ⌜ (Listed (i + 1) ng (now lens) (now groups) (now counts)) × (i < 12) × (ng ≤ 32) × (ng ≤ length (now q)) × (ng * ng ≤ length (now psi)) × (length (now gamma) ≡ 32) ⌝ }
+    requires { ⌜ (Listed (i + 1) ng (now lens) (now groups) (now counts)) × (i < mostComponents) × (ng ≤ mostGroups) × (ng ≤ length (now q)) × (ng * ng ≤ length (now psi)) × (length (now gamma) ≡ mostGroups) ⌝ }
     ensures { λ r. ⌜ r ≡ combinatorialBy qi (ri ⊘ rs) (qi ⊘ qs) ⊕ residual (lists (now (lens .entry)) (now (groups .entry)) (now (counts .entry))) (at (now (gamma .entry))) (Unifac·pure ng (lists (now (lens .entry)) (now (groups .entry)) (now (counts .entry))) (at (now (q .entry))) (grid ng (now (psi .entry)))) i ⌝ }
 {
     let gamma_p = pure_listed(lens, groups, counts, q, psi, ng, i);
@@ -284,7 +290,7 @@ fn ln_gamma(
     ng: usize,
     i: usize,
 ) -> f64
-    requires { ⌜ (Listed (i + 1) ng (now lens) (now groups) (now counts)) × (i < 12) × (ng ≤ 32) × (ng ≤ length (now q)) × (ng * ng ≤ length (now psi)) ⌝ }
+    requires { ⌜ (Listed (i + 1) ng (now lens) (now groups) (now counts)) × (i < mostComponents) × (ng ≤ mostGroups) × (ng ≤ length (now q)) × (ng * ng ≤ length (now psi)) ⌝ }
     ensures { λ r. ⌜ r ≡ lnFrom s ng (lists (now (lens .entry)) (now (groups .entry)) (now (counts .entry))) (at (now (q .entry))) (grid ng (now (psi .entry))) i ⌝ }
 {
     let r_each = s.r;
@@ -319,7 +325,7 @@ fn excess_gibbs(
     n: usize,
     ng: usize,
 ) -> f64
-    requires { ⌜ (Listed n ng (now lens) (now groups) (now counts)) × (n ≤ 12) × (ng ≤ 32) × (ng ≤ length (now q)) × (ng * ng ≤ length (now psi)) × (n ≤ length (now x)) ⌝ }
+    requires { ⌜ (Listed n ng (now lens) (now groups) (now counts)) × (n ≤ mostComponents) × (ng ≤ mostGroups) × (ng ≤ length (now q)) × (ng * ng ≤ length (now psi)) × (n ≤ length (now x)) ⌝ }
     ensures { λ r. ⌜ r ≡ sum n (λ i. at (now (x .entry)) i ⊗ lnFrom s ng (lists (now (lens .entry)) (now (groups .entry)) (now (counts .entry))) (at (now (q .entry))) (grid ng (now (psi .entry))) i) ⌝ }
 {
     let r_each = s.r;
@@ -361,7 +367,7 @@ fn over(
     ng: usize,
     asked: Quantity,
 ) -> f64
-    requires { ⌜ (Listed n ng (now lens) (now groups) (now counts)) × (n ≤ 12) × (ng ≤ 32) × (ng ≤ length (now r)) × (ng ≤ length (now q)) × (ng * ng ≤ length (now psi)) × (n ≤ length (now x)) × (indexFault n asked ≡ 0) ⌝ }
+    requires { ⌜ (Listed n ng (now lens) (now groups) (now counts)) × (n ≤ mostComponents) × (ng ≤ mostGroups) × (ng ≤ length (now r)) × (ng ≤ length (now q)) × (ng * ng ≤ length (now psi)) × (n ≤ length (now x)) × (indexFault n asked ≡ 0) ⌝ }
     ensures { λ v. ⌜ v ≡ unifac n ng (lists (now (lens .entry)) (now (groups .entry)) (now (counts .entry))) (at (now (r .entry))) (at (now (q .entry))) (grid ng (now (psi .entry))) (at (now (x .entry))) asked ⌝ }
 {
     let s = share(lens, groups, counts, r, q, x, n, ng);
@@ -415,47 +421,12 @@ pub fn value_at(
     requires { ⌜ (Loaded n ng (now lens) (now groups) (now values)) × (n ≤ length (now x)) × (indexFault n q ≡ 0) ⌝ }
     ensures { λ r. ⌜ r ≡ unifacAt n ng (lists (now (lens .entry)) (now (groups .entry)) (from (countsAt ng) (now (values .entry)))) (groupRs ng (now (values .entry))) (groupQs ng (now (values .entry))) (groupAs ng (now (values .entry))) t (at (now (x .entry))) q ⌝ }
 {
-    let mut table = [0.0; 1024];
+    let mut table = [0.0; TABLE];
     fill_table(values, t, ng, &mut table[..]);
     value_over(n, ng, lens, groups, values, &table[..], x, q)
 }
 
-// What a plain call declines of its lists and values: 2, then 3 or 4 at the first place at fault.
-pub fn unifac_fault(n: usize, ng: usize, lens: &[u8], groups: &[u8], values: &[f64]) -> u8
-    ensures { λ r. ⌜ (r ≡ unifacFault n ng (now (lens .entry)) (now (groups .entry)) (now (values .entry))) × (r ≡ 0 → Loaded n ng (now (lens .entry)) (now (groups .entry)) (now (values .entry))) ⌝ }
-{
-    let fault = crate::groups::lists_fault(n, ng, lens, groups, values);
-    if fault != 0 {
-        return fault;
-    }
-    let place = crate::groups::counts_at(ng);
-    crate::groups::groups_fault(ng, groups, &values[place..])
-}
-
-// The plain call: the values are R's, Q's, a by rows, five each, then the counts, list after list.
-pub fn plain(
-    n: usize,
-    ng: usize,
-    lens: &[u8],
-    groups: &[u8],
-    values: &[f64],
-    t: f64,
-    x: &[f64],
-    q: Quantity,
-) -> Answer
-    ensures { λ r. ⌜ r ≡ unifacPlain n ng (now (lens .entry)) (now (groups .entry)) (now (values .entry)) t (now (x .entry)) q ⌝ }
-{
-    let fault = unifac_fault(n, ng, lens, groups, values);
-    if fault != 0 {
-        return Answer::Refused(fault);
-    }
-    let fault = crate::faults::fractions_fault(n, x, q);
-    if fault != 0 {
-        return Answer::Refused(fault);
-    }
-    Answer::Value(value_at(n, ng, lens, groups, values, t, x, q))
-}
-
+// The plain calls: the values are R's, Q's, a by rows, five each, then the counts, list after list.
 pub fn ln_gamma_at(
     n: usize,
     ng: usize,
@@ -468,7 +439,17 @@ pub fn ln_gamma_at(
 ) -> Answer
     ensures { λ r. ⌜ r ≡ unifacPlain n ng (now (lens .entry)) (now (groups .entry)) (now (values .entry)) t (now (x .entry)) (Quantity.LnGamma i) ⌝ }
 {
-    plain(n, ng, lens, groups, values, t, x, Quantity::LnGamma(i))
+    plain(
+        Model::Unifac,
+        n,
+        ng,
+        lens,
+        groups,
+        values,
+        t,
+        x,
+        Quantity::LnGamma(i),
+    )
 }
 
 pub fn gamma_at(
@@ -483,7 +464,17 @@ pub fn gamma_at(
 ) -> Answer
     ensures { λ r. ⌜ r ≡ unifacPlain n ng (now (lens .entry)) (now (groups .entry)) (now (values .entry)) t (now (x .entry)) (Quantity.Gamma i) ⌝ }
 {
-    plain(n, ng, lens, groups, values, t, x, Quantity::Gamma(i))
+    plain(
+        Model::Unifac,
+        n,
+        ng,
+        lens,
+        groups,
+        values,
+        t,
+        x,
+        Quantity::Gamma(i),
+    )
 }
 
 pub fn reduced_excess_gibbs_at(
@@ -497,5 +488,15 @@ pub fn reduced_excess_gibbs_at(
 ) -> Answer
     ensures { λ r. ⌜ r ≡ unifacPlain n ng (now (lens .entry)) (now (groups .entry)) (now (values .entry)) t (now (x .entry)) Quantity.ExcessGibbs ⌝ }
 {
-    plain(n, ng, lens, groups, values, t, x, Quantity::ExcessGibbs)
+    plain(
+        Model::Unifac,
+        n,
+        ng,
+        lens,
+        groups,
+        values,
+        t,
+        x,
+        Quantity::ExcessGibbs,
+    )
 }

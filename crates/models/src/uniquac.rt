@@ -6,22 +6,27 @@ ghost use Rattle.arithmetic.specs.Floats.{_⊕_, _⊖_, _⊗_, _⊘_, one, half
 ghost use Rattle.arithmetic.specs.Logarithm.{logOf};
 ghost use Rattle.arithmetic.specs.Sums.{sum};
 ghost use Rattle.arithmetic.specs.Tables.{at, grid, Filled};
-ghost use Rattle.models.specs.Answers.{indexFault};
+ghost use Rattle.models.specs.Limits.{mostComponents};
+ghost use Rattle.models.specs.Faults.{indexFault};
 ghost use Rattle.models.specs.Columns.{unitAt};
 ghost use Rattle.models.specs.Plain.{uniquacPlain};
-ghost use Rattle.models.specs.Shared.{UniquacShared};
+ghost use Rattle.models.specs.steps.Uniquac.{UniquacShared};
 ghost use Rattle.models.specs.Uniquac.{share, lnGamma, excess, uniquac, uniquacAt};
 ghost use Rattle.models.specs.Uniquac.{Z as U·Z, l as U·l};
 ghost use Rattle.models.specs.Values.{uniquacSize, energies, rs, qs};
 use crate::answers::Answer;
 use crate::answers::Quantity;
+use crate::limits::COMPONENTS;
+use crate::limits::PAIRS;
+use crate::model::Model;
+use crate::model::plain;
 
 // The coordination number.
 const Z: f64 = 10.0;
 
 // How many values n components have: a by rows, r's, q's. Past 12, which `shape_fault` refuses, it answers 0.
 pub fn size(n: usize) -> usize
-    ensures { λ v. ⌜ (n ≤ 12 → v ≡ uniquacSize n) ⌝ }
+    ensures { λ v. ⌜ (n ≤ mostComponents → v ≡ uniquacSize n) ⌝ }
 {
     if 12 < n {
         return 0;
@@ -77,10 +82,10 @@ fn residual(
     ln_sum: f64,
     i: usize,
 ) -> f64
-    requires { ⌜ (n ≤ length (now row)) × (n ≤ length (now theta)) × (n ≤ length (now sums)) × (i < n) × (n ≤ 12) ⌝ }
+    requires { ⌜ (n ≤ length (now row)) × (n ≤ length (now theta)) × (n ≤ length (now sums)) × (i < n) × (n ≤ mostComponents) ⌝ }
     ensures { λ v. ⌜ v ≡ q ⊗ (one ⊖ «ln_sum» ⊖ sum n (λ j. at (now (theta .entry)) j ⊗ unitAt i (at (now (row .entry))) j ⊘ at (now (sums .entry)) j)) ⌝ }
 {
-    let mut terms = [0.0; 12];
+    let mut terms = [0.0; COMPONENTS];
     for j in 0..n {
         terms[j] = theta[j] * row[j] / sums[j];
     }
@@ -102,7 +107,7 @@ fn ln_gamma(
     sums: &[f64],
     i: usize,
 ) -> f64
-    requires { ⌜ (n ≤ length (now r)) × (n ≤ length (now q)) × (n * n ≤ length (now e)) × (n ≤ length (now x)) × (n ≤ length (now theta)) × (n ≤ length (now sums)) × (i < n) × UniquacShared n (at (now r)) (at (now q)) (grid n (now e)) (at (now x)) rx lx (now theta) (now sums) × (n ≤ 12) ⌝ }
+    requires { ⌜ (n ≤ length (now r)) × (n ≤ length (now q)) × (n * n ≤ length (now e)) × (n ≤ length (now x)) × (n ≤ length (now theta)) × (n ≤ length (now sums)) × (i < n) × UniquacShared n (at (now r)) (at (now q)) (grid n (now e)) (at (now x)) rx lx (now theta) (now sums) × (n ≤ mostComponents) ⌝ }
     ensures { λ v. ⌜ v ≡ lnGamma n (at (now (r .entry))) (at (now (q .entry))) (grid n (now (e .entry))) (at (now (x .entry))) i ⌝ }
 {
     let phi = x[i] * r[i] / rx;
@@ -157,16 +162,16 @@ fn excess_gibbs(
     theta: &[f64],
     sums: &[f64],
 ) -> f64
-    requires { ⌜ (n ≤ length (now r)) × (n ≤ length (now q)) × (n * n ≤ length (now e)) × (n ≤ length (now x)) × (n ≤ length (now theta)) × (n ≤ length (now sums)) × UniquacShared n (at (now r)) (at (now q)) (grid n (now e)) (at (now x)) rx lx (now theta) (now sums) × (n ≤ 12) ⌝ }
+    requires { ⌜ (n ≤ length (now r)) × (n ≤ length (now q)) × (n * n ≤ length (now e)) × (n ≤ length (now x)) × (n ≤ length (now theta)) × (n ≤ length (now sums)) × UniquacShared n (at (now r)) (at (now q)) (grid n (now e)) (at (now x)) rx lx (now theta) (now sums) × (n ≤ mostComponents) ⌝ }
     ensures { λ v. ⌜ v ≡ excess n (at (now (r .entry))) (at (now (q .entry))) (grid n (now (e .entry))) (at (now (x .entry))) ⌝ }
 {
-    let mut segments = [0.0; 12];
+    let mut segments = [0.0; COMPONENTS];
     // θ_i/φ_i until their logs are taken
-    let mut ln_areas = [0.0; 12];
+    let mut ln_areas = [0.0; COMPONENTS];
     fill_ratios(n, r, x, rx, theta, &mut segments[..], &mut ln_areas[..]);
-    let mut ln_segments = [0.0; 12];
+    let mut ln_segments = [0.0; COMPONENTS];
     fill_logs(&segments[..], n, &mut ln_segments[..]);
-    let mut ln_sums = [0.0; 12];
+    let mut ln_sums = [0.0; COMPONENTS];
     fill_logs(sums, n, &mut ln_sums[..]);
     arithmetic::log_each(&mut ln_areas[..], n);
     let mut s = 0.0;
@@ -180,14 +185,14 @@ fn excess_gibbs(
 
 // The quantity over a table of exponentials.
 pub fn value_over(n: usize, r: &[f64], q: &[f64], e: &[f64], x: &[f64], k: Quantity) -> f64
-    requires { ⌜ (n ≤ 12) × (n ≤ length (now r)) × (n ≤ length (now q)) × (n * n ≤ length (now e)) × (n ≤ length (now x)) × (indexFault n k ≡ 0) ⌝ }
+    requires { ⌜ (n ≤ mostComponents) × (n ≤ length (now r)) × (n ≤ length (now q)) × (n * n ≤ length (now e)) × (n ≤ length (now x)) × (indexFault n k ≡ 0) ⌝ }
     ensures { λ v. ⌜ v ≡ uniquac n (at (now (r .entry))) (at (now (q .entry))) (grid n (now (e .entry))) (at (now (x .entry))) k ⌝ }
 {
     let rx = arithmetic::dot(x, r, n);
     let lx = l_sum(n, r, q, x);
-    let mut theta = [0.0; 12];
+    let mut theta = [0.0; COMPONENTS];
     shares(n, q, x, &mut theta[..]);
-    let mut sums = [0.0; 12];
+    let mut sums = [0.0; COMPONENTS];
     crate::columns::unit_column_sums(n, e, &theta[..], &mut sums[..]);
     match k {
         Quantity::LnGamma(i) => ln_gamma(n, r, q, e, x, rx, lx, &theta[..], &sums[..], i),
@@ -209,41 +214,61 @@ pub fn value_over(n: usize, r: &[f64], q: &[f64], e: &[f64], x: &[f64], k: Quant
 
 // The quantity at T, from the values.
 pub fn value_at(n: usize, values: &[f64], t: f64, x: &[f64], k: Quantity) -> f64
-    requires { ⌜ (n ≤ 12) × (uniquacSize n ≤ length (now values)) × (n ≤ length (now x)) × (indexFault n k ≡ 0) ⌝ }
+    requires { ⌜ (n ≤ mostComponents) × (uniquacSize n ≤ length (now values)) × (n ≤ length (now x)) × (indexFault n k ≡ 0) ⌝ }
     ensures { λ v. ⌜ v ≡ uniquacAt n (rs n (now (values .entry))) (qs n (now (values .entry))) (energies n (now (values .entry))) t (at (now (x .entry))) k ⌝ }
 {
-    let mut e = [0.0; 144];
+    let mut e = [0.0; PAIRS];
     crate::exponentials::fill_energies(values, t, n, &mut e[..]);
     let at = n * n;
     let qs_at = at + n;
     value_over(n, &values[at..], &values[qs_at..], &e[..], x, k)
 }
 
-// The plain call: the values are a by rows, the r's, the q's.
-pub fn plain(n: usize, values: &[f64], t: f64, x: &[f64], k: Quantity) -> Answer
-    ensures { λ v. ⌜ v ≡ uniquacPlain n (now (values .entry)) t (now (x .entry)) k ⌝ }
-{
-    let fault = crate::faults::plain_fault(n, size(n), values, x, k);
-    if fault != 0 {
-        return Answer::Refused(fault);
-    }
-    Answer::Value(value_at(n, values, t, x, k))
-}
-
+// The plain calls: the values are a by rows, then the r's and the q's.
 pub fn ln_gamma_at(n: usize, values: &[f64], t: f64, x: &[f64], i: usize) -> Answer
     ensures { λ v. ⌜ v ≡ uniquacPlain n (now (values .entry)) t (now (x .entry)) (Quantity.LnGamma i) ⌝ }
 {
-    plain(n, values, t, x, Quantity::LnGamma(i))
+    plain(
+        Model::Uniquac,
+        n,
+        0,
+        &[],
+        &[],
+        values,
+        t,
+        x,
+        Quantity::LnGamma(i),
+    )
 }
 
 pub fn gamma_at(n: usize, values: &[f64], t: f64, x: &[f64], i: usize) -> Answer
     ensures { λ v. ⌜ v ≡ uniquacPlain n (now (values .entry)) t (now (x .entry)) (Quantity.Gamma i) ⌝ }
 {
-    plain(n, values, t, x, Quantity::Gamma(i))
+    plain(
+        Model::Uniquac,
+        n,
+        0,
+        &[],
+        &[],
+        values,
+        t,
+        x,
+        Quantity::Gamma(i),
+    )
 }
 
 pub fn reduced_excess_gibbs_at(n: usize, values: &[f64], t: f64, x: &[f64]) -> Answer
     ensures { λ v. ⌜ v ≡ uniquacPlain n (now (values .entry)) t (now (x .entry)) Quantity.ExcessGibbs ⌝ }
 {
-    plain(n, values, t, x, Quantity::ExcessGibbs)
+    plain(
+        Model::Uniquac,
+        n,
+        0,
+        &[],
+        &[],
+        values,
+        t,
+        x,
+        Quantity::ExcessGibbs,
+    )
 }

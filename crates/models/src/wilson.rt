@@ -6,17 +6,22 @@ ghost use Rattle.arithmetic.specs.Floats.{_⊖_, _⊗_, _⊘_, +0};
 ghost use Rattle.arithmetic.specs.Logarithm.{logOf};
 ghost use Rattle.arithmetic.specs.Sums.{fold};
 ghost use Rattle.arithmetic.specs.Tables.{at, grid, Filled};
-ghost use Rattle.models.specs.Answers.{indexFault};
+ghost use Rattle.models.specs.Limits.{mostComponents};
+ghost use Rattle.models.specs.Faults.{indexFault};
 ghost use Rattle.models.specs.Plain.{wilsonPlain};
 ghost use Rattle.models.specs.Values.{wilsonSize, energies, volumes};
 ghost use Rattle.models.specs.Wilson.{rowSum, lnGamma, wilsonAt};
 ghost use Rattle.models.specs.Wilson.{wilson as W·wilson};
 use crate::answers::Answer;
 use crate::answers::Quantity;
+use crate::limits::COMPONENTS;
+use crate::limits::PAIRS;
+use crate::model::Model;
+use crate::model::plain;
 
 // How many values n components have: a by rows, V. Past 12, which `shape_fault` refuses, it answers 0.
 pub fn size(n: usize) -> usize
-    ensures { λ r. ⌜ (n ≤ 12 → r ≡ wilsonSize n) ⌝ }
+    ensures { λ r. ⌜ (n ≤ mostComponents → r ≡ wilsonSize n) ⌝ }
 {
     if 12 < n {
         return 0;
@@ -27,10 +32,10 @@ pub fn size(n: usize) -> usize
 // Σ_j x_j Λ_ij, from the part of the table that starts at row i. The terms run without a test for the diagonal, then its own
 // is put right.
 fn row_sum(n: usize, v: &[f64], row: &[f64], x: &[f64], i: usize) -> f64
-    requires { ⌜ (n ≤ length (now v)) × (n ≤ length (now row)) × (n ≤ length (now x)) × (i < n) × (n ≤ 12) ⌝ }
+    requires { ⌜ (n ≤ length (now v)) × (n ≤ length (now row)) × (n ≤ length (now x)) × (i < n) × (n ≤ mostComponents) ⌝ }
     ensures { λ r. ⌜ r ≡ rowSum n (at (now (v .entry))) (λ _. at (now (row .entry))) (at (now (x .entry))) i ⌝ }
 {
-    let mut terms = [0.0; 12];
+    let mut terms = [0.0; COMPONENTS];
     let own = v[i];
     for j in 0..n {
         terms[j] = x[j] * (v[j] / own * row[j]);
@@ -41,7 +46,7 @@ fn row_sum(n: usize, v: &[f64], row: &[f64], x: &[f64], i: usize) -> f64
 
 // What all components share: writes the sum of each row.
 fn row_sums(n: usize, v: &[f64], e: &[f64], x: &[f64], sums: &mut [f64])
-    requires { ⌜ (n ≤ 12) × (n ≤ length (now v)) × (n * n ≤ length (now e)) × (n ≤ length (now x)) × (n ≤ length (now sums)) ⌝ }
+    requires { ⌜ (n ≤ mostComponents) × (n ≤ length (now v)) × (n * n ≤ length (now e)) × (n ≤ length (now x)) × (n ≤ length (now sums)) ⌝ }
     ensures { λ _. ⌜ Filled (rowSum n (at (now (v .entry))) (grid n (now (e .entry))) (at (now (x .entry)))) n (now (sums .exit)) ⌝ }
 {
     for i in 0..n {
@@ -52,7 +57,7 @@ fn row_sums(n: usize, v: &[f64], e: &[f64], x: &[f64], sums: &mut [f64])
 
 // Λ_ij off the diagonal.
 fn lambda(n: usize, v: &[f64], e: &[f64], i: usize, j: usize) -> f64
-    requires { ⌜ (n ≤ 12) × (n ≤ length (now v)) × (n * n ≤ length (now e)) × (i < n) × (j < n) ⌝ }
+    requires { ⌜ (n ≤ mostComponents) × (n ≤ length (now v)) × (n * n ≤ length (now e)) × (i < n) × (j < n) ⌝ }
     ensures { λ r. ⌜ r ≡ at (now (v .entry)) j ⊘ at (now (v .entry)) i ⊗ grid n (now (e .entry)) i j ⌝ }
 {
     v[j] / v[i] * e[i * n + j]
@@ -60,10 +65,10 @@ fn lambda(n: usize, v: &[f64], e: &[f64], i: usize, j: usize) -> f64
 
 // ln γ_i, from the row sums. The terms run without a test for the diagonal, then its own is put right.
 fn ln_gamma(n: usize, v: &[f64], e: &[f64], x: &[f64], sums: &[f64], i: usize) -> f64
-    requires { ⌜ (n ≤ length (now v)) × (n * n ≤ length (now e)) × (n ≤ length (now x)) × (n ≤ length (now sums)) × (i < n) × (n ≤ 12) × Filled (rowSum n (at (now v)) (grid n (now e)) (at (now x))) n (now sums) ⌝ }
+    requires { ⌜ (n ≤ length (now v)) × (n * n ≤ length (now e)) × (n ≤ length (now x)) × (n ≤ length (now sums)) × (i < n) × (n ≤ mostComponents) × Filled (rowSum n (at (now v)) (grid n (now e)) (at (now x))) n (now sums) ⌝ }
     ensures { λ r. ⌜ r ≡ lnGamma n (at (now (v .entry))) (grid n (now (e .entry))) (at (now (x .entry))) i ⌝ }
 {
-    let mut terms = [0.0; 12];
+    let mut terms = [0.0; COMPONENTS];
     for k in 0..n {
         terms[k] = x[k] * lambda(n, v, e, k, i) / sums[k];
     }
@@ -86,10 +91,10 @@ fn excess_gibbs(n: usize, x: &[f64], sums: &mut [f64]) -> f64
 
 // The quantity over a table of exponentials.
 pub fn value_over(n: usize, v: &[f64], e: &[f64], x: &[f64], q: Quantity) -> f64
-    requires { ⌜ (n ≤ 12) × (n ≤ length (now v)) × (n * n ≤ length (now e)) × (n ≤ length (now x)) × (indexFault n q ≡ 0) ⌝ }
+    requires { ⌜ (n ≤ mostComponents) × (n ≤ length (now v)) × (n * n ≤ length (now e)) × (n ≤ length (now x)) × (indexFault n q ≡ 0) ⌝ }
     ensures { λ r. ⌜ r ≡ W·wilson n (at (now (v .entry))) (grid n (now (e .entry))) (at (now (x .entry))) q ⌝ }
 {
-    let mut sums = [0.0; 12];
+    let mut sums = [0.0; COMPONENTS];
     row_sums(n, v, e, x, &mut sums[..]);
     match q {
         Quantity::LnGamma(i) => ln_gamma(n, v, e, x, &sums[..], i),
@@ -100,40 +105,60 @@ pub fn value_over(n: usize, v: &[f64], e: &[f64], x: &[f64], q: Quantity) -> f64
 
 // The quantity at T, from the values.
 pub fn value_at(n: usize, values: &[f64], t: f64, x: &[f64], q: Quantity) -> f64
-    requires { ⌜ (n ≤ 12) × (wilsonSize n ≤ length (now values)) × (n ≤ length (now x)) × (indexFault n q ≡ 0) ⌝ }
+    requires { ⌜ (n ≤ mostComponents) × (wilsonSize n ≤ length (now values)) × (n ≤ length (now x)) × (indexFault n q ≡ 0) ⌝ }
     ensures { λ r. ⌜ r ≡ wilsonAt n (volumes n (now (values .entry))) (energies n (now (values .entry))) t (at (now (x .entry))) q ⌝ }
 {
-    let mut e = [0.0; 144];
+    let mut e = [0.0; PAIRS];
     crate::exponentials::fill_energies(values, t, n, &mut e[..]);
     let at = n * n;
     value_over(n, &values[at..], &e[..], x, q)
 }
 
-// The plain call: the values are a by rows, then V.
-pub fn plain(n: usize, values: &[f64], t: f64, x: &[f64], q: Quantity) -> Answer
-    ensures { λ r. ⌜ r ≡ wilsonPlain n (now (values .entry)) t (now (x .entry)) q ⌝ }
-{
-    let fault = crate::faults::plain_fault(n, size(n), values, x, q);
-    if fault != 0 {
-        return Answer::Refused(fault);
-    }
-    Answer::Value(value_at(n, values, t, x, q))
-}
-
+// The plain calls: the values are a by rows, then V.
 pub fn ln_gamma_at(n: usize, values: &[f64], t: f64, x: &[f64], i: usize) -> Answer
     ensures { λ r. ⌜ r ≡ wilsonPlain n (now (values .entry)) t (now (x .entry)) (Quantity.LnGamma i) ⌝ }
 {
-    plain(n, values, t, x, Quantity::LnGamma(i))
+    plain(
+        Model::Wilson,
+        n,
+        0,
+        &[],
+        &[],
+        values,
+        t,
+        x,
+        Quantity::LnGamma(i),
+    )
 }
 
 pub fn gamma_at(n: usize, values: &[f64], t: f64, x: &[f64], i: usize) -> Answer
     ensures { λ r. ⌜ r ≡ wilsonPlain n (now (values .entry)) t (now (x .entry)) (Quantity.Gamma i) ⌝ }
 {
-    plain(n, values, t, x, Quantity::Gamma(i))
+    plain(
+        Model::Wilson,
+        n,
+        0,
+        &[],
+        &[],
+        values,
+        t,
+        x,
+        Quantity::Gamma(i),
+    )
 }
 
 pub fn reduced_excess_gibbs_at(n: usize, values: &[f64], t: f64, x: &[f64]) -> Answer
     ensures { λ r. ⌜ r ≡ wilsonPlain n (now (values .entry)) t (now (x .entry)) Quantity.ExcessGibbs ⌝ }
 {
-    plain(n, values, t, x, Quantity::ExcessGibbs)
+    plain(
+        Model::Wilson,
+        n,
+        0,
+        &[],
+        &[],
+        values,
+        t,
+        x,
+        Quantity::ExcessGibbs,
+    )
 }

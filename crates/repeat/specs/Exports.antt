@@ -7,6 +7,8 @@ use Prim.Native.Nat.{ℕ, zero, suc, _+_, _-_, _*_, _/_}
 use lib.Dec.{eqb, ltb}
 use lib.ListN.{length, replicate}
 use lib.Ieee.{Float}
+use denote.Ref.{RefT, now}
+use denote.Triple.Both.{Both}
 use Rattle.arithmetic.specs.Tables.{Vector}
 use Rattle.arithmetic.specs.declared.parameters.TdParam.{TdParam}
 use Rattle.arithmetic.specs.Bytes.{floats, floatAt}
@@ -21,11 +23,11 @@ use Rattle.mixture.specs.declared.setting.Setting.{Setting}
 use Rattle.mixture.specs.declared.setting.Setting.the-variants.{Temperature, Entry, TdEntry}
 use Rattle.mixture.specs.declared.answers.Answer.{Answer}
 use Rattle.mixture.specs.declared.answers.Answer.the-variants.{Refused, Done, Value}
-use Rattle.mixture.specs.Names.{ModelData}
-use Rattle.models.specs.Model.{byModel, modelOf}
-use Rattle.mixture.specs.Memory.{Memory, memory, After}
+use Rattle.models.specs.Limits.{mostComponents, mostValues}
+use Rattle.models.specs.Model.{ModelData, byModel, modelOf}
+use Rattle.mixture.specs.Memory.{Memory, memory, leastValues, leastCells, leastMarks, After}
 use Rattle.mixture.specs.Calls.{freshHead, afterOpen, afterLoad, afterSetting, afterFractions, afterQuery}
-use Rattle.mixture.specs.Plain.{plainCall}
+use Rattle.models.specs.Plain.{plainCall}
 
 -- what is asked, by the strip's numbers: 0 ln γ, 1 γ, else the excess energy
 unfoldable pub quantityOf : ℕ → ℕ → Quantity
@@ -82,7 +84,7 @@ begun m h d x =
 
 -- the memory and the head that it starts from
 unfoldable pub zeros : Memory
-zeros = memory (replicate 5328 +0) (replicate 1024 +0) (replicate 1024 0)
+zeros = memory (replicate leastValues +0) (replicate leastCells +0) (replicate leastMarks 0)
 
 abbrev pub noHead : Head
 noHead = freshHead 0 0 0 [] []
@@ -101,8 +103,15 @@ repeated n d x q change v T =
 -- the same for bytes; +0 for more values or fractions than any model has, or no temperature
 unfoldable pub repeatedBytes : ℕ → ℕ → ℕ → List ℕ → List ℕ → List ℕ → List ℕ → ℕ → ℕ → ℕ → Float → List ℕ → Float
 repeatedBytes model n ng lens groups values x asked i change v temperatures =
-    cond (ltb 5328 (length values / 8)) +0
-    (cond (ltb 12 (length x / 8)) +0
+    cond (ltb mostValues (length values / 8)) +0
+    (cond (ltb mostComponents (length x / 8)) +0
     (cond (ltb (length temperatures) 8) +0
     (repeated (length temperatures / 8)
     (record { model = modelOf model; n = n; ng = ng; lens = lens; groups = groups; values = floats values }) (floats x) (quantityOf asked i) change v (λ k. floatAt temperatures (8 * k)))))
+
+-- the temperatures in a call's argument, and how many there are
+abbrev pub each : {A : Type 0} → Both (RefT (List ℕ)) A → Vector
+each temperatures k = floatAt (now (temperatures .entry)) (8 * k)
+
+abbrev pub howMany : {A : Type 0} → Both (RefT (List ℕ)) A → ℕ
+howMany temperatures = length (now (temperatures .entry)) / 8

@@ -3,10 +3,11 @@
 ghost use mathlib.Core.Path.{_≡_};
 ghost use Prim.Native.Nat.{_+_, _-_, _*_, _/_, _≤_};
 ghost use lib.ListN.{length};
-ghost use Rattle.arithmetic.specs.Bytes.{floatAt};
-ghost use Rattle.mixture.specs.Memory.{memory, after};
-ghost use Rattle.mixture.specs.Plain.{plainCall};
-ghost use Rattle.repeat.specs.Exports.{quantityOf, valueOf, plainValue, settingOf, askedTimes, setTimes, turns, begun, noHead, zeros, plainTurns, repeated, repeatedBytes};
+ghost use Rattle.mixture.specs.Memory.{before, later, left};
+ghost use Rattle.models.specs.Model.{given as dataGiven};
+ghost use Rattle.models.specs.Plain.{plainCall};
+ghost use Rattle.repeat.specs.Exports.{quantityOf, valueOf, plainValue, settingOf, askedTimes, setTimes, turns, begun};
+ghost use Rattle.repeat.specs.Exports.{noHead, zeros, plainTurns, repeated, repeatedBytes, each, howMany};
 use arithmetic::TdParam;
 use arithmetic::bytes;
 use mixture::Answer;
@@ -14,6 +15,9 @@ use mixture::Head;
 use mixture::Model;
 use mixture::Reply;
 use mixture::Setting;
+use mixture::faults::CELLS;
+use mixture::faults::MARKS;
+use mixture::faults::VALUES;
 use mixture::fractions::fractions;
 use mixture::head::bare_head;
 use mixture::load::load;
@@ -21,7 +25,9 @@ use mixture::open::open;
 use mixture::query::query;
 use mixture::set::set;
 use models::Quantity;
+use models::limits::COMPONENTS;
 use models::model::model_of;
+use models::model::plain;
 
 // What is asked, by the strip's numbers.
 fn quantity_of(asked: u32, i: usize) -> Quantity
@@ -89,7 +95,7 @@ fn ask_each(
     q: Quantity,
     times: usize,
 ) -> f64
-    ensures { λ r. ⌜ r ≡ valueOf (askedTimes times q (after (memory (now (values .entry)) (now (cells .entry)) (now (marks .entry))) (start .head) (start .answer)) .reply .answer) ⌝ }
+    ensures { λ r. ⌜ r ≡ valueOf (askedTimes times q (left (before values cells marks) start) .reply .answer) ⌝ }
 {
     let mut last = start;
     for _ in 0..times {
@@ -114,7 +120,8 @@ fn set_each(
     to: usize,
 ) -> Reply
     requires { ⌜ (from ≤ to) × (8 * to ≤ length (now temperatures)) ⌝ }
-    ensures { λ r. ⌜ after (memory (now (values .exit)) (now (cells .exit)) (now (marks .exit))) (r .head) (r .answer) ≡ setTimes (to - from) change model v q (λ k. floatAt (now (temperatures .entry)) (8 * (from + k))) (after (memory (now (values .entry)) (now (cells .entry)) (now (marks .entry))) (start .head) (start .answer)) ⌝ }
+    ensures { λ r. ⌜ left (later values cells marks) r
+        ≡ setTimes (to - from) change model v q (λ k. each temperatures (from + k)) (left (before values cells marks) start) ⌝ }
 {
     let mut head = start.head;
     let mut answer = start.answer;
@@ -145,7 +152,8 @@ fn keep(
     temperatures: &[u8],
 ) -> f64
     requires { ⌜ 8 ≤ length (now temperatures) ⌝ }
-    ensures { λ r. ⌜ r ≡ valueOf (turns (length (now (temperatures .entry)) / 8) change model v q (λ k. floatAt (now (temperatures .entry)) (8 * k)) (after (memory (now (values .entry)) (now (cells .entry)) (now (marks .entry))) (start .head) (start .answer)) .reply .answer) ⌝ }
+    ensures { λ r. ⌜ r ≡ valueOf (turns (howMany temperatures) change model v q (each temperatures)
+        (left (before values cells marks) start) .reply .answer) ⌝ }
 {
     let first = set_each(
         values,
@@ -194,7 +202,8 @@ fn begin(
     given: &[f64],
     x: &[f64],
 ) -> Reply
-    ensures { λ r. ⌜ after (memory (now (values .exit)) (now (cells .entry)) (now (marks .exit))) (r .head) (r .answer) ≡ begun (memory (now (values .entry)) (now (cells .entry)) (now (marks .entry))) head (record { model = model; n = n; ng = ng; lens = now (lens .entry); groups = now (groups .entry); values = now (given .entry) }) (now (x .entry)) ⌝ }
+    ensures { λ r. ⌜ left (later values cells marks) r
+        ≡ begun (before values cells marks) head (dataGiven model n ng lens groups given) (now (x .entry)) ⌝ }
 {
     let opened = open(values, cells, marks, head);
     let loaded = load(
@@ -224,14 +233,9 @@ fn plain_at(
     x: &[f64],
     q: Quantity,
 ) -> f64
-    ensures { λ r. ⌜ r ≡ plainValue (plainCall (record { model = model; n = n; ng = ng; lens = now (lens .entry); groups = now (groups .entry); values = now (given .entry) }) t (now (x .entry)) q) ⌝ }
+    ensures { λ r. ⌜ r ≡ plainValue (plainCall (dataGiven model n ng lens groups given) t (now (x .entry)) q) ⌝ }
 {
-    match model {
-        Model::Wilson => plain_value(models::wilson::plain(n, given, t, x, q)),
-        Model::Uniquac => plain_value(models::uniquac::plain(n, given, t, x, q)),
-        Model::Nrtl => plain_value(models::nrtl::plain(n, given, t, x, q)),
-        Model::Unifac => plain_value(models::unifac::plain(n, ng, lens, groups, given, t, x, q)),
-    }
+    plain_value(plain(model, n, ng, lens, groups, given, t, x, q))
 }
 
 // The plain call at each temperature; the last value.
@@ -246,7 +250,8 @@ fn plain_each(
     x: &[f64],
     q: Quantity,
 ) -> f64
-    ensures { λ r. ⌜ r ≡ plainTurns (length (now (temperatures .entry)) / 8) (record { model = model; n = n; ng = ng; lens = now (lens .entry); groups = now (groups .entry); values = now (given .entry) }) (now (x .entry)) q (λ k. floatAt (now (temperatures .entry)) (8 * k)) ⌝ }
+    ensures { λ r. ⌜ r ≡ plainTurns (howMany temperatures) (dataGiven model n ng lens groups given) (now (x .entry)) q
+        (each temperatures) ⌝ }
 {
     let mut last = 0.0;
     for k in 0..temperatures.len() / 8 {
@@ -271,11 +276,12 @@ fn kept(
     temperatures: &[u8],
 ) -> f64
     requires { ⌜ 8 ≤ length (now temperatures) ⌝ }
-    ensures { λ r. ⌜ r ≡ valueOf (turns (length (now (temperatures .entry)) / 8) change model v q (λ k. floatAt (now (temperatures .entry)) (8 * k)) (begun zeros noHead (record { model = model; n = n; ng = ng; lens = now (lens .entry); groups = now (groups .entry); values = now (given .entry) }) (now (x .entry))) .reply .answer) ⌝ }
+    ensures { λ r. ⌜ r ≡ valueOf (turns (howMany temperatures) change model v q (each temperatures)
+        (begun zeros noHead (dataGiven model n ng lens groups given) (now (x .entry))) .reply .answer) ⌝ }
 {
-    let mut values = [0.0; 5328];
-    let mut cells = [0.0; 1024];
-    let mut marks = [0u8; 1024];
+    let mut values = [0.0; VALUES];
+    let mut cells = [0.0; CELLS];
+    let mut marks = [0u8; MARKS];
     let head = bare_head(0, 0);
     let start = begin(
         &mut values[..],
@@ -322,22 +328,23 @@ pub extern "C" fn kiltgrit_repeat(
     v: f64,
     temperatures: &[u8],
 ) -> f64
-    ensures { λ r. ⌜ r ≡ repeatedBytes model n ng (now (lens .entry)) (now (groups .entry)) (now (values .entry)) (now (x .entry)) asked i change v (now (temperatures .entry)) ⌝ }
+    ensures { λ r. ⌜ r ≡ repeatedBytes model n ng (now (lens .entry)) (now (groups .entry)) (now (values .entry))
+        (now (x .entry)) asked i change v (now (temperatures .entry)) ⌝ }
 {
     let count = values.len() / 8;
     let parts = x.len() / 8;
-    if 5328 < count {
+    if VALUES < count {
         return 0.0;
     }
-    if 12 < parts {
+    if COMPONENTS < parts {
         return 0.0;
     }
     if temperatures.len() < 8 {
         return 0.0;
     }
-    let mut given = [0.0; 5328];
+    let mut given = [0.0; VALUES];
     bytes::fill_floats(&mut given[..], values, 0, count);
-    let mut fractions = [0.0; 12];
+    let mut fractions = [0.0; COMPONENTS];
     bytes::fill_floats(&mut fractions[..], x, 0, parts);
     repeat(
         model_of(model),
@@ -369,7 +376,8 @@ fn repeat(
     temperatures: &[u8],
 ) -> f64
     requires { ⌜ 8 ≤ length (now temperatures) ⌝ }
-    ensures { λ r. ⌜ r ≡ repeated (length (now (temperatures .entry)) / 8) (record { model = model; n = n; ng = ng; lens = now (lens .entry); groups = now (groups .entry); values = now (given .entry) }) (now (x .entry)) q change v (λ k. floatAt (now (temperatures .entry)) (8 * k)) ⌝ }
+    ensures { λ r. ⌜ r ≡ repeated (howMany temperatures) (dataGiven model n ng lens groups given) (now (x .entry)) q change v
+        (each temperatures) ⌝ }
 {
     if change == 3 {
         return plain_each(model, n, ng, lens, groups, given, temperatures, x, q);

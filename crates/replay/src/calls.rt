@@ -7,33 +7,10 @@ use crate::words::Word;
 use arithmetic::bytes::bits_of;
 use arithmetic::bytes::float_of;
 use models::Answer;
+use models::Model;
 use models::Quantity;
-
-pub enum Model {
-    Wilson,
-    Uniquac,
-    Nrtl,
-    Unifac,
-}
-
-fn answer(
-    model: Model,
-    n: usize,
-    ng: usize,
-    lens: &[u8],
-    groups: &[u8],
-    values: &[f64],
-    t: f64,
-    x: &[f64],
-    q: Quantity,
-) -> Answer {
-    match model {
-        Model::Wilson => models::wilson::plain(n, values, t, x, q),
-        Model::Uniquac => models::uniquac::plain(n, values, t, x, q),
-        Model::Nrtl => models::nrtl::plain(n, values, t, x, q),
-        Model::Unifac => models::unifac::plain(n, ng, lens, groups, values, t, x, q),
-    }
-}
+use models::limits::VALUES;
+use models::model::plain;
 
 fn is_stored(a: Answer, number: u64, value: u64) -> bool {
     match a {
@@ -78,10 +55,10 @@ fn with_lists(
     q: Quantity,
 ) -> Line {
     let count = words::count(fd);
-    if 5328 < count {
+    if VALUES < count {
         return Line::Broken;
     }
-    let mut values = [0.0; 5328];
+    let mut values = [0.0; VALUES];
     if !words::fill_floats(fd, &mut values[..], count) {
         return Line::Broken;
     }
@@ -98,7 +75,7 @@ fn with_lists(
     }
     held(
         fd,
-        answer(
+        plain(
             model,
             n,
             ng,

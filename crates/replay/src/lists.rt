@@ -1,11 +1,11 @@
 // The lists, and how a line of each is replayed.
 use crate::calls;
-use crate::calls::Model;
 use crate::strips;
 use crate::words;
 use crate::words::Word;
 use arithmetic::bytes::bits_of;
 use arithmetic::bytes::float_of;
+use models::Model;
 
 const MOST_LINES: u64 = 1000000;
 

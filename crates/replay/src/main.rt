@@ -5,10 +5,10 @@ mod lists;
 mod strips;
 mod words;
 
-use calls::Model;
 use libc::STDOUT_FILENO;
 use lists::List;
 use lists::Tally;
+use models::Model;
 
 fn write(text: &[u8]) {
     io::write_all(STDOUT_FILENO, text);

@@ -28,9 +28,9 @@ use Rattle.strip.specs.declared.records.Read.the-variants.{Record}
 use Rattle.strip.specs.Words.{mostBytes}
 use Rattle.strip.specs.Records.{readAt}
 use Rattle.strip.specs.Calls.{floatsOf, listsOf, dataOf, settingOf, quantityOf, callOf}
-use Rattle.strip.specs.Inner.{Stored, fits, made}
+use Rattle.strip.specs.steps.Run.{Stored, fits, made}
 use Rattle.strip.proofs.TextLaws.{sets-whole, put-whole}
-use Rattle.strip.proofs.ListLaws.{lists-few}
+use Rattle.strip.proofs.GroupListLaws.{lists-few}
 use Rattle.strip.proofs.RecordLaws.{found-fits, Fitting}
 
 -- ---- a record's call, where it fits or not

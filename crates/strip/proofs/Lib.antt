@@ -1,6 +1,5 @@
 pub mod TextLaws
-pub mod ListLaws
+pub mod GroupListLaws
 pub mod RecordLaws
 pub mod CallLaws
-pub mod RunLaws
 pub mod WorkedTexts

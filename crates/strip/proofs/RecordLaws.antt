@@ -19,10 +19,10 @@ use Rattle.strip.specs.declared.records.Rec.{Rec}
 use Rattle.strip.specs.declared.records.Read.{Read}
 use Rattle.strip.specs.declared.records.Read.the-variants.{Record, Broken, End}
 use Rattle.strip.specs.Words.{mostBytes, kindOf, iOf, jOf, restOf}
-use Rattle.strip.specs.Lists.{listsAt}
+use Rattle.strip.specs.GroupLists.{listsAt}
 use Rattle.strip.specs.Records.{shape, shapeOf, recordBy, readAt}
-use Rattle.strip.specs.Inner.{fitsBy, fits}
-use Rattle.strip.proofs.ListLaws.{lists-after}
+use Rattle.strip.specs.steps.Run.{fitsBy, fits}
+use Rattle.strip.proofs.GroupListLaws.{lists-after}
 
 -- ---- the shape of each kind
 

@@ -1,12 +1,11 @@
 -- The texts of small strips, by computing the definition.
 use mathlib.Core.Path.{refl}
 use Rattle.arithmetic.specs.Bytes.{wordAt, floatsAt}
-use Rattle.models.specs.Plain.{shapeFault, unifacFault, listsFault}
+use Rattle.models.specs.Faults.{shapeFault, unifacFault, listsFault, dataFault}
 use Rattle.models.specs.Values.{wilsonSize, countsAt}
 use Rattle.mixture.specs.Answers.{numberOf}
-use Rattle.mixture.specs.Faults.{dataFault}
 use Rattle.mixture.specs.Book.{empty, having, bookAnswer, bookAnswers}
-use Rattle.strip.specs.Lists.{isWord, pairsAt, listsAt}
+use Rattle.strip.specs.GroupLists.{isWord, pairsAt, listsAt}
 use Rattle.strip.specs.Records.{shapeOf, recordBy, readAt}
 use Rattle.models.specs.Model.{modelOf}
 use Rattle.strip.specs.Calls.{quantityOf, callOf}

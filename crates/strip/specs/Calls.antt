@@ -11,11 +11,10 @@ use Rattle.models.specs.declared.answers.Quantity.{Quantity}
 use Rattle.models.specs.declared.answers.Quantity.the-variants.{LnGamma, Gamma, ExcessGibbs}
 use Rattle.mixture.specs.declared.setting.Setting.{Setting}
 use Rattle.mixture.specs.declared.setting.Setting.the-variants.{Temperature, Entry, TdEntry, Size, Count}
-use Rattle.mixture.specs.Names.{ModelData}
-use Rattle.models.specs.Model.{modelOf}
+use Rattle.models.specs.Model.{ModelData, modelOf}
 use Rattle.mixture.specs.Book.{Call, Load, Set, Fractions, Query}
 use Rattle.strip.specs.declared.records.Rec.{Rec}
-use Rattle.strip.specs.Lists.{Lists, listsAt}
+use Rattle.strip.specs.GroupLists.{Lists, listsAt}
 
 abbrev pub floatsOf : List ℕ → Rec → List Float
 floatsOf s r = floatsAt s (r .body) (r .floats)

@@ -1,8 +1,8 @@
 pub mod Words
-pub mod Lists
+pub mod GroupLists
 pub mod Records
 pub mod Calls
 pub mod Text
 pub mod Run
-pub mod Inner
 pub mod WorkedTexts
+pub mod steps

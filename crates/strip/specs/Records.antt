@@ -11,7 +11,7 @@ use Rattle.strip.specs.declared.records.Rec.{Rec}
 use Rattle.strip.specs.declared.records.Read.{Read}
 use Rattle.strip.specs.declared.records.Read.the-variants.{Record, Broken, End}
 use Rattle.strip.specs.Words.{kindOf, iOf, jOf, restOf}
-use Rattle.strip.specs.Lists.{listsAt}
+use Rattle.strip.specs.GroupLists.{listsAt}
 
 abbrev pub shape : Bool → ℕ → ℕ → Shape
 shape formed floats lists = record { formed = formed; floats = floats; lists = lists }

@@ -1,10 +1,9 @@
 // The call that a record makes.
 ghost use mathlib.Core.Path.{_≡_};
-ghost use Rattle.mixture.specs.Memory.{memory, after};
+ghost use Rattle.mixture.specs.Memory.{before, later, left};
 ghost use Rattle.mixture.specs.Book.{Load};
-ghost use Rattle.models.specs.Model.{modelOf};
 ghost use Rattle.strip.specs.Calls.{dataOf, settingOf, quantityOf, callOf};
-ghost use Rattle.strip.specs.Inner.{made};
+ghost use Rattle.strip.specs.steps.Run.{made};
 use crate::lists::fill_lists;
 use crate::records::Rec;
 use crate::records::does_fit;
@@ -12,23 +11,11 @@ use arithmetic::TdParam;
 use arithmetic::bytes::fill_floats;
 use mixture::Answer;
 use mixture::Head;
-use mixture::Model;
 use mixture::Reply;
 use mixture::Setting;
 use models::Quantity;
+use models::model::model_numbered;
 use models::parameters::five_at;
-
-// The model that a kind from 1 to 4 loads.
-fn model_of(kind: usize) -> Model
-    ensures { λ r. ⌜ r ≡ modelOf kind ⌝ }
-{
-    match kind {
-        1 => Model::Wilson,
-        2 => Model::Uniquac,
-        3 => Model::Nrtl,
-        _ => Model::Unifac,
-    }
-}
 
 // The setting of a kind, by its first floats: a td entry takes five, another setting one.
 fn setting_of(kind: usize, i: usize, j: usize, five: TdParam) -> Setting
@@ -57,7 +44,8 @@ fn quantity_of(i: usize, j: usize) -> Quantity
 // Makes a record's load; one that doesn't fit is declined with 2. A strip has at most 8,191 floats and, of 12 bytes each, 5,461
 // kinds 13: the buffers hold those of any load.
 fn load(s: &[u8], r: Rec, values: &mut [f64], cells: &[f64], marks: &mut [u8], head: Head) -> Reply
-    ensures { λ o. ⌜ after (memory (now (values .exit)) (now (cells .entry)) (now (marks .exit))) (o .head) (o .answer) ≡ made (now (s .entry)) r (memory (now (values .entry)) (now (cells .entry)) (now (marks .entry))) head (Load (dataOf (now (s .entry)) r)) ⌝ }
+    ensures { λ o. ⌜ left (later values cells marks) o
+        ≡ made (now (s .entry)) r (before values cells marks) head (Load (dataOf (now (s .entry)) r)) ⌝ }
 {
     if !does_fit(s, r) {
         return Reply {
@@ -81,7 +69,7 @@ fn load(s: &[u8], r: Rec, values: &mut [f64], cells: &[f64], marks: &mut [u8], h
         cells,
         marks,
         head,
-        model_of(r.kind),
+        model_numbered(r.kind),
         r.i as usize,
         r.j as usize,
         &lens[..n],
@@ -99,7 +87,8 @@ pub fn make(
     marks: &mut [u8],
     head: Head,
 ) -> Reply
-    ensures { λ o. ⌜ after (memory (now (values .exit)) (now (cells .exit)) (now (marks .exit))) (o .head) (o .answer) ≡ made (now (s .entry)) r (memory (now (values .entry)) (now (cells .entry)) (now (marks .entry))) head (callOf (now (s .entry)) r) ⌝ }
+    ensures { λ o. ⌜ left (later values cells marks) o
+        ≡ made (now (s .entry)) r (before values cells marks) head (callOf (now (s .entry)) r) ⌝ }
 {
     let kind = r.kind;
     if kind < 5 {

@@ -3,8 +3,8 @@ ghost use mathlib.Core.Path.{_≡_};
 ghost use Prim.Native.Nat.{_+_};
 ghost use lib.Dec.{leb};
 ghost use lib.ListN.{length, set};
-ghost use Rattle.strip.specs.Lists.{isWord, listsAt};
-ghost use Rattle.strip.specs.Inner.{Stored};
+ghost use Rattle.strip.specs.GroupLists.{isWord, listsAt};
+ghost use Rattle.strip.specs.steps.Run.{Stored};
 use crate::words::i_of;
 use crate::words::j_of;
 use crate::words::kind_of;
@@ -114,7 +114,9 @@ pub fn fill_lists(
     at: usize,
     n: usize,
 ) -> Met
-    ensures { λ r. ⌜ Stored (listsAt (now (s .entry)) n at) k r (now (lens .entry)) (now (groups .entry)) (now (a .entry)) (now (lens .exit)) (now (groups .exit)) (now (a .exit)) ⌝ }
+    ensures { λ r. ⌜ Stored (listsAt (now (s .entry)) n at) k r
+        (now (lens .entry)) (now (groups .entry)) (now (a .entry))
+        (now (lens .exit)) (now (groups .exit)) (now (a .exit)) ⌝ }
 {
     let mut place = at;
     let mut lists: usize = 0;

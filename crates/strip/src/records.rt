@@ -4,7 +4,7 @@ ghost use mathlib.Core.Bool.{_&&_, _||_};
 ghost use Prim.Native.Nat.{_≤_};
 ghost use lib.Dec.{eqb, ltb};
 ghost use Rattle.strip.specs.Records.{shape, shapeOf, readAt};
-ghost use Rattle.strip.specs.Inner.{fits};
+ghost use Rattle.strip.specs.steps.Run.{fits};
 use crate::lists::has;
 use crate::lists::lists_end;
 use crate::words::MOST_BYTES;

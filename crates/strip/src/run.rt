@@ -1,9 +1,9 @@
 // The run of a strip: from record to record on a mixture of its own.
 ghost use Prim.Native.Nat.{_≤_};
-ghost use Rattle.mixture.specs.Memory.{memory};
+ghost use Rattle.mixture.specs.Memory.{before};
 ghost use Rattle.strip.specs.Text.{Put};
 ghost use Rattle.strip.specs.Run.{transcript, mostText};
-ghost use Rattle.strip.specs.Inner.{walked};
+ghost use Rattle.strip.specs.steps.Run.{walked};
 use crate::calls::make;
 use crate::records::Read;
 use crate::records::read_at;
@@ -11,6 +11,9 @@ use crate::text::put;
 use crate::text::put_answer;
 use crate::words::MOST_BYTES;
 use mixture::Head;
+use mixture::faults::CELLS;
+use mixture::faults::MARKS;
+use mixture::faults::VALUES;
 
 // A line for each record, and `broken` at the first that is malformed or cut; of an over-long strip only that.
 fn walk(
@@ -21,7 +24,8 @@ fn walk(
     head: Head,
     out: &mut [u8],
 ) -> usize
-    ensures { λ r. ⌜ Put (now (out .entry)) 0 (walked (now (s .entry)) (memory (now (values .entry)) (now (cells .entry)) (now (marks .entry))) head) r (now (out .exit)) × (r ≤ mostText) ⌝ }
+    ensures { λ r. ⌜ Put (now (out .entry)) 0 (walked (now (s .entry)) (before values cells marks) head) r (now (out .exit))
+        × (r ≤ mostText) ⌝ }
 {
     if MOST_BYTES < s.len() {
         return put(out, 0, b"broken\n");
@@ -50,11 +54,12 @@ fn walk(
 
 // Stores the text of a strip into `out`, as far as it fits, and answers how long it is.
 pub fn run(strip: &[u8], out: &mut [u8]) -> usize
-    ensures { λ r. ⌜ Put (now (out .entry)) 0 (transcript (now (strip .entry))) r (now (out .exit)) × (r ≤ mostText) ⌝ }
+    ensures { λ r. ⌜ Put (now (out .entry)) 0 (transcript (now (strip .entry))) r (now (out .exit))
+        × (r ≤ mostText) ⌝ }
 {
-    let mut values = [0.0; 5328];
-    let mut cells = [0.0; 1024];
-    let mut marks = [0u8; 1024];
+    let mut values = [0.0; VALUES];
+    let mut cells = [0.0; CELLS];
+    let mut marks = [0u8; MARKS];
     let opened = mixture::open::open(&values, &cells, &marks, mixture::head::bare_head(0, 0));
     let h = opened.head;
     walk(strip, &mut values, &mut cells, &mut marks, h, out)

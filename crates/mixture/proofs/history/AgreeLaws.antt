@@ -14,8 +14,9 @@ use Rattle.models.specs.declared.model.Model.{Model}
 use Rattle.models.specs.declared.model.Model.the-variants.{Wilson, Uniquac, Nrtl, Unifac}
 use Rattle.mixture.specs.declared.setting.Setting.{Setting}
 use Rattle.mixture.specs.declared.setting.Setting.the-variants.{Temperature, Entry, TdEntry, Size, Count}
-use Rattle.mixture.specs.Names.{ModelData, Held, held, width, isCell}
-use Rattle.models.specs.Model.{byModel}
+use Rattle.mixture.specs.Holdings.{Held, held}
+use Rattle.mixture.specs.Cells.{width, isCell}
+use Rattle.models.specs.Model.{ModelData, byModel}
 use Rattle.mixture.specs.Faults.{hasEntry, hasTdEntry, hasSize, hasCount, caseFault}
 use Rattle.mixture.specs.Book.{replaced, holding, setIn}
 use Rattle.mixture.proofs.PlaceLaws.{sizeOf}

@@ -15,7 +15,7 @@ use Rattle.arithmetic.specs.Parameters.{tdAt}
 use Rattle.arithmetic.specs.declared.parameters.TdParam.{TdParam}
 use Rattle.arithmetic.proofs.Tests.{either}
 use Rattle.models.specs.declared.answers.Quantity.{Quantity}
-use Rattle.models.specs.Answers.{indexFault}
+use Rattle.models.specs.Faults.{indexFault}
 use Rattle.models.specs.Exponentials.{energy, groupEnergy}
 use Rattle.models.specs.Wilson.{wilsonAt}
 use Rattle.models.specs.Uniquac.{uniquacAt}
@@ -31,8 +31,9 @@ use Rattle.models.specs.declared.model.Model.the-variants.{Wilson, Uniquac, Nrt
 use Rattle.mixture.specs.declared.setting.Setting.{Setting}
 use Rattle.mixture.specs.declared.setting.Setting.the-variants.{Temperature, Entry, TdEntry, Size, Count}
 use Rattle.mixture.specs.Lists.{anyOf}
-use Rattle.mixture.specs.Names.{ModelData, Held, width, isCell, temperature, entry, tdEntry, inputs, named}
-use Rattle.models.specs.Model.{byModel}
+use Rattle.mixture.specs.Holdings.{Held, temperature, entry, tdEntry, named}
+use Rattle.mixture.specs.Cells.{width, isCell, inputs}
+use Rattle.models.specs.Model.{ModelData, byModel}
 use Rattle.mixture.specs.Faults.{hasEntry, hasTdEntry, hasSize, hasCount, caseFault}
 use Rattle.mixture.specs.Calls.{exponential, valueBy, stales}
 use Rattle.mixture.specs.Book.{Call, Load, Set, Fractions, replaced, setIn, setT, gives, plain}

@@ -14,7 +14,8 @@ use Rattle.models.specs.declared.model.Model.{Model}
 use Rattle.models.specs.declared.model.Model.the-variants.{Wilson, Uniquac, Nrtl, Unifac}
 use Rattle.mixture.specs.declared.setting.Setting.the-variants.{Temperature, Entry, TdEntry, Size, Count}
 use Rattle.mixture.specs.Lists.{howMany, howManyPairs}
-use Rattle.mixture.specs.Names.{Held, width, isCell}
+use Rattle.mixture.specs.Holdings.{Held}
+use Rattle.mixture.specs.Cells.{width, isCell}
 use Rattle.mixture.specs.Faults.{hasEntry, hasTdEntry, caseFault}
 use Rattle.mixture.specs.Calls.{stales}
 use Rattle.mixture.specs.Pins.{cellsNumber, CellsNumber, stalesNumber, StalesNumber}

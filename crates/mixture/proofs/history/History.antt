@@ -19,9 +19,9 @@ use Rattle.arithmetic.specs.Tables.{at, grid}
 use Rattle.arithmetic.proofs.Tests.{either}
 use Rattle.arithmetic.proofs.TableLaws.{cell-lt, cell-row, cell-column}
 use Rattle.models.specs.declared.answers.Quantity.{Quantity}
-use Rattle.models.specs.Answers.{indexFault}
+use Rattle.models.specs.Faults.{indexFault, dataFault, mixFault}
 use Rattle.models.specs.Values.{start, lists}
-use Rattle.models.proofs.ListLaws.{list-place}
+use Rattle.models.proofs.GroupListLaws.{list-place}
 use Rattle.mixture.specs.declared.head.Head.{Head}
 use Rattle.models.specs.declared.model.Model.the-variants.{Unifac}
 use Rattle.mixture.specs.declared.setting.Setting.{Setting}
@@ -30,11 +30,13 @@ use Rattle.mixture.specs.declared.answers.Answer.{Answer}
 use Rattle.mixture.specs.declared.answers.Answer.the-variants.{Refused, Done, Value}
 use Rattle.mixture.specs.Answers.{numberOf, unless}
 use Rattle.mixture.specs.Lists.{written, padded, anyOf, howMany}
-use Rattle.mixture.specs.Names.{ModelData, Held, held, width, isCell, inputs}
-use Rattle.mixture.specs.Faults.{dataFault, caseFault, mixFault}
+use Rattle.mixture.specs.Holdings.{Held, held}
+use Rattle.mixture.specs.Cells.{width, isCell, inputs}
+use Rattle.models.specs.Model.{ModelData}
+use Rattle.mixture.specs.Faults.{caseFault, memoryFault, inRange, headFault, loadFault, settingFault, fractionsFault, queryFault}
 use Rattle.mixture.specs.Memory.{Memory, memory, leastValues, leastCells, leastMarks, After}
 use Rattle.mixture.specs.Layout.{dataIn, place, numbers, cellAt}
-use Rattle.mixture.specs.Calls.{memoryFault, inRange, headFault, outcome, freshHead, afterOpen, loadFault, loadedHead, loadedMemory, afterLoad, settingFault, stales, stalesAt, setMemory, setHead, afterSetting, fractionsFault, withFractions, afterFractions, queryFault, exponential, valueBy, staleAt, worked, answered, afterQuery}
+use Rattle.mixture.specs.Calls.{outcome, freshHead, afterOpen, loadedHead, loadedMemory, afterLoad, stales, stalesAt, setMemory, setHead, afterSetting, withFractions, afterFractions, exponential, valueBy, staleAt, worked, answered, afterQuery}
 use Rattle.mixture.specs.Book.{Call, Open, Load, Set, Fractions, Query, Book, book, empty, setIn, setT, setModel, bookAfter, gives, touched, touchedCells, plain, having, bookAnswer, isQuery, accepted, sinceAfter, bookAnswers}
 use Rattle.mixture.specs.History.{afterCall, answers, History}
 use Rattle.mixture.proofs.ListLaws.{never, or-none, length-written, getD-written, howMany-rows, howManyPairs-same}

@@ -16,11 +16,12 @@ use Rattle.models.specs.declared.model.Model.the-variants.{Wilson, Uniquac, Nrt
 use Rattle.mixture.specs.declared.setting.Setting.{Setting}
 use Rattle.mixture.specs.declared.setting.Setting.the-variants.{Temperature, Entry, TdEntry, Size, Count}
 use Rattle.mixture.specs.Lists.{padded}
-use Rattle.mixture.specs.Names.{ModelData, held}
-use Rattle.models.specs.Model.{byModel, modelOf}
+use Rattle.mixture.specs.Holdings.{held}
+use Rattle.models.specs.Model.{ModelData, byModel, modelOf}
 use Rattle.mixture.specs.Memory.{Memory}
 use Rattle.mixture.specs.Layout.{dataIn, place}
-use Rattle.mixture.specs.Calls.{inRange, loadedHead, loadedMemory}
+use Rattle.mixture.specs.Calls.{loadedHead, loadedMemory}
+use Rattle.mixture.specs.Faults.{inRange}
 use Rattle.mixture.proofs.ListLaws.{never, getD-past}
 use Rattle.mixture.proofs.history.RangeLaws.{at-all, Sound}
 use Rattle.mixture.proofs.PlaceLaws.{nought, sizeOf, D, entry-reads, td-reads, size-reads, count-reads, entry-in, td-in, size-in, count-in}

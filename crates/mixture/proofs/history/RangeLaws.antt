@@ -15,14 +15,15 @@ use Rattle.arithmetic.specs.Floats.{+0}
 use Rattle.arithmetic.specs.Tables.{at, from}
 use Rattle.arithmetic.proofs.Tests.{either, le-or}
 use Rattle.models.specs.Answers.{first, firstTo}
-use Rattle.models.specs.Plain.{between, allTo, shapeFault, listsFault, placeFault, groupsFault, unifacFault}
+use Rattle.models.specs.Faults.{between, allTo, shapeFault, listsFault, placeFault, groupsFault, unifacFault, dataFault}
 use Rattle.models.specs.Values.{wilsonSize, uniquacSize, nrtlSize, countsAt, start, unifacSize, lists}
 use Rattle.models.specs.declared.model.Model.{Model}
 use Rattle.models.specs.declared.model.Model.the-variants.{Wilson, Uniquac, Nrtl, Unifac}
-use Rattle.mixture.specs.Names.{ModelData, held, width}
-use Rattle.mixture.specs.Faults.{dataFault}
+use Rattle.mixture.specs.Holdings.{held}
+use Rattle.mixture.specs.Cells.{width}
+use Rattle.models.specs.Model.{ModelData}
 use Rattle.mixture.specs.Memory.{Memory, leastValues, leastCells, leastMarks, short, isShort}
-use Rattle.mixture.specs.Calls.{memoryFault, inRange}
+use Rattle.mixture.specs.Faults.{memoryFault, inRange}
 use Rattle.mixture.proofs.ListLaws.{never, or-none}
 use Rattle.mixture.proofs.PlaceLaws.{both, passed, spared, nought, sizeOf}
 

@@ -18,7 +18,8 @@ use Rattle.arithmetic.proofs.Tests.{either}
 use Rattle.models.specs.Values.{fiveAt, countsAt, start, lists}
 use Rattle.mixture.specs.declared.setting.Setting.{Setting}
 use Rattle.mixture.specs.declared.setting.Setting.the-variants.{Temperature, Entry, TdEntry, Size, Count}
-use Rattle.mixture.specs.Names.{ModelData, held, entries, tdEntries, sizes}
+use Rattle.mixture.specs.Holdings.{held, entries, tdEntries, sizes}
+use Rattle.models.specs.Model.{ModelData}
 use Rattle.mixture.specs.Faults.{hasEntry, hasTdEntry, hasSize, hasCount, caseFault}
 use Rattle.mixture.specs.Layout.{place, numbers}
 use Rattle.mixture.specs.Book.{replaced, setIn}

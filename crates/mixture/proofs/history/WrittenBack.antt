@@ -11,12 +11,13 @@ use lib.Ieee.{Float, nan}
 use Rattle.arithmetic.specs.Tables.{at, from}
 use Rattle.arithmetic.proofs.TableLaws.{from-at}
 use Rattle.models.specs.Values.{tdGrid, wilsonSize, energies, volumes, uniquacSize, rs, qs, nrtlSize, taus, alphas, countsAt, groupRs, groupQs, groupAs, start, unifacSize, lists}
-use Rattle.models.proofs.ListLaws.{list-place}
+use Rattle.models.proofs.GroupListLaws.{list-place}
 use Rattle.models.specs.declared.model.Model.{Model}
 use Rattle.models.specs.declared.model.Model.the-variants.{Wilson, Uniquac, Nrtl, Unifac}
 use Rattle.mixture.specs.Lists.{row, rows}
-use Rattle.mixture.specs.Names.{ModelData, held, entries, tdEntries, sizes}
-use Rattle.mixture.specs.Plain.{valuesIn, WrittenBack}
+use Rattle.mixture.specs.Holdings.{held, entries, tdEntries, sizes}
+use Rattle.models.specs.Model.{ModelData}
+use Rattle.mixture.specs.WrittenBack.{valuesIn, WrittenBack}
 use Rattle.mixture.proofs.PlaceLaws.{sizeOf, D}
 use Rattle.mixture.proofs.history.RangeLaws.{sound}
 use Rattle.mixture.proofs.RowLaws.{before, before-lens, row-is, rows-is, table-is, tds-is}

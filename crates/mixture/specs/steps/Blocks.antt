@@ -10,12 +10,11 @@ use Rattle.models.specs.declared.model.Model.{Model}
 use Rattle.mixture.specs.declared.setting.Setting.{Setting}
 use Rattle.mixture.specs.declared.setting.Setting.the-variants.{Temperature, Entry, TdEntry, Size, Count}
 use Rattle.mixture.specs.declared.stale.Block.{Block}
-use Rattle.mixture.specs.Names.{ModelData, held}
-use Rattle.models.specs.Model.{byModel}
-use Rattle.mixture.specs.Faults.{caseFault}
+use Rattle.mixture.specs.Holdings.{held}
+use Rattle.models.specs.Model.{ModelData, byModel}
+use Rattle.mixture.specs.Faults.{caseFault, inRange}
 use Rattle.mixture.specs.Memory.{memory}
 use Rattle.mixture.specs.Layout.{dataIn}
-use Rattle.mixture.specs.Calls.{inRange}
 
 -- the place c, in rows of w, is one of the block's; on the diagonal only where that has cells
 unfoldable pub inBlock : ℕ → Bool → Block → ℕ → Bool

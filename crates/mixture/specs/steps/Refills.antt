@@ -15,12 +15,13 @@ use Rattle.arithmetic.specs.Tables.{Table, at, grid}
 use Rattle.models.specs.declared.answers.Quantity.{Quantity}
 use Rattle.models.specs.Exponentials.{energy, nonrandomness}
 use Rattle.models.specs.Values.{start, fiveAt}
-use Rattle.models.specs.UnifacSteps.{psiBy}
+use Rattle.models.specs.steps.Unifac.{psiBy}
 use Rattle.mixture.specs.declared.head.Head.{Head}
 use Rattle.models.specs.declared.model.Model.{Model}
 use Rattle.mixture.specs.declared.query.Worked.{Worked}
 use Rattle.mixture.specs.Lists.{written, howMany}
-use Rattle.mixture.specs.Names.{held, width}
+use Rattle.mixture.specs.Holdings.{held}
+use Rattle.mixture.specs.Cells.{width}
 use Rattle.models.specs.Model.{byModel}
 use Rattle.mixture.specs.Memory.{Memory}
 use Rattle.mixture.specs.Layout.{dataIn}

@@ -10,7 +10,7 @@ use mir.ValLaws.{toZ-ofZ}
 use Rattle.arithmetic.specs.Floats.{dec, one}
 use Rattle.arithmetic.specs.Exponential.{highest, lowest, scaled, reduced, exponent}
 use Rattle.arithmetic.proofs.Within.{near}
-use Rattle.arithmetic.proofs.Cutting.{cut-within, Inside}
+use Rattle.arithmetic.proofs.exponential.Cutting.{cut-within, Inside}
 use Rattle.arithmetic.proofs.Powers.{Near}
 use Rattle.arithmetic.proofs.Tests.{failed, first-fails, second-fails}
 use Rattle.arithmetic.proofs.ByteLaws.{no-nan}

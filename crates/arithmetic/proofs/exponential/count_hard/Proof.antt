@@ -3,7 +3,7 @@ use mathlib.Core.Path.{_≡_}
 use Prim.Native.Nat.{ℕ, _-_, _≤_, _<_}
 use native.Mathlib.Omega.{arith}
 use borrow.Author.Count.{below-more}
-use Rattle.arithmetic.specs.Nearest.{Easy}
+use Rattle.arithmetic.specs.steps.Nearest.{Easy}
 use Rattle.arithmetic.specs.Tables.{at}
 use Rattle.arithmetic.proofs.exponential.count_hard.Statement.{statement}
 use Rattle.arithmetic.proofs.exponential.count_hard.Tie as tie

@@ -5,11 +5,11 @@ use lib.IntN.{negsuc}
 use lib.Ieee.{fin, ofBits, neg, round, le}
 use Rattle.arithmetic.specs.Floats.{_⊗_, dec, one, two^}
 use Rattle.arithmetic.specs.Exponential.{exponent, reduced, scaled, reciprocal}
-use Rattle.arithmetic.specs.Nearest.{nearest}
+use Rattle.arithmetic.specs.steps.Nearest.{nearest}
 use Rattle.arithmetic.proofs.Tests.{first-fails, second-fails}
 use Rattle.arithmetic.proofs.Powers.{scaled-within}
 use Rattle.arithmetic.proofs.ExpBranches.{exp-tiny, exp-rest}
-use Rattle.arithmetic.proofs.EasyExp.{found, as-whole, wide-is, wide-fits, unscaled, easy-plain}
+use Rattle.arithmetic.proofs.exponential.EasyExp.{found, as-whole, wide-is, wide-fits, unscaled, easy-plain}
 use Rattle.arithmetic.proofs.exponential.easy_exp.Statement.{statement}
 use Rattle.arithmetic.proofs.exponential.easy_exp.Tie as tie
 

@@ -10,7 +10,7 @@ use mir.ValLaws.{toZ-ofZ}
 use Rattle.arithmetic.specs.Floats.{_⊕_, _⊗_, dec, half}
 use Rattle.arithmetic.specs.Exponential.{exponent, reciprocal, rounding}
 use Rattle.arithmetic.proofs.Within.{above-least, below-most}
-use Rattle.arithmetic.proofs.Cutting.{cut-within}
+use Rattle.arithmetic.proofs.exponential.Cutting.{cut-within}
 use Rattle.arithmetic.proofs.exponential.exponent.Statement.{statement}
 use Rattle.arithmetic.proofs.exponential.exponent.Tie as tie
 

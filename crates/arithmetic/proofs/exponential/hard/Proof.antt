@@ -5,7 +5,7 @@ use lib.Dec.{T}
 use lib.Ieee.{Float, ofBits, neg, lt, round}
 use Rattle.arithmetic.specs.Floats.{_⊖_, _⊗_, dec}
 use Rattle.arithmetic.specs.Exponential.{reciprocal}
-use Rattle.arithmetic.specs.Nearest.{margin}
+use Rattle.arithmetic.specs.steps.Nearest.{margin}
 use Rattle.arithmetic.proofs.Tests.{passed}
 use Rattle.arithmetic.proofs.exponential.hard.Statement.{statement}
 use Rattle.arithmetic.proofs.exponential.hard.Tie as tie

@@ -1,7 +1,7 @@
 -- The code is the definition.
 use mathlib.Core.Path.{refl}
 use lib.Ieee.{ofBits}
-use Rattle.arithmetic.specs.Nearest.{nearest}
+use Rattle.arithmetic.specs.steps.Nearest.{nearest}
 use Rattle.arithmetic.proofs.exponential.nearest.Statement.{statement}
 use Rattle.arithmetic.proofs.exponential.nearest.Tie as tie
 

@@ -10,8 +10,8 @@ use Rattle.arithmetic.specs.Floats.{dec, one}
 use Rattle.arithmetic.proofs.Tests.{passed, failed}
 use Rattle.arithmetic.proofs.ExpBranches.{a-nan}
 use Rattle.arithmetic.proofs.ByteLaws.{no-nan}
-use Rattle.arithmetic.proofs.LogBranches.{Positive, normal-of, log-nan, is-inf, log-negative, log-zero, log-inf, log-one, log-rest}
-use Rattle.arithmetic.proofs.Decomposing.{Parts, parts-of, q-range, small-zeros, small-q, small-x, rest-is}
+use Rattle.arithmetic.proofs.logarithm.LogBranches.{Positive, normal-of, log-nan, is-inf, log-negative, log-zero, log-inf, log-one, log-rest}
+use Rattle.arithmetic.proofs.logarithm.Decomposing.{Parts, parts-of, q-range, small-zeros, small-q, small-x, rest-is}
 use Rattle.arithmetic.proofs.logarithm.careful_log.Statement.{statement}
 use Rattle.arithmetic.proofs.logarithm.careful_log.Tie as tie
 

@@ -3,7 +3,7 @@ use mathlib.Core.Path.{sym, ap, _∙_, subst}
 use Prim.Native.Nat.{_-_}
 use native.Mathlib.Omega.{arith}
 use Rattle.arithmetic.specs.Logarithm.{logOf}
-use Rattle.arithmetic.specs.Digits.{Normal}
+use Rattle.arithmetic.specs.steps.Digits.{Normal}
 use Rattle.arithmetic.specs.Tables.{at}
 use Rattle.arithmetic.proofs.TableLaws.{Rewriting, rewriting-none, rewriting-next, rewriting-more, rewriting-done}
 use Rattle.arithmetic.proofs.logarithm.each_easy.Statement.{statement}

@@ -6,8 +6,8 @@ use native.Mathlib.Omega.{arith}
 use lib.Ieee.{binary64, ofBits, toBits, round}
 use Rattle.arithmetic.specs.Floats.{dec, one}
 use Rattle.arithmetic.proofs.Tests.{passed, failed}
-use Rattle.arithmetic.proofs.LogBranches.{Positive, normal-positive, log-one, log-rest}
-use Rattle.arithmetic.proofs.Decomposing.{Parts, parts-of, q-range, normal-q, normal-x, rest-is}
+use Rattle.arithmetic.proofs.logarithm.LogBranches.{Positive, normal-positive, log-one, log-rest}
+use Rattle.arithmetic.proofs.logarithm.Decomposing.{Parts, parts-of, q-range, normal-q, normal-x, rest-is}
 use Rattle.arithmetic.proofs.logarithm.easy_log.Statement.{statement}
 use Rattle.arithmetic.proofs.logarithm.easy_log.Tie as tie
 

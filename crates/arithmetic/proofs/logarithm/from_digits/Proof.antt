@@ -11,8 +11,8 @@ use mir.Val.{toZ, ofZ}
 use mir.ValLaws.{toZ-ofZ}
 use borrow.Author.Needs.{needs}
 use Rattle.arithmetic.specs.Logarithm.{logBy}
-use Rattle.arithmetic.specs.Digits.{fromDigits}
-use Rattle.arithmetic.proofs.Differences.{digits-bits, digits-no-nan, diff-fits, diff-back}
+use Rattle.arithmetic.specs.steps.Digits.{fromDigits}
+use Rattle.arithmetic.proofs.logarithm.Differences.{digits-bits, digits-no-nan, diff-fits, diff-back}
 use Rattle.arithmetic.proofs.logarithm.from_digits.Statement.{statement}
 use Rattle.arithmetic.proofs.logarithm.from_digits.Tie as tie
 

@@ -1,12 +1,9 @@
--- Values that are no whole eights, or more than any model has, give 2; else they are decoded.
-use mathlib.Core.Path.{ap, _∙_}
+-- Values that are no whole eights, a number of no model, or more values than any has, give 2; else the values are decoded.
+use mathlib.Core.Path.{_∙_}
 use native.Mathlib.Omega.{arith}
 use borrow.Author.Needs.{needs}
 use denote.Ref.{now}
-use mathlib.Core.List.{List}
-use lib.Ieee.{Float}
-use Rattle.kiltgrit.specs.Exports.{exportedBy}
-use Rattle.kiltgrit.proofs.ExportLaws.{whole-eights, length-eights, exported-rest, exported-whole, exported-long}
+use Rattle.kiltgrit.proofs.plain.ExportLaws.{whole-eights, exported-rest, exported-none, exported-over, exported-whole, exported-long}
 use Rattle.kiltgrit.proofs.plain.call.Statement.{statement}
 use Rattle.kiltgrit.proofs.plain.call.Tie as tie
 
@@ -14,17 +11,24 @@ returns : tie.Need-returns
 returns c = exported-rest _ _ _ _ _ _ _ _ _ (c .if1 .taken)
 
 returns-2 : tie.Need-returns-2
-returns-2 c =
-    let values = now (c .before .before .before .before .before .before .args .values) in
-    exported-whole _ _ _ _ _ values _ _ _ (c .before .if1 .left) (exported-long _ _ _ _ _ _ _ _ _ (omega (arith, length-eights values)))
+returns-2 c = exported-none _ _ _ _ _ _ _ _ _ (c .before .if1 .left) (c .if2 .taken)
 
 returns-3 : tie.Need-returns-3
-returns-3 c =
-    let whole = c .before .before .before .before .before .before .if1 .left in
-    let a = c .before .before .before .before .before .before .before .before .before .before .before .args in
-    let decoded = c .before .before .before .fill-floats .ensures .1 ∙ whole-eights (now (a .values)) _ (omega (arith, whole)) in
-    exported-whole _ _ _ _ _ (now (a .values)) _ _ _ whole
-    (c .call-with .ensures ∙ ap (λ (l : List Float). exportedBy (a .model) (a .n) (a .ng) (now (a .lens)) (now (a .groups)) l (a .t) (now (a .x)) (a .q)) decoded)
+returns-3 c = exported-over _ _ _ _ _ _ _ _ _ (c .before .before .if1 .left) (c .before .if2 .left) (c .if3 .taken)
+
+returns-4 : tie.Need-returns-4
+returns-4 c =
+    exported-long _ _ _ _ _ _ _ _ _ (c .before .before .before .if1 .left) (c .before .before .if2 .left) (c .before .if3 .left) (c .if4 .taken)
+
+returns-5 : tie.Need-returns-5
+returns-5 c =
+    let read = c .before .before .before .before in
+    let counted = read .before .before in
+    let whole = counted .before .before .before .if1 .left in
+    let a = counted .before .before .before .before .before .before .before .before .args in
+    let decoded = read .fill-floats .ensures .1 ∙ whole-eights (now (a .values)) _ (omega (arith, whole)) in
+    exported-whole _ _ _ _ _ (now (a .values)) _ _ _ whole (counted .before .before .if2 .left) (counted .before .if3 .left)
+    (c .call-with .ensures ∙ rw (c .before .before .model-numbered .ensures, decoded))
 
 pub call-spec : {M : Type 1} → statement M
 call-spec =
@@ -32,9 +36,12 @@ call-spec =
     (tie.spec
     returns
     returns-2
+    returns-3
+    returns-4
     (λ c. search needs)
     (λ c κs. search needs)
+    (λ c κs. tt)
     (λ c. search needs)
     (λ c. search needs)
     (λ c κs. tt)
-    returns-3)
+    returns-5)

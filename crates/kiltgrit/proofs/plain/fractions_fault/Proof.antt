@@ -4,8 +4,8 @@ use native.Mathlib.Omega.{arith}
 use lib.Ieee.{round, ofBits}
 use borrow.Author.Tests.{eq-eqb, ne-eqb}
 use Rattle.arithmetic.specs.Floats.{dec}
-use Rattle.models.specs.Composition.{tolerance}
-use Rattle.kiltgrit.proofs.ExportLaws.{eights-empty, eights-off, eights-length, eights-index, eights-rest}
+use Rattle.models.specs.Faults.{tolerance}
+use Rattle.kiltgrit.proofs.plain.ExportLaws.{eights-empty, eights-off, eights-length, eights-index, eights-rest}
 use Rattle.kiltgrit.proofs.plain.fractions_fault.Statement.{statement}
 use Rattle.kiltgrit.proofs.plain.fractions_fault.Tie as tie
 

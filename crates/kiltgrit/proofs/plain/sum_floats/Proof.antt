@@ -7,7 +7,7 @@ use lib.ListN.{length}
 use Rattle.arithmetic.specs.Bytes.{floatAt}
 use Rattle.arithmetic.specs.Sums.{sum}
 use Rattle.arithmetic.proofs.SumLaws.{sum-none, sum-more, sum-done}
-use Rattle.kiltgrit.proofs.ExportLaws.{total-eights}
+use Rattle.kiltgrit.proofs.plain.ExportLaws.{total-eights}
 use Rattle.kiltgrit.proofs.plain.sum_floats.Statement.{statement}
 use Rattle.kiltgrit.proofs.plain.sum_floats.Tie as tie
 

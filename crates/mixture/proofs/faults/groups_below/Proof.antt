@@ -3,8 +3,8 @@ use mathlib.Core.Bool.{true}
 use lib.Dec.{ltb}
 use native.Mathlib.Nat.{le-antisymm}
 use borrow.Author.Tests.{lt-ltb, le-ltb}
-use Rattle.models.specs.Plain.{allTo}
-use Rattle.models.proofs.ListLaws.{all-none, all-more, all-fails}
+use Rattle.models.specs.Faults.{allTo}
+use Rattle.models.proofs.GroupListLaws.{all-none, all-more, all-fails}
 use mathlib.Core.Path.{_≡_}
 use Prim.Native.Nat.{_-_, _≤_}
 use native.Mathlib.Omega.{arith}

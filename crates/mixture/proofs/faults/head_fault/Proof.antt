@@ -3,7 +3,7 @@ use mathlib.Core.Path.{_≡_, sym, _∙_}
 use mathlib.Core.Bool.{Bool, cond}
 use lib.ListN.{length}
 use Rattle.mixture.specs.Memory.{Memory}
-use Rattle.mixture.specs.Calls.{memoryFault, headFault}
+use Rattle.mixture.specs.Faults.{memoryFault, headFault}
 use Rattle.mixture.proofs.CallLaws.{short-by, judged-short, judged-none, judged-many, judged-by}
 use Rattle.mixture.proofs.faults.head_fault.Statement.{statement}
 use Rattle.mixture.proofs.faults.head_fault.Tie as tie

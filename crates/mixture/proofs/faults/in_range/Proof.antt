@@ -3,13 +3,13 @@ use mathlib.Core.Path.{_≡_, refl, sym, _∙_}
 use mathlib.Core.Bool.{true, false}
 use borrow.Author.Needs.{needs}
 use borrow.Author.Tests.{le-leb, lt-leb}
-use Rattle.models.specs.Plain.{between}
+use Rattle.models.specs.Faults.{between}
 use Rattle.models.specs.declared.model.Model.{Model}
 use Rattle.models.specs.declared.model.Model.the-variants.{Wilson, Uniquac, Nrtl}
 use Rattle.models.specs.Model.{byModel}
 use Rattle.mixture.specs.Memory.{Memory}
 use Rattle.mixture.specs.Layout.{dataIn}
-use Rattle.mixture.specs.Calls.{inRange}
+use Rattle.mixture.specs.Faults.{inRange}
 use Rattle.mixture.proofs.CallLaws.{range-not, range-plain, range-lists}
 use Rattle.mixture.proofs.faults.in_range.Statement.{statement}
 use Rattle.mixture.proofs.faults.in_range.Tie as tie

@@ -6,7 +6,7 @@ use borrow.Author.Needs.{needs}
 use borrow.Author.Tests.{le-leb, lt-leb, leb-true, not-true, not-false}
 use lib.Dec.{leb}
 use lib.ListN.{getD}
-use Rattle.models.specs.Plain.{allTo}
+use Rattle.models.specs.Faults.{allTo}
 use Rattle.mixture.proofs.history.RangeLaws.{all-at, start-bound}
 use Rattle.mixture.proofs.faults.lists_in_range.Statement.{statement}
 use Rattle.mixture.proofs.faults.lists_in_range.Tie as tie

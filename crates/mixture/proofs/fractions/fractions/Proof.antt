@@ -2,7 +2,8 @@
 use mathlib.Core.Path.{_≡_, refl, sym, _∙_}
 use denote.Ref.{now}
 use Rattle.mixture.specs.Memory.{Memory, memory}
-use Rattle.mixture.specs.Calls.{fractionsFault, afterFractions}
+use Rattle.mixture.specs.Calls.{afterFractions}
+use Rattle.mixture.specs.Faults.{fractionsFault}
 use Rattle.mixture.proofs.CallLaws.{refused, done, fractions-fit}
 use Rattle.mixture.proofs.fractions.fractions.Statement.{statement}
 use Rattle.mixture.proofs.fractions.fractions.Tie as tie

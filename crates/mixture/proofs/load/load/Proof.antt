@@ -2,10 +2,10 @@
 use mathlib.Core.Path.{_≡_, refl, sym, _∙_}
 use denote.Ref.{now}
 use borrow.Author.Needs.{needs}
-use Rattle.mixture.specs.Names.{ModelData}
-use Rattle.mixture.specs.Faults.{dataFault}
+use Rattle.models.specs.Model.{ModelData}
+use Rattle.models.specs.Faults.{dataFault}
 use Rattle.mixture.specs.Memory.{Memory, memory}
-use Rattle.mixture.specs.Calls.{memoryFault}
+use Rattle.mixture.specs.Faults.{memoryFault}
 use Rattle.mixture.proofs.CallLaws.{Fits, load-fits, load-short, load-refused, load-done}
 use Rattle.mixture.proofs.load.load.Statement.{statement}
 use Rattle.mixture.proofs.load.load.Tie as tie
@@ -33,7 +33,7 @@ unfolding memoryFault
 long c = sym (c .before .memory-fault .ensures) ∙ c .if1 .left
 
 none : (c : tie.Else2) → dataFault (dataOf (c .before .before .before)) ≡ 0
-none c = sym (c .before .data-fault .ensures) ∙ c .if2 .left
+none c = sym (c .before .data-fault .ensures .0) ∙ c .if2 .left
 
 fits : (c : tie.Else2) → Fits (memOf (c .before .before .before)) (dataOf (c .before .before .before))
 fits c = load-fits _ _ (long (c .before .before)) (none c)
@@ -45,7 +45,7 @@ returns c = load-short (memOf (c .before)) _ (dataOf (c .before)) (c .before .me
 returns-2 : tie.Need-returns-2
 returns-2 c =
     let judged = c .before .before in
-    load-refused (memOf (judged .before)) _ (dataOf (judged .before)) (long judged) (c .before .data-fault .ensures) (c .if2 .taken)
+    load-refused (memOf (judged .before)) _ (dataOf (judged .before)) (long judged) (c .before .data-fault .ensures .0) (c .if2 .taken)
 
 stale-cells-requires : tie.Need-stale-cells-requires
 stale-cells-requires c κs = let f = fits (c .before .before .before .before .before) in (f .width .0, f .width .1, f .marks)

@@ -1,6 +1,7 @@
 -- Refuses with 1 where a slice is short, by the three lengths; else gives the fresh head without a model back.
 use mathlib.Core.Path.{sym, _∙_}
-use Rattle.mixture.specs.Calls.{memoryFault, afterOpen}
+use Rattle.mixture.specs.Calls.{afterOpen}
+use Rattle.mixture.specs.Faults.{memoryFault}
 use Rattle.mixture.proofs.CallLaws.{refused, done}
 use Rattle.mixture.proofs.open.open.Statement.{statement}
 use Rattle.mixture.proofs.open.open.Tie as tie

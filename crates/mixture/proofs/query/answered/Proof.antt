@@ -3,8 +3,8 @@ use mathlib.Core.Path.{_≡_, refl, sym, _∙_}
 use borrow.Author.Needs.{needs}
 use denote.Ref.{now}
 use Rattle.mixture.specs.Memory.{Memory, memory}
-use Rattle.mixture.specs.Calls.{queryFault}
-use Rattle.mixture.proofs.QueryLaws.{query-refused, query-answered}
+use Rattle.mixture.specs.Faults.{queryFault}
+use Rattle.mixture.proofs.query.QueryLaws.{query-refused, query-answered}
 use Rattle.mixture.proofs.query.answered.Statement.{statement}
 use Rattle.mixture.proofs.query.answered.Tie as tie
 

@@ -6,7 +6,7 @@ use lib.ListN.{length}
 use Prim.Native.Nat.{_*_}
 use Rattle.arithmetic.proofs.TableLaws.{from-length}
 use Rattle.models.specs.Values.{nrtlSize}
-use Rattle.mixture.proofs.SolvedLaws.{Room, few-room, nrtl-solved}
+use Rattle.mixture.proofs.query.SolvedLaws.{Room, few-room, nrtl-solved}
 use Rattle.mixture.proofs.query.nrtl_over.Statement.{statement}
 use Rattle.mixture.proofs.query.nrtl_over.Tie as tie
 

@@ -4,12 +4,12 @@ use Prim.Native.Nat.{_≤_}
 use borrow.Author.Needs.{needs}
 use denote.Ref.{now}
 use lib.ListN.{length}
-use Rattle.models.specs.Answers.{indexFault}
+use Rattle.models.specs.Faults.{indexFault}
 use Rattle.models.specs.declared.model.Model.{Model}
 use Rattle.mixture.specs.Memory.{Memory, memory, leastValues, leastCells, leastMarks}
 use Rattle.models.specs.Model.{modelOf}
 use Rattle.mixture.proofs.CallLaws.{Passed}
-use Rattle.mixture.proofs.QueryLaws.{query-passed, head-ranged, wilson-answered, uniquac-answered, nrtl-answered, unifac-answered}
+use Rattle.mixture.proofs.query.QueryLaws.{query-passed, head-ranged, wilson-answered, uniquac-answered, nrtl-answered, unifac-answered}
 use Rattle.mixture.proofs.query.solve.Statement.{statement}
 use Rattle.mixture.proofs.query.solve.Tie as tie
 

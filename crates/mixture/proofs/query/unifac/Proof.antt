@@ -9,7 +9,7 @@ use lib.ListN.{length}
 use Rattle.arithmetic.proofs.TableLaws.{row-end, from-length}
 use Rattle.models.specs.Values.{countsAt}
 use Rattle.mixture.specs.Memory.{leastValues, leastCells, leastMarks}
-use Rattle.mixture.proofs.SolvedLaws.{unifac-solved}
+use Rattle.mixture.proofs.query.SolvedLaws.{unifac-solved}
 use Rattle.mixture.proofs.query.unifac.Statement.{statement}
 use Rattle.mixture.proofs.query.unifac.Tie as tie
 

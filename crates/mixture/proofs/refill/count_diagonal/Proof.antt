@@ -9,7 +9,7 @@ use lib.ListN.{length}
 use Rattle.arithmetic.proofs.TableLaws.{cell-lt}
 use Rattle.mixture.specs.Lists.{howMany}
 use Rattle.mixture.specs.steps.Refills.{unmarked}
-use Rattle.mixture.proofs.FreshLaws.{many-none, many-more, many-skip, many-few, many-done, is-unmarked, is-marked}
+use Rattle.mixture.proofs.refill.FreshLaws.{many-none, many-more, many-skip, many-few, many-done, is-unmarked, is-marked}
 use Rattle.mixture.proofs.refill.count_diagonal.Statement.{statement}
 use Rattle.mixture.proofs.refill.count_diagonal.Tie as tie
 

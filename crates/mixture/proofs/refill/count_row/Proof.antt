@@ -3,7 +3,7 @@ use mathlib.Core.Path.{sym, _∙_}
 use native.Mathlib.Omega.{arith}
 use borrow.Author.Needs.{needs}
 use denote.Ref.{now}
-use Rattle.mixture.proofs.FreshLaws.{row-all, row-but, row-less}
+use Rattle.mixture.proofs.refill.FreshLaws.{row-all, row-but, row-less}
 use Rattle.mixture.proofs.refill.count_row.Statement.{statement}
 use Rattle.mixture.proofs.refill.count_row.Tie as tie
 

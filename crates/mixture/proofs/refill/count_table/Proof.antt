@@ -4,7 +4,7 @@ use native.Mathlib.Nat.{mul-le-mul}
 use native.Mathlib.Omega.{arith}
 use borrow.Author.Needs.{needs}
 use denote.Ref.{now}
-use Rattle.mixture.proofs.FreshLaws.{table-all, table-apart}
+use Rattle.mixture.proofs.refill.FreshLaws.{table-all, table-apart}
 use Rattle.mixture.proofs.refill.count_table.Statement.{statement}
 use Rattle.mixture.proofs.refill.count_table.Tie as tie
 

@@ -5,7 +5,7 @@ use Prim.Native.Nat.{_-_, _≤_}
 use native.Mathlib.Omega.{arith}
 use Rattle.mixture.specs.Lists.{howMany}
 use Rattle.mixture.specs.steps.Refills.{unmarked}
-use Rattle.mixture.proofs.FreshLaws.{many-none, many-more, many-skip, many-few, many-done, is-unmarked, is-marked}
+use Rattle.mixture.proofs.refill.FreshLaws.{many-none, many-more, many-skip, many-few, many-done, is-unmarked, is-marked}
 use Rattle.mixture.proofs.refill.count_unmarked.Statement.{statement}
 use Rattle.mixture.proofs.refill.count_unmarked.Tie as tie
 

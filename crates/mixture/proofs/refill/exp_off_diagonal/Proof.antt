@@ -1,7 +1,7 @@
 -- The last row stands on the diagonal while the rows above it take their exp, and goes back.
 use native.Mathlib.Omega.{arith}
 use borrow.Author.Needs.{needs}
-use Rattle.mixture.proofs.GatherLaws.{exp-off}
+use Rattle.mixture.proofs.refill.GatherLaws.{exp-off}
 use Rattle.mixture.proofs.RefillLaws.{last-row}
 use Rattle.mixture.proofs.refill.exp_off_diagonal.Statement.{statement}
 use Rattle.mixture.proofs.refill.exp_off_diagonal.Tie as tie

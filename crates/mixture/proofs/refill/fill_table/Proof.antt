@@ -9,7 +9,7 @@ use lib.ListN.{length}
 use Rattle.arithmetic.specs.Tables.{from, Filled}
 use Rattle.arithmetic.proofs.TableLaws.{row-end, from-length, filled-none, filled-less}
 use Rattle.mixture.specs.steps.Refills.{rowArgument}
-use Rattle.mixture.proofs.GatherLaws.{table-more}
+use Rattle.mixture.proofs.refill.GatherLaws.{table-more}
 use Rattle.mixture.proofs.refill.fill_table.Statement.{statement}
 use Rattle.mixture.proofs.refill.fill_table.Tie as tie
 

@@ -6,7 +6,7 @@ use native.Mathlib.Omega.{arith}
 use borrow.Author.Needs.{needs}
 use lib.ListN.{length, getD}
 use Rattle.mixture.specs.steps.Refills.{rowArgument, staleCell}
-use Rattle.mixture.proofs.GatherLaws.{Gathering, gathering-none, gathering-more, gathering-skip, gathered-done, gathered-count}
+use Rattle.mixture.proofs.refill.GatherLaws.{Gathering, gathering-none, gathering-more, gathering-skip, gathered-done, gathered-count}
 use Rattle.mixture.proofs.refill.gather.Statement.{statement}
 use Rattle.mixture.proofs.refill.gather.Tie as tie
 

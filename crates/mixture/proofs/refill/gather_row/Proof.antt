@@ -1,7 +1,7 @@
 -- Gathers what a row's stale cells are the exp of: where all of its places are such cells, each stands at its own place.
 use mathlib.Core.Path.{sym, _∙_}
 use borrow.Author.Needs.{needs}
-use Rattle.mixture.proofs.GatherLaws.{gathered-all, gathered-count, unifac-arguments}
+use Rattle.mixture.proofs.refill.GatherLaws.{gathered-all, gathered-count, unifac-arguments}
 use Rattle.mixture.proofs.refill.gather_row.Statement.{statement}
 use Rattle.mixture.proofs.refill.gather_row.Tie as tie
 

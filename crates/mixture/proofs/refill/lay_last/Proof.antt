@@ -7,7 +7,7 @@ use denote.Ref.{now}
 use lib.ListN.{length, length-set}
 use Rattle.arithmetic.proofs.TableLaws.{cell-lt}
 use Rattle.mixture.specs.steps.Refills.{Laid}
-use Rattle.mixture.proofs.GatherLaws.{laid-none, laid-more}
+use Rattle.mixture.proofs.refill.GatherLaws.{laid-none, laid-more}
 use Rattle.mixture.proofs.refill.lay_last.Statement.{statement}
 use Rattle.mixture.proofs.refill.lay_last.Tie as tie
 

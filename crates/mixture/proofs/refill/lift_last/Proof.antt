@@ -7,7 +7,7 @@ use denote.Ref.{now}
 use lib.ListN.{length, length-set}
 use Rattle.arithmetic.proofs.TableLaws.{cell-lt}
 use Rattle.mixture.specs.steps.Refills.{Lifted}
-use Rattle.mixture.proofs.GatherLaws.{lifted-none, lifted-more}
+use Rattle.mixture.proofs.refill.GatherLaws.{lifted-none, lifted-more}
 use Rattle.mixture.proofs.refill.lift_last.Statement.{statement}
 use Rattle.mixture.proofs.refill.lift_last.Tie as tie
 

@@ -2,7 +2,7 @@
 use mathlib.Core.Path.{sym, _∙_}
 use native.Mathlib.Omega.{arith}
 use borrow.Author.Needs.{needs}
-use Rattle.mixture.proofs.FreshLaws.{none-of}
+use Rattle.mixture.proofs.refill.FreshLaws.{none-of}
 use Rattle.mixture.proofs.RefillLaws.{refilled-fresh}
 use Rattle.mixture.proofs.refill.refill.Statement.{statement}
 use Rattle.mixture.proofs.refill.refill.Tie as tie

@@ -3,8 +3,8 @@
 use mathlib.Core.Path.{sym, _∙_}
 use native.Mathlib.Omega.{arith}
 use borrow.Author.Needs.{needs}
-use Rattle.mixture.proofs.FreshLaws.{none-of}
-use Rattle.mixture.proofs.GatherLaws.{row-exp, gathered-few, gathered-exp, refilled-where}
+use Rattle.mixture.proofs.refill.FreshLaws.{none-of}
+use Rattle.mixture.proofs.refill.GatherLaws.{row-exp, gathered-few, gathered-exp, refilled-where}
 use Rattle.mixture.proofs.RefillLaws.{refilled-fresh, refilled-count}
 use Rattle.mixture.proofs.refill.refill_row.Statement.{statement}
 use Rattle.mixture.proofs.refill.refill_row.Tie as tie

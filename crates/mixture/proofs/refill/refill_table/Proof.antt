@@ -1,7 +1,7 @@
 -- Works out a table's cells: the arguments, then exp of each off the diagonal, which is every cell; the stale ones are taken over.
 use borrow.Author.Needs.{needs}
 use denote.Ref.{now}
-use Rattle.mixture.proofs.GatherLaws.{table-cells, refilled-where}
+use Rattle.mixture.proofs.refill.GatherLaws.{table-cells, refilled-where}
 use Rattle.mixture.proofs.RefillLaws.{refilled-count}
 use Rattle.mixture.proofs.refill.refill_table.Statement.{statement}
 use Rattle.mixture.proofs.refill.refill_table.Tie as tie

@@ -4,7 +4,7 @@ use native.Mathlib.Omega.{arith}
 use denote.Ref.{now}
 use borrow.Author.Needs.{needs}
 use Rattle.mixture.specs.Memory.{Memory, memory}
-use Rattle.mixture.specs.Calls.{settingFault}
+use Rattle.mixture.specs.Faults.{settingFault}
 use Rattle.mixture.proofs.SetLaws.{SetFits, set-fits, set-done, set-refused}
 use Rattle.mixture.proofs.set.change.Statement.{statement}
 use Rattle.mixture.proofs.set.change.Tie as tie

@@ -1,7 +1,7 @@
 -- 7 where no component i is there; each case makes the definition's own test.
 use borrow.Author.Tests.{lt-ltb, le-ltb}
 use borrow.Author.Needs.{needs}
-use Rattle.models.specs.Answers.{indexFault}
+use Rattle.models.specs.Faults.{indexFault}
 use Rattle.models.proofs.faults.index_fault.Statement.{statement}
 use Rattle.models.proofs.faults.index_fault.Tie as tie
 

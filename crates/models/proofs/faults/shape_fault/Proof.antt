@@ -1,7 +1,7 @@
 -- n within 1–12 and the length of the values, by the definition's own tests; a 0 has passed them all.
 use native.Mathlib.Omega.{arith}
 use borrow.Author.Tests.{le-leb, lt-leb, eq-eqb, ne-eqb}
-use Rattle.models.specs.Plain.{shapeFault}
+use Rattle.models.specs.Faults.{shapeFault}
 use Rattle.models.proofs.faults.shape_fault.Statement.{statement}
 use Rattle.models.proofs.faults.shape_fault.Tie as tie
 

@@ -7,7 +7,7 @@ use lib.ListN.{length, getD}
 use borrow.Author.Needs.{needs}
 use Rattle.arithmetic.specs.Tables.{at}
 use Rattle.arithmetic.specs.Floats.{_⊕_, _⊗_}
-use Rattle.models.proofs.ListLaws.{list-ends, list-group, Gathering, gathering-none, gathering-more, gathering-done, added-is}
+use Rattle.models.proofs.GroupListLaws.{list-ends, list-group, Gathering, gathering-none, gathering-more, gathering-done, added-is}
 use Rattle.models.proofs.groups.add_counts.Statement.{statement}
 use Rattle.models.proofs.groups.add_counts.Tie as tie
 

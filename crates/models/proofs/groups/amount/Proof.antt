@@ -8,7 +8,7 @@ use borrow.Author.Needs.{needs}
 use Rattle.arithmetic.specs.Tables.{at, Filled}
 use Rattle.models.specs.Values.{lists}
 use Rattle.models.specs.Unifac as Unifac
-use Rattle.models.proofs.ListLaws.{listed-less, amount-none, amount-more}
+use Rattle.models.proofs.GroupListLaws.{listed-less, amount-none, amount-more}
 use Rattle.models.proofs.groups.amount.Statement.{statement}
 use Rattle.models.proofs.groups.amount.Tie as tie
 

@@ -10,7 +10,7 @@ use Rattle.arithmetic.specs.Floats.{_⊗_}
 use Rattle.arithmetic.proofs.SumLaws.{sum-none, sum-more, sum-done}
 use Rattle.models.specs.Values.{start, lists}
 use Rattle.models.specs.Unifac as Unifac
-use Rattle.models.proofs.ListLaws.{listed-less}
+use Rattle.models.proofs.GroupListLaws.{listed-less}
 use Rattle.models.proofs.groups.amounts.Statement.{statement}
 use Rattle.models.proofs.groups.amounts.Tie as tie
 

@@ -5,7 +5,7 @@ use native.Mathlib.Omega.{arith}
 use denote.Ref.{now}
 use lib.ListN.{length, getD}
 use borrow.Author.Needs.{needs}
-use Rattle.models.proofs.ListLaws.{start-more, counts-is}
+use Rattle.models.proofs.GroupListLaws.{start-more, counts-is}
 use Rattle.models.proofs.groups.count_sum.Statement.{statement}
 use Rattle.models.proofs.groups.count_sum.Tie as tie
 

@@ -1,6 +1,6 @@
 -- The amounts over their sum where that is above 0, and else zeros.
 use borrow.Author.Needs.{needs}
-use Rattle.models.proofs.ListLaws.{fraction-over, fraction-none}
+use Rattle.models.proofs.GroupListLaws.{fraction-over, fraction-none}
 use Rattle.models.proofs.groups.group_fractions.Statement.{statement}
 use Rattle.models.proofs.groups.group_fractions.Tie as tie
 

@@ -2,7 +2,7 @@
 use borrow.Author.Needs.{needs}
 use Rattle.models.specs.Values.{lists}
 use Rattle.models.specs.Unifac as Unifac
-use Rattle.models.proofs.ListLaws.{pure-over}
+use Rattle.models.proofs.GroupListLaws.{pure-over}
 use Rattle.models.proofs.groups.group_fractions_pure.Statement.{statement}
 use Rattle.models.proofs.groups.group_fractions_pure.Tie as tie
 

@@ -6,7 +6,7 @@ use denote.Ref.{now}
 use lib.ListN.{length, getD}
 use borrow.Author.Needs.{needs}
 use Rattle.arithmetic.specs.Tables.{at}
-use Rattle.models.proofs.ListLaws.{list-ends, list-group, Gathering, gathering-none, gathering-more, gathering-done, put-is}
+use Rattle.models.proofs.GroupListLaws.{list-ends, list-group, Gathering, gathering-none, gathering-more, gathering-done, put-is}
 use Rattle.models.proofs.groups.put_counts.Statement.{statement}
 use Rattle.models.proofs.groups.put_counts.Tie as tie
 

@@ -9,7 +9,7 @@ use Rattle.arithmetic.specs.Tables.{at}
 use Rattle.arithmetic.specs.Sums.{sum}
 use Rattle.arithmetic.specs.Floats.{_⊖_, _⊗_}
 use Rattle.arithmetic.proofs.SumLaws.{sum-none, sum-more, sum-done}
-use Rattle.models.proofs.ListLaws.{list-ends, list-group, residual-is}
+use Rattle.models.proofs.GroupListLaws.{list-ends, list-group, residual-is}
 use Rattle.models.proofs.groups.residual.Statement.{statement}
 use Rattle.models.proofs.groups.residual.Tie as tie
 

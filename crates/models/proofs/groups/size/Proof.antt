@@ -10,7 +10,7 @@ use Rattle.arithmetic.specs.Tables.{at}
 use Rattle.arithmetic.specs.Sums.{sum}
 use Rattle.arithmetic.specs.Floats.{_⊗_}
 use Rattle.arithmetic.proofs.SumLaws.{sum-none, sum-more, sum-done}
-use Rattle.models.proofs.ListLaws.{list-ends, list-group, size-is}
+use Rattle.models.proofs.GroupListLaws.{list-ends, list-group, size-is}
 use Rattle.models.proofs.groups.size.Statement.{statement}
 use Rattle.models.proofs.groups.size.Tie as tie
 

@@ -6,7 +6,7 @@ use Rattle.arithmetic.specs.Tables.{at}
 use Rattle.arithmetic.proofs.TableLaws.{Filling, filling-none, filling-more, filling-done}
 use Rattle.models.specs.Values.{lists}
 use Rattle.models.specs.Unifac as Unifac
-use Rattle.models.proofs.ListLaws.{listed-less}
+use Rattle.models.proofs.GroupListLaws.{listed-less}
 use Rattle.models.proofs.groups.sizes.Statement.{statement}
 use Rattle.models.proofs.groups.sizes.Tie as tie
 

@@ -5,7 +5,7 @@ use Prim.Native.Nat.{_*_, _-_, _≤_}
 use native.Mathlib.Nat.{le-antisymm}
 use native.Mathlib.Omega.{arith}
 use Rattle.models.specs.Values.{start}
-use Rattle.models.proofs.ListLaws.{start-none, start-more}
+use Rattle.models.proofs.GroupListLaws.{start-none, start-more}
 use Rattle.models.proofs.groups.start_of.Statement.{statement}
 use Rattle.models.proofs.groups.start_of.Tie as tie
 

@@ -9,8 +9,8 @@ use Rattle.arithmetic.specs.Sums.{sum}
 use Rattle.arithmetic.specs.Floats.{_⊗_}
 use Rattle.arithmetic.proofs.SumLaws.{sum-none, sum-more, sum-done}
 use Rattle.models.specs.Values.{lists}
-use Rattle.models.specs.UnifacSteps.{lnFrom}
-use Rattle.models.proofs.ListLaws.{listed-less, filled-named}
+use Rattle.models.specs.steps.Unifac.{lnFrom}
+use Rattle.models.proofs.GroupListLaws.{listed-less, filled-named}
 use Rattle.models.proofs.UnifacLaws.{listed-same, ln-from}
 use Rattle.models.proofs.unifac.excess_gibbs.Statement.{statement}
 use Rattle.models.proofs.unifac.excess_gibbs.Tie as tie

@@ -6,9 +6,9 @@ use denote.Ref.{now}
 use lib.ListN.{length-set, length, getD}
 use borrow.Author.Needs.{needs}
 use Rattle.arithmetic.specs.Tables.{at, grid}
-use Rattle.models.specs.Lists.{Named}
+use Rattle.models.specs.steps.GroupLists.{Named}
 use Rattle.models.specs.Unifac.{lnGroup}
-use Rattle.models.proofs.ListLaws.{named-none, named-more, named-done}
+use Rattle.models.proofs.GroupListLaws.{named-none, named-more, named-done}
 use Rattle.models.proofs.UnifacLaws.{group-hoisted}
 use Rattle.models.proofs.unifac.gammas_of.Statement.{statement}
 use Rattle.models.proofs.unifac.gammas_of.Tie as tie

@@ -4,7 +4,7 @@ use native.Mathlib.Omega.{arith}
 use denote.Ref.{now}
 use lib.ListN.{length, getD}
 use borrow.Author.Needs.{needs}
-use Rattle.models.proofs.ListLaws.{list-ends, list-part-group, list-part-named}
+use Rattle.models.proofs.GroupListLaws.{list-ends, list-part-group, list-part-named}
 use Rattle.models.proofs.unifac.listed_gammas.Statement.{statement}
 use Rattle.models.proofs.unifac.listed_gammas.Tie as tie
 

@@ -1,7 +1,7 @@
 -- The combinatorial term, and the residual sum over the list with the pure ln Γ of this call.
 use native.Mathlib.Omega.{arith}
 use borrow.Author.Needs.{needs}
-use Rattle.models.proofs.ListLaws.{listed-wider}
+use Rattle.models.proofs.GroupListLaws.{listed-wider}
 use Rattle.models.proofs.UnifacLaws.{ln-by}
 use Rattle.models.proofs.unifac.ln_gamma_by.Statement.{statement}
 use Rattle.models.proofs.unifac.ln_gamma_by.Tie as tie

@@ -3,7 +3,7 @@ use native.Mathlib.Omega.{arith}
 use borrow.Author.Needs.{needs}
 use Rattle.models.proofs.UnifacLaws.{listed-same, unifac-ln, unifac-gamma, unifac-excess}
 use Rattle.models.proofs.AnswerLaws.{index-ln, index-gamma}
-use Rattle.models.proofs.ListLaws.{listed-less}
+use Rattle.models.proofs.GroupListLaws.{listed-less}
 use Rattle.models.proofs.unifac.over.Statement.{statement}
 use Rattle.models.proofs.unifac.over.Tie as tie
 

@@ -1,7 +1,7 @@
 -- Ψ is exp of its argument.
 use mathlib.Core.Path.{_∙_}
 use borrow.Author.Needs.{needs}
-use Rattle.models.specs.UnifacSteps.{psiBy}
+use Rattle.models.specs.steps.Unifac.{psiBy}
 use Rattle.models.proofs.unifac.psi.Statement.{statement}
 use Rattle.models.proofs.unifac.psi.Tie as tie
 

@@ -2,7 +2,7 @@
 use native.Mathlib.Omega.{arith}
 use borrow.Author.Needs.{needs}
 use Rattle.models.specs.Unifac as Unifac
-use Rattle.models.proofs.ListLaws.{listed-wider}
+use Rattle.models.proofs.GroupListLaws.{listed-wider}
 use Rattle.models.proofs.UnifacLaws.{groups-from, listed-same}
 use Rattle.models.proofs.unifac.pure_listed.Statement.{statement}
 use Rattle.models.proofs.unifac.pure_listed.Tie as tie

@@ -1,6 +1,6 @@
 -- What the components share; each part by its own call.
 use borrow.Author.Needs.{needs}
-use Rattle.models.proofs.ListLaws.{listed-wider}
+use Rattle.models.proofs.GroupListLaws.{listed-wider}
 use Rattle.models.proofs.UnifacLaws.{shares-from}
 use Rattle.models.proofs.unifac.share.Statement.{statement}
 use Rattle.models.proofs.unifac.share.Tie as tie

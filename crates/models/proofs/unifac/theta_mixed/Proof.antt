@@ -1,6 +1,6 @@
 -- The fractions of the groups in the mixture, then Θ.
 use borrow.Author.Needs.{needs}
-use Rattle.models.proofs.ListLaws.{listed-wider}
+use Rattle.models.proofs.GroupListLaws.{listed-wider}
 use Rattle.models.proofs.UnifacLaws.{theta-from}
 use Rattle.models.proofs.unifac.theta_mixed.Statement.{statement}
 use Rattle.models.proofs.unifac.theta_mixed.Tie as tie

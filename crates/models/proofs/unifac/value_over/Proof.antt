@@ -7,7 +7,7 @@ use borrow.Author.Needs.{needs}
 use Rattle.arithmetic.proofs.TableLaws.{from-length}
 use Rattle.models.specs.Values.{countsAt}
 use Rattle.models.proofs.UnifacLaws.{value-from}
-use Rattle.models.proofs.ListLaws.{listed-at}
+use Rattle.models.proofs.GroupListLaws.{listed-at}
 use Rattle.models.proofs.unifac.value_over.Statement.{statement}
 use Rattle.models.proofs.unifac.value_over.Tie as tie
 

@@ -6,7 +6,7 @@ use lib.ListN.{length}
 use borrow.Author.Needs.{needs}
 use Rattle.arithmetic.specs.Tables.{at, grid}
 use Rattle.arithmetic.proofs.TableLaws.{filled-less}
-use Rattle.models.specs.Shared.{UniquacShared}
+use Rattle.models.specs.steps.Uniquac.{UniquacShared}
 use Rattle.models.specs.Uniquac.{uniquac}
 use Rattle.models.proofs.AnswerLaws.{index-ln, index-gamma, quantity-ln, quantity-gamma, quantity-excess}
 use Rattle.models.proofs.ColumnLaws.{zeros}

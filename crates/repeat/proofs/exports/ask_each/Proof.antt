@@ -5,7 +5,7 @@ use native.Mathlib.Omega.{arith}
 use lib.ListN.{length}
 use Rattle.mixture.specs.Memory.{memory, after}
 use Rattle.repeat.specs.Exports.{askedTimes}
-use Rattle.repeat.proofs.ExportLaws.{asked-none, asked-more, asked-done}
+use Rattle.repeat.proofs.exports.ExportLaws.{asked-none, asked-more, asked-done}
 use Rattle.repeat.proofs.exports.ask_each.Statement.{statement}
 use Rattle.repeat.proofs.exports.ask_each.Tie as tie
 

@@ -1,6 +1,6 @@
 -- An opening, a load and the fractions: each call's contract is the definition's step.
 use borrow.Author.Needs.{needs}
-use Rattle.repeat.proofs.ExportLaws.{begun-is}
+use Rattle.repeat.proofs.exports.ExportLaws.{begun-is}
 use Rattle.repeat.proofs.exports.begin.Statement.{statement}
 use Rattle.repeat.proofs.exports.begin.Tie as tie
 

@@ -5,7 +5,7 @@ use borrow.Author.Needs.{needs}
 use denote.Ref.{now}
 use lib.Ieee.{Float}
 use Rattle.arithmetic.specs.Bytes.{floatAt}
-use Rattle.repeat.proofs.ExportLaws.{turns-asked, turns-set}
+use Rattle.repeat.proofs.exports.ExportLaws.{turns-asked, turns-set}
 use Rattle.repeat.proofs.exports.keep.Statement.{statement}
 use Rattle.repeat.proofs.exports.keep.Tie as tie
 

@@ -3,7 +3,7 @@ use Prim.Native.Nat.{_*_}
 use borrow.Author.Needs.{needs}
 use denote.Ref.{now}
 use Rattle.arithmetic.specs.Bytes.{floatAt}
-use Rattle.repeat.proofs.ExportLaws.{kept-is}
+use Rattle.repeat.proofs.exports.ExportLaws.{kept-is}
 use Rattle.repeat.proofs.exports.kept.Statement.{statement}
 use Rattle.repeat.proofs.exports.kept.Tie as tie
 

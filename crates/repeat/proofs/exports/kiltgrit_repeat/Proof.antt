@@ -3,7 +3,7 @@ use borrow.Author.Needs.{needs}
 use lib.Ieee.{ofBits}
 use borrow.Author.Tests.{lt-ltb, le-ltb}
 use Rattle.repeat.specs.Exports.{repeatedBytes}
-use Rattle.repeat.proofs.ExportLaws.{bytes-are}
+use Rattle.repeat.proofs.exports.ExportLaws.{bytes-are}
 use Rattle.repeat.proofs.exports.kiltgrit_repeat.Statement.{statement}
 use Rattle.repeat.proofs.exports.kiltgrit_repeat.Tie as tie
 

@@ -6,11 +6,11 @@ use borrow.Author.Needs.{needs}
 use lib.ListN.{length}
 use lib.Ieee.{Float}
 use denote.Ref.{now}
-use Rattle.mixture.specs.Names.{ModelData}
+use Rattle.models.specs.Model.{ModelData}
 use Rattle.arithmetic.specs.Bytes.{floatAt}
-use Rattle.mixture.specs.Plain.{plainCall}
+use Rattle.models.specs.Plain.{plainCall}
 use Rattle.repeat.specs.Exports.{plainValue, plainTurns}
-use Rattle.repeat.proofs.ExportLaws.{plain-none, plain-more, plain-done}
+use Rattle.repeat.proofs.exports.ExportLaws.{plain-none, plain-more, plain-done}
 use Rattle.repeat.proofs.exports.plain_each.Statement.{statement}
 use Rattle.repeat.proofs.exports.plain_each.Tie as tie
 

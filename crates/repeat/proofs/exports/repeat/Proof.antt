@@ -1,6 +1,6 @@
 -- The plain calls where the change asks for them, else the mixture: the definition's test.
 use borrow.Author.Needs.{needs}
-use Rattle.repeat.proofs.ExportLaws.{repeated-plain, repeated-kept}
+use Rattle.repeat.proofs.exports.ExportLaws.{repeated-plain, repeated-kept}
 use Rattle.repeat.proofs.exports.repeat.Statement.{statement}
 use Rattle.repeat.proofs.exports.repeat.Tie as tie
 

@@ -9,7 +9,7 @@ use denote.Ref.{now}
 use Rattle.arithmetic.specs.Bytes.{floatAt}
 use Rattle.mixture.specs.Memory.{memory, after}
 use Rattle.repeat.specs.Exports.{setTimes}
-use Rattle.repeat.proofs.ExportLaws.{set-none, set-more, set-done}
+use Rattle.repeat.proofs.exports.ExportLaws.{set-none, set-more, set-done}
 use Rattle.repeat.proofs.exports.set_each.Statement.{statement}
 use Rattle.repeat.proofs.exports.set_each.Tie as tie
 

@@ -40,7 +40,7 @@ returns-2 : tie.Need-returns-2
 returns-2 c =
     let l = stored (c .before .before .before .before .before .before .before .before) in
     let f = filled l in
-    load-is (fit (passed f)) _ _ (c .before .before .before .before .load .ensures) (c .before .before .before .before .before .before .before .before .before .before .model-of .ensures) (f .fill-floats .ensures .1) (l .fill-lists .ensures) (room l)
+    load-is (fit (passed f)) _ _ (c .before .before .before .before .load .ensures) (c .before .before .before .before .before .before .before .before .before .before .model-numbered .ensures) (f .fill-floats .ensures .1) (l .fill-lists .ensures) (room l)
 
 pub load-spec : {M : Type 1} → statement M
 load-spec =

@@ -5,8 +5,8 @@ use mathlib.Core.Path.{_≡_, sym, _∙_}
 use mathlib.Core.Bool.{true}
 use lib.ListN.{length}
 use borrow.Author.Tests.{not-true, not-false}
-use Rattle.strip.specs.Lists.{isWord, listsAt}
-use Rattle.strip.proofs.ListLaws.{word-in, i-is, ahead, no-more, no-12, one-12, no-13, one-13, Storing, store-starts, store-ends, store-12, store-13, store-kept}
+use Rattle.strip.specs.GroupLists.{isWord, listsAt}
+use Rattle.strip.proofs.GroupListLaws.{word-in, i-is, ahead, no-more, no-12, one-12, no-13, one-13, Storing, store-starts, store-ends, store-12, store-13, store-kept}
 use Rattle.strip.proofs.lists.fill_lists.Statement.{statement}
 use Rattle.strip.proofs.lists.fill_lists.Tie as tie
 

@@ -1,6 +1,6 @@
 -- Whether n bytes stand from p on, by a difference that cannot wrap.
 use borrow.Author.Needs.{needs}
-use Rattle.strip.proofs.ListLaws.{has-not, has-rest}
+use Rattle.strip.proofs.GroupListLaws.{has-not, has-rest}
 use Rattle.strip.proofs.lists.has.Statement.{statement}
 use Rattle.strip.proofs.lists.has.Tie as tie
 

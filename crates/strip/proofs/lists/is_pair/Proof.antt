@@ -1,7 +1,7 @@
 -- Whether a kind 13 stands at p with the eight bytes of its count: the word's test and the room's.
 use mathlib.Core.Path.{sym, _∙_}
 use borrow.Author.Tests.{not-true, not-false}
-use Rattle.strip.proofs.ListLaws.{word-cut, word-pair}
+use Rattle.strip.proofs.GroupListLaws.{word-cut, word-pair}
 use Rattle.strip.proofs.lists.is_pair.Statement.{statement}
 use Rattle.strip.proofs.lists.is_pair.Tie as tie
 

@@ -5,7 +5,7 @@ use Prim.Native.Nat.{_+_}
 use lib.Dec.{leb}
 use lib.ListN.{length}
 use borrow.Author.Tests.{leb-true, not-true, not-false}
-use Rattle.strip.proofs.ListLaws.{word-cut, word-kind, word-field, word-rest}
+use Rattle.strip.proofs.GroupListLaws.{word-cut, word-kind, word-field, word-rest}
 use Rattle.strip.proofs.lists.is_word.Statement.{statement}
 use Rattle.strip.proofs.lists.is_word.Tie as tie
 

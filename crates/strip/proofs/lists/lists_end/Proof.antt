@@ -5,8 +5,8 @@ use mathlib.Core.Path.{_≡_, refl, sym, _∙_}
 use mathlib.Core.Bool.{true}
 use lib.ListN.{length}
 use borrow.Author.Tests.{not-true, not-false}
-use Rattle.strip.specs.Lists.{isWord, pairsAt, listsAt}
-use Rattle.strip.proofs.ListLaws.{word-in, i-is, ahead, no-more, no-12, one-12, no-13, one-13, ends}
+use Rattle.strip.specs.GroupLists.{isWord, pairsAt, listsAt}
+use Rattle.strip.proofs.GroupListLaws.{word-in, i-is, ahead, no-more, no-12, one-12, no-13, one-13, ends}
 use Rattle.strip.proofs.lists.lists_end.Statement.{statement}
 use Rattle.strip.proofs.lists.lists_end.Tie as tie
 

@@ -3,7 +3,7 @@ use mathlib.Core.Path.{_≡_}
 use mathlib.Core.Bool.{Bool}
 use borrow.Author.Tests.{lt-leb, not-true, not-false, eq-eqb, ne-eqb}
 use borrow.Author.Needs.{needs}
-use Rattle.strip.specs.Inner.{fitsBy, fits}
+use Rattle.strip.specs.steps.Run.{fitsBy, fits}
 use Rattle.strip.proofs.RecordLaws.{fits-by}
 use Rattle.strip.proofs.records.does_fit.Statement.{statement}
 use Rattle.strip.proofs.records.does_fit.Tie as tie

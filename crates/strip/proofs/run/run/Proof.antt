@@ -2,7 +2,7 @@
 use mathlib.Core.Path.{refl}
 use borrow.Author.Needs.{needs}
 use Rattle.mixture.specs.Memory.{short, leastValues, leastCells, leastMarks}
-use Rattle.strip.proofs.RunLaws.{run-opened}
+use Rattle.strip.proofs.run.RunLaws.{run-opened}
 use Rattle.strip.proofs.run.run.Statement.{statement}
 use Rattle.strip.proofs.run.run.Tie as tie
 

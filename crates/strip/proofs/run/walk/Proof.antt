@@ -6,10 +6,10 @@ use lib.ListN.{length}
 use borrow.Author.Needs.{needs}
 use Rattle.mixture.specs.Memory.{memory}
 use Rattle.strip.specs.Text.{broken}
-use Rattle.strip.specs.Inner.{rest}
+use Rattle.strip.specs.steps.Run.{rest}
 use Rattle.strip.proofs.RecordLaws.{found, read-done}
 use Rattle.strip.proofs.CallLaws.{found-call}
-use Rattle.strip.proofs.RunLaws.{Walked, walk-starts, walk-turn, walk-ends, walk-breaks, walked-long, walked-short}
+use Rattle.strip.proofs.run.RunLaws.{Walked, walk-starts, walk-turn, walk-ends, walk-breaks, walked-long, walked-short}
 use Rattle.strip.proofs.run.walk.Statement.{statement}
 use Rattle.strip.proofs.run.walk.Tie as tie
 

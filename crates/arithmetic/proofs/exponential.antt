@@ -1,0 +1,4 @@
+pub mod EasyExp
+pub mod Cutting
+pub mod Rounding
+pub mod NearestLaws

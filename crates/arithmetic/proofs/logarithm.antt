@@ -1,0 +1,3 @@
+pub mod Decomposing
+pub mod Differences
+pub mod LogBranches

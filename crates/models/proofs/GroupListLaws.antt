@@ -1,0 +1,244 @@
+-- Group lists that stand list after list: where they start, that their places lie within the slices, and sums kept for
+-- every group at once.
+use mathlib.Core.Path.{_≡_, refl, sym, ap, _∙_}
+use mathlib.Core.Bool.{Bool, true, false, _&&_, cond, and-false}
+use mathlib.Core.Logic.{⊎-elim}
+use mathlib.Core.List.{List}
+use Prim.Native.Nat.{ℕ, zero, suc, _+_, _-_, _<_, _≤_}
+use native.Mathlib.Nat.{eq-or-lt-of-le, le-of-suc-le-suc, le-antisymm}
+use native.Mathlib.Numerals.{add-one}
+use native.Mathlib.Omega.{arith}
+use lib.Dec.{leb, eqb}
+use lib.ListN.{length, getD, set, replicate, length-set}
+use lib.Seq.{getD-set-same, getD-set-other, getD-take, getD-drop}
+use lib.Ieee.{Float, nan, binary64, ofBits, lt}
+use borrow.Author.Tests.{eqb-true, eqb-false}
+use Rattle.arithmetic.specs.Floats.{_⊕_, _⊖_, _⊗_, _⊘_}
+use Rattle.arithmetic.specs.Sums.{fold, sum, total}
+use Rattle.arithmetic.specs.Tables.{at, from, part, Filled}
+use Rattle.arithmetic.proofs.SumLaws.{fold-more, sum-same}
+use Rattle.arithmetic.proofs.TableLaws.{part-length, part-at, from-length, by-place}
+use Rattle.models.proofs.ColumnLaws.{zeros}
+use Rattle.models.specs.Faults.{between, allTo, listsFault}
+use Rattle.models.specs.Unifac.{Groups, size, residual, counts, amount, amounts, fraction, pureCount, pureFraction}
+use Rattle.models.specs.Values.{start, countsAt, unifacSize, lists}
+use Rattle.models.specs.steps.GroupLists.{Listed, Sized, Loaded, Named, gathered, added, put}
+
+-- ---- where a list starts
+
+pub start-none : (lens : List ℕ) → 0 ≡ start lens 0
+unfolding start
+start-none lens = refl
+
+pub start-more : (lens : List ℕ) (i : ℕ) {s l : ℕ} → s ≡ start lens i → l ≡ getD lens i 0 → s + l ≡ start lens (i + 1)
+unfolding start
+start-more lens i p q = rw (add-one, p, q)
+
+start-next : (lens : List ℕ) (i : ℕ) → start lens i + getD lens i 0 ≡ start lens (i + 1)
+start-next lens i = start-more lens i refl refl
+
+pub start-up : (lens : List ℕ) (i n : ℕ) → i ≤ n → start lens i ≤ start lens n
+unfolding start
+start-up lens i zero h = let e : i ≡ 0 = omega arith in rw e (omega arith)
+start-up lens i (suc n) h = ⊎-elim (λ e. rw e (omega arith)) (λ l. omega (arith, start-up lens i n (le-of-suc-le-suc l))) (eq-or-lt-of-le h)
+
+-- ---- the places of a list
+
+pub list-place : (lens : List ℕ) (i n p : ℕ) → i < n → p < getD lens i 0 → start lens i + p < start lens n
+list-place lens i n p h b = omega (arith, start-next lens i, start-up lens (i + 1) n (omega arith))
+
+module _ {n ng : ℕ} {lens groups : List ℕ} {counts : List Float} (all : Listed n ng lens groups counts) where
+  pub listed-less : (i m : ℕ) → i < n → ng ≤ m → Listed (i + 1) m lens groups counts
+  listed-less i m h b = record {
+    many = omega (arith, all .many);
+    within = omega (arith, start-up lens (i + 1) n (omega arith), all .within);
+    counted = omega (arith, start-up lens (i + 1) n (omega arith), all .counted);
+    below = λ p c. omega (arith, all .below p (omega (arith, start-up lens (i + 1) n (omega arith))));
+  }
+
+  pub listed-wider : (m : ℕ) → ng ≤ m → Listed n m lens groups counts
+  listed-wider m b = record { many = all .many; within = all .within; counted = all .counted; below = λ p c. omega (arith, all .below p c) }
+
+module _ (i : ℕ) {ng : ℕ} {lens groups : List ℕ} {counts : List Float} {s : ℕ} (all : Listed (i + 1) ng lens groups counts) (here : s ≡ start lens i) where
+  pub list-ends : (s + getD lens i 0 ≤ length groups) × (s + getD lens i 0 ≤ length counts)
+  list-ends = (omega (arith, start-more lens i here refl, all .within), omega (arith, start-more lens i here refl, all .counted))
+
+  pub list-group : (p : ℕ) → p < getD lens i 0 → getD groups (s + p) 0 < ng
+  list-group p h = all .below (s + p) (omega (arith, start-more lens i here refl))
+
+  -- the list lent as a part
+  list-part : (p : ℕ) → p < getD lens i 0 → getD (part s (s + getD lens i 0) groups) p 0 ≡ getD groups (s + p) 0
+  list-part p h = let b : p < s + getD lens i 0 - s = omega arith in rw (getD-take, getD-drop)
+
+  list-part-length : length (part s (s + getD lens i 0) groups) ≡ getD lens i 0
+  list-part-length = part-length s (s + getD lens i 0) groups (list-ends .0) ∙ omega arith
+
+  pub list-part-group : (p : ℕ) → p < length (part s (s + getD lens i 0) groups) → getD (part s (s + getD lens i 0) groups) p 0 < ng
+  list-part-group p h = let b : p < getD lens i 0 = omega (arith, list-part-length) in rw (list-part p b) (list-group p b)
+
+  pub list-part-named : {F : ℕ → Float} {g : List Float} → Named (length (part s (s + getD lens i 0) groups)) (λ p. getD (part s (s + getD lens i 0) groups) p 0) F g → Named (lists lens groups counts .length i) (lists lens groups counts .group i) F g
+  unfolding lists
+  list-part-named {F} {g} named = record {
+    each = λ p h. let e : getD (part s (s + getD lens i 0) groups) p 0 ≡ getD groups (start lens i + p) 0 = list-part p h ∙ rw here in rw (← e) (named .each p (omega (arith, list-part-length)));
+  }
+
+-- ---- a sum kept for every group at once
+
+gathered-none : (group : ℕ → ℕ) (f : ℕ → Float → Float) (l : List Float) (m : ℕ) → Filled (λ k. gathered 0 group f k (at l k)) m l
+unfolding gathered fold
+gathered-none group f l m = record { each = λ k h. refl }
+
+-- the place p names g, whose number becomes f p of it
+gathered-more : (group : ℕ → ℕ) (f : ℕ → Float → Float) (old : ℕ → Float) (p m g : ℕ) {num : List Float} {v : Float} →
+    g ≡ group p → g < length num → v ≡ f p (at num g) → m ≤ length num →
+    Filled (λ k. gathered p group f k (old k)) m num → Filled (λ k. gathered (p + 1) group f k (old k)) m (set num g v)
+unfolding gathered
+gathered-more group f old p m g {num} {v} e b w long all = record {
+  each = λ k h. fold-more (old k) (λ p s. cond (eqb (group p) k) (f p s) s) p (all .each k h) (by-test k (eqb g k) refl);
+}
+  where
+    by-test : (k : ℕ) (t : Bool) → eqb g k ≡ t → at (set num g v) k ≡ cond (eqb (group p) k) (f p (at num k)) (at num k)
+    by-test k true t = let q : g ≡ k = eqb-true g k t in rw (← e, t, ← q) (getD-set-same num g v nan b ∙ w)
+    by-test k false t = rw (← e, t) (getD-set-other num g k v nan (λ q. eqb-false g k t (sym q)))
+
+-- a loop over the places p of a list of len that gathers for every group at once
+pub record Gathering (group : ℕ → ℕ) (f : ℕ → Float → Float) (len : ℕ) (old : List Float) (p : ℕ) (num : List Float) : Type 0 where
+  pub within : p ≤ len
+  pub long : length num ≡ length old
+  pub numbers : Filled (λ k. gathered p group f k (at old k)) (length old) num
+
+module _ {group : ℕ → ℕ} {f : ℕ → Float → Float} {len : ℕ} {old : List Float} where
+  pub gathering-none : Gathering group f len old 0 old
+  gathering-none = record { within = omega arith; long = refl; numbers = gathered-none group f old (length old) }
+
+  pub gathering-more : {p g : ℕ} {num : List Float} {v : Float} → p < len → g ≡ group p → g < length num → v ≡ f p (at num g) → Gathering group f len old p num → Gathering group f len old (p + 1) (set num g v)
+  gathering-more {p} {g} h e b w all = record {
+    within = omega arith;
+    long = simp length-set (all .long);
+    numbers = gathered-more group f (at old) p (length old) g e b w (omega (arith, all .long)) (all .numbers);
+  }
+
+  pub gathering-done : {p : ℕ} {num : List Float} → len ≤ p → Gathering group f len old p num → Filled (λ k. gathered len group f k (at old k)) (length old) num
+  gathering-done h all = rw (← le-antisymm (all .within) h) (all .numbers)
+
+-- ---- an array that has F of the groups named
+
+module _ (group : ℕ → ℕ) (F : ℕ → Float) where
+  pub named-none : (g : List Float) → Named 0 group F g
+  named-none g = record { each = λ p h. absurd (omega arith) }
+
+  -- one group more, perhaps one that was named before
+  pub named-more : (p k : ℕ) {g : List Float} {v : Float} → k ≡ group p → k < length g → v ≡ F k → Named p group F g → Named (p + 1) group F (set g k v)
+  named-more p k {g} {v} e b w all = record { each = λ o h. by-test o h (eqb k (group o)) refl }
+    where
+      by-test : (o : ℕ) → o < p + 1 → (t : Bool) → eqb k (group o) ≡ t → at (set g k v) (group o) ≡ F (group o)
+      by-test o h true t = let q : k ≡ group o = eqb-true k (group o) t in rw (← q) (getD-set-same g k v nan b ∙ w)
+      by-test o h false t =
+          let d : k ≡ group o → ⊥ = eqb-false k (group o) t in
+          by-place o p (λ c. getD-set-other g k (group o) v nan (λ q. d (sym q)) ∙ all .each o c) (λ q. absurd (d (e ∙ ap group q))) (λ c. absurd (omega arith))
+
+  pub named-done : (p m : ℕ) {g : List Float} → p ≤ m → m ≤ p → Named p group F g → Named m group F g
+  named-done p m a b all = rw (le-antisymm a b) at all
+
+  pub filled-named : (m ng : ℕ) {g : List Float} → ((p : ℕ) → p < m → group p < ng) → Filled F ng g → Named m group F g
+  filled-named m ng below all = record { each = λ p h. all .each (group p) (below p h) }
+
+-- ---- what the sums over a list come to, s being where the list starts
+
+module _ (lens groups : List ℕ) (counts : List Float) (i : ℕ) {s : ℕ} (here : s ≡ start lens i) where
+  pub size-is : (S : ℕ → Float) {v : Float} → v ≡ sum (getD lens i 0) (λ p. at counts (s + p) ⊗ S (getD groups (s + p) 0)) → v ≡ size (lists lens groups counts) S i
+  unfolding size lists
+  size-is S e = e ∙ rw here
+
+  pub residual-is : (M P : ℕ → Float) {v : Float} →
+      v ≡ sum (getD lens i 0) (λ p. at counts (s + p) ⊗ (M (getD groups (s + p) 0) ⊖ P (getD groups (s + p) 0))) → v ≡ residual (lists lens groups counts) M (λ j. P) i
+  unfolding residual lists
+  residual-is M P e = e ∙ rw here
+
+  pub added-is : (x : Float) (old : ℕ → Float) {m : ℕ} {num : List Float} →
+      Filled (λ k. gathered (getD lens i 0) (λ p. getD groups (s + p) 0) (λ p s′. s′ ⊕ x ⊗ at counts (s + p)) k (old k)) m num →
+      Filled (λ k. added (lists lens groups counts) x i k (old k)) m num
+  unfolding lists
+  added-is x old all = rw here at all
+
+  pub put-is : (old : ℕ → Float) {m : ℕ} {num : List Float} →
+      Filled (λ k. gathered (getD lens i 0) (λ p. getD groups (s + p) 0) (λ p s′. at counts (s + p)) k (old k)) m num →
+      Filled (λ k. put (lists lens groups counts) i k (old k)) m num
+  unfolding lists
+  put-is old all = rw here at all
+
+-- the sum of the part of the counts that is the list
+pub counts-is : (lens : List ℕ) (counts : List Float) (i : ℕ) {s : ℕ} {v : Float} → s ≡ start lens i → s + getD lens i 0 ≤ length counts →
+    v ≡ total (part s (s + getD lens i 0) counts) → v ≡ sum (getD lens i 0) (λ p. at counts (start lens i + p))
+unfolding total
+counts-is lens counts i {s} here ends e =
+    let l : length (part s (s + getD lens i 0) counts) ≡ getD lens i 0 = part-length s (s + getD lens i 0) counts ends ∙ omega arith in
+    e ∙ rw l (sum-same (getD lens i 0) _ _ (λ p h. part-at counts s (s + getD lens i 0) p (omega arith) ∙ rw here))
+
+-- ---- fractions
+
+module _ (c : Groups) (x : ℕ → Float) where
+  pub amount-none : Filled (amount 0 c x) 32 (replicate 32 (ofBits binary64 0))
+  unfolding amount fold
+  amount-none = zeros 32
+
+  pub amount-more : (i m : ℕ) {num after : List Float} → length num ≡ m → Filled (amount i c x) m num → Filled (λ k. added c (x i) i k (at num k)) (length num) after → Filled (amount (i + 1) c x) m after
+  unfolding amount gathered
+  amount-more i m long all turn = record { each = λ k h. fold-more _ _ i (all .each k h) (turn .each k (omega arith)) }
+
+  pub fraction-over : (n ng : ℕ) {w : Float} {num r : List Float} → w ≡ amounts n c x → lt (ofBits binary64 0) w ≡ true → ng ≤ 32 →
+      Filled (amount n c x) 32 num → Filled (λ k. at num k ⊘ w) ng r → Filled (fraction n c x) ng r
+  unfolding fraction ofBits
+  fraction-over n ng p t few all over = record { each = λ k h. rw (← p, t) (over .each k h ∙ rw (all .each k (omega arith))) }
+
+  pub fraction-none : (n ng : ℕ) {w : Float} → w ≡ amounts n c x → lt (ofBits binary64 0) w ≡ false → ng ≤ 32 → Filled (fraction n c x) ng (replicate 32 (ofBits binary64 0))
+  unfolding fraction ofBits
+  fraction-none n ng p t few = record { each = λ k h. rw (← p, t) (zeros 32 .each k (omega arith)) }
+
+pub pure-over : (c : Groups) (i ng : ℕ) {w : Float} {num r : List Float} → w ≡ counts c i → ng ≤ 32 →
+    Filled (λ k. put c i k (at (replicate 32 (ofBits binary64 0)) k)) 32 num → Filled (λ k. at num k ⊘ w) ng r → Filled (pureFraction c i) ng r
+unfolding pureFraction pureCount gathered
+pure-over c i ng p few all over = record {
+  each = λ k h. over .each k h ∙ rw (← p, all .each k (omega arith), zeros 32 .each k (omega arith));
+}
+
+-- ---- faults
+
+pub all-none : (p : ℕ → Bool) → true ≡ allTo 0 p
+unfolding allTo
+all-none p = refl
+
+pub all-more : (p : ℕ → Bool) (i : ℕ) → true ≡ allTo i p → p i ≡ true → true ≡ allTo (i + 1) p
+unfolding allTo
+all-more p i h e = rw (add-one, ← h, e)
+
+pub all-fails : (p : ℕ → Bool) (i n : ℕ) → i < n → p i ≡ false → false ≡ allTo n p
+unfolding allTo
+all-fails p i zero b e = absurd (omega arith)
+all-fails p i (suc n) b e =
+    ⊎-elim (λ q. rw (← q, e) (sym (and-false (allTo i p)))) (λ l. rw (← all-fails p i n l e)) (eq-or-lt-of-le (le-of-suc-le-suc b))
+
+pub loaded-from : {n ng : ℕ} {lens groups : List ℕ} {values : List Float} → Sized n ng lens groups values → ((p : ℕ) → p < length groups → getD groups p 0 < ng) → Loaded n ng lens groups values
+loaded-from {n} {ng} {lens} {groups} {values} fit below = record {
+  some = fit .some;
+  few = fit .few;
+  someGroups = fit .someGroups;
+  fewGroups = fit .fewGroups;
+  tables = omega (arith, fit .whole);
+  listed = record {
+    many = omega (arith, fit .many);
+    within = omega (arith, fit .places);
+    counted = omega (arith, fit .whole, from-length (countsAt ng) values);
+    below = λ p h. below p (omega (arith, fit .places));
+  };
+}
+
+-- the counts lent from a place that was worked out
+pub listed-at : {n ng : ℕ} {lens groups : List ℕ} (values : List Float) {s : ℕ} → s ≡ countsAt ng → Listed n ng lens groups (from (countsAt ng) values) → Listed n ng lens groups (from s values)
+listed-at values e all = rw e all
+
+-- the tests of `listsFault`, each with what it came to
+pub lists-tests : (n ng : ℕ) (lens groups : List ℕ) (values : List Float) {a b c d e : Bool} → between 1 12 n && between 1 32 ng ≡ a → eqb (length lens) n ≡ b → allTo n (λ i. leb (getD lens i 0) 12) ≡ c →
+    eqb (length groups) (start lens n) ≡ d → eqb (length values) (countsAt ng + start lens n) ≡ e → cond (a && b && c && d && e) 0 2 ≡ listsFault n ng lens groups values
+unfolding listsFault unifacSize
+lists-tests n ng lens groups values p q r s t = rw (p, q, r, s, t)

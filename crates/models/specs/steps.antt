@@ -1,0 +1,4 @@
+pub mod Uniquac
+pub mod GroupLists
+pub mod Unifac
+pub mod Model

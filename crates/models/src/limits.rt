@@ -1,0 +1,18 @@
+// Document 01's limits.
+
+// The most components, groups, and places of one list.
+pub const COMPONENTS: usize = 12;
+
+pub const GROUPS: usize = 32;
+
+pub const LIST: usize = 12;
+
+// The most places of all lists, and values of any model.
+pub const PLACES: usize = COMPONENTS * LIST;
+
+pub const VALUES: usize = 5328;
+
+// The places of a table of exponentials of n, or ng, full rows.
+pub const PAIRS: usize = COMPONENTS * COMPONENTS;
+
+pub const TABLE: usize = GROUPS * GROUPS;
