@@ -115,7 +115,7 @@ pub enum Step {
     Call(Lent, Call),
 }
 
-/// A record: its kind, what it lends, three numbers, and three rows.
+/// A record: its kind, what it lends, five numbers, of which no call yet takes more than three, and three rows.
 fn put(
     script: &mut Vec<u8>,
     kind: usize,
@@ -132,7 +132,7 @@ fn put(
     let [a, b, c] = abc;
     let [first, second] = bytes;
     let lengths = [first.len(), second.len(), floats.len()];
-    for word in [kind, values, cells, marks, a, b, c]
+    for word in [kind, values, cells, marks, a, b, c, 0, 0]
         .into_iter()
         .chain(lengths)
     {

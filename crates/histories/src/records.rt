@@ -1,4 +1,4 @@
-// A record of the script: ten words of eight bytes, the lowest first, and three rows: bytes, bytes, and floats of
+// A record of the script: twelve words of eight bytes, the lowest first, and three rows: bytes, bytes, and floats of
 // eight bytes each.
 ghost use mathlib.Core.Path.{_≡_};
 ghost use mathlib.Core.Bool.{true};
@@ -21,7 +21,7 @@ pub const FRACTIONS: usize = 5;
 
 pub const QUERY: usize = 6;
 
-// How many places of values, cells and marks are lent; up to three numbers of the call; the lengths of the rows.
+// How many places of values, cells and marks are lent; up to five numbers of the call; the lengths of the rows.
 pub struct Record {
     pub kind: usize,
     pub values: usize,
@@ -30,6 +30,8 @@ pub struct Record {
     pub a: usize,
     pub b: usize,
     pub c: usize,
+    pub d: usize,
+    pub e: usize,
     pub first: usize,
     pub second: usize,
     pub floats: usize,
@@ -42,8 +44,8 @@ fn word(s: &[u8], at: usize) -> usize
     word_at(s, at) + 4294967296 * word_at(s, at + 4)
 }
 
-// The record that 80 bytes begin.
-pub fn begun_by(s: &[u8; 80]) -> Record {
+// The record that 96 bytes begin.
+pub fn begun_by(s: &[u8; 96]) -> Record {
     Record {
         kind: word(s, 0),
         values: word(s, 8),
@@ -52,9 +54,11 @@ pub fn begun_by(s: &[u8; 80]) -> Record {
         a: word(s, 32),
         b: word(s, 40),
         c: word(s, 48),
-        first: word(s, 56),
-        second: word(s, 64),
-        floats: word(s, 72),
+        d: word(s, 56),
+        e: word(s, 64),
+        first: word(s, 72),
+        second: word(s, 80),
+        floats: word(s, 88),
     }
 }
 

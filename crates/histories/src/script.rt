@@ -71,7 +71,7 @@ fn read_rows(fd: i32, rows: &mut [u8], size: usize) -> bool
     io::read_full(fd, &mut rows[..size]) == size
 }
 
-// A record whose first 80 bytes have been read: its rows, what they bring about, and the line.
+// A record whose first 96 bytes have been read: its rows, what they bring about, and the line.
 fn with_rows(
     fd: i32,
     r: Record,
@@ -104,7 +104,7 @@ fn one_record(fd: i32, values: &mut [f64], cells: &mut [f64], marks: &mut [u8], 
         × (1100 ≤ length (now cells))
         × (1100 ≤ length (now marks)) ⌝ }
 {
-    let mut start = [0u8; 80];
+    let mut start = [0u8; 96];
     let got = io::read_full(fd, &mut start);
     if got == 0 {
         return Turn {
@@ -112,7 +112,7 @@ fn one_record(fd: i32, values: &mut [f64], cells: &mut [f64], marks: &mut [u8], 
             more: false,
         };
     }
-    if got < 80 {
+    if got < 96 {
         return broken(head);
     }
     let r = records::begun_by(&start);
