@@ -379,20 +379,12 @@ module _ (m : Memory) (h : Head) (s : Setting) where
   set-refused {k} e n = rw (ne-eqb k 0 n) (refused m h _ e n)
 
 -- a setting changes T alone of the head, and whether it is set
-pub head-same : (h : Head) (s : Setting) → headWith h (setHead h s .t) (setHead h s .«has_t») (h .x) (h .«has_x») ≡ setHead h s
-unfolding setHead
-head-same h (Temperature T) = refl
-head-same h (Entry i j v) = refl
-head-same h (TdEntry i j p) = refl
-head-same h (Size i which v) = refl
-head-same h (Count i j v) = refl
-
 pub head-changed : (h : Head) (s : Setting) (k : ℕ) {t : Float} {b : Bool} → t ≡ cond (eqb k 0) (setHead h s .t) (h .t) → b ≡ cond (eqb k 0) (setHead h s .«has_t») (h .«has_t»)
     → headWith h t b (h .x) (h .«has_x») ≡ cond (eqb k 0) (setHead h s) h
 head-changed h s k p q = rw (p, q) (go (eqb k 0))
   where
     go : (b : Bool) → headWith h (cond b (setHead h s .t) (h .t)) (cond b (setHead h s .«has_t») (h .«has_t»)) (h .x) (h .«has_x») ≡ cond b (setHead h s) h
-    go true = head-same h s
+    go true = refl
     go false = refl
 
 pub replied : {m : Memory} {g h : Head} {a b : Answer} {z : After} → g ≡ h → a ≡ b → after m h b ≡ z → after m g a ≡ z

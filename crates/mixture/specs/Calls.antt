@@ -105,12 +105,23 @@ headWith h T hasT x hasX =
       «has_x» = hasX;
     }
 
-unfoldable pub setHead : Head → Setting → Head
-setHead h (Temperature T) = headWith h T true (h .x) (h .«has_x»)
-setHead h (Entry i j v) = h
-setHead h (TdEntry i j p) = h
-setHead h (Size i which v) = h
-setHead h (Count i j v) = h
+-- T after a setting, and whether it is then set
+unfoldable pub tAfter : Setting → Float → Float
+tAfter (Temperature T) u = T
+tAfter (Entry i j v) u = u
+tAfter (TdEntry i j p) u = u
+tAfter (Size i which v) u = u
+tAfter (Count i j v) u = u
+
+unfoldable pub hasTAfter : Setting → Bool → Bool
+hasTAfter (Temperature T) b = true
+hasTAfter (Entry i j v) b = b
+hasTAfter (TdEntry i j p) b = b
+hasTAfter (Size i which v) b = b
+hasTAfter (Count i j v) b = b
+
+abbrev pub setHead : Head → Setting → Head
+setHead h s = headWith h (tAfter s (h .t)) (hasTAfter s (h .«has_t»)) (h .x) (h .«has_x»)
 
 unfoldable pub afterSetting : Memory → Head → Setting → After
 afterSetting m h s = outcome (settingFault m h s) m h (after (setMemory m (dataIn m h) s) (setHead h s) Done)

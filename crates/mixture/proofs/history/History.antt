@@ -36,16 +36,14 @@ use Rattle.models.specs.Model.{ModelData}
 use Rattle.mixture.specs.Faults.{caseFault, memoryFault, inRange, headFault, loadFault, settingFault, fractionsFault, queryFault}
 use Rattle.mixture.specs.Memory.{Memory, memory, leastValues, leastCells, leastMarks, After}
 use Rattle.mixture.specs.Layout.{dataIn, place, numbers, cellAt}
-use Rattle.mixture.specs.Calls.{outcome, freshHead, afterOpen, loadedHead, loadedMemory, afterLoad, stales, stalesAt, setMemory, setHead, afterSetting, withFractions, afterFractions, exponential, valueBy, staleAt, worked, answered, afterQuery}
+use Rattle.mixture.specs.Calls.{outcome, freshHead, afterOpen, loadedHead, loadedMemory, afterLoad, stales, stalesAt, setMemory, tAfter, hasTAfter, setHead, afterSetting, withFractions, afterFractions, exponential, valueBy, staleAt, worked, answered, afterQuery}
 use Rattle.mixture.specs.Book.{Call, Open, Load, Set, Fractions, Query, Book, book, empty, setIn, setT, setModel, bookAfter, gives, touched, touchedCells, plain, having, bookAnswer, isQuery, accepted, sinceAfter, bookAnswers}
 use Rattle.mixture.specs.History.{afterCall, answers, History}
 use Rattle.mixture.proofs.ListLaws.{never, or-none, length-written, getD-written, howMany-rows, howManyPairs-same}
 use Rattle.mixture.proofs.PlaceLaws.{both, nought, sizeOf}
-use Rattle.mixture.proofs.history.StoreLaws.{stored}
 use Rattle.mixture.proofs.history.AgreeLaws.{Alike, Agrees, caseFault-same, width-same, isCell-same, alike-refl, agrees-trans, set-alike, set-agrees, store-agrees}
 use Rattle.mixture.proofs.history.RangeLaws.{Long, short-no, long-is, Sound, sound, bounds}
 use Rattle.mixture.proofs.CallLaws.{mix-length}
-use Rattle.mixture.proofs.SetLaws.{head-same}
 use Rattle.mixture.proofs.history.LoadLaws.{left-inRange, left-number, left-unset, left-agrees}
 use Rattle.mixture.proofs.history.CellLaws.{exponential-same, exponential-still, setT-still, stales-inputs, load-inputs, fractions-inputs, valueBy-same, plain-is}
 
@@ -200,16 +198,8 @@ step-load m h b since d k =
 
 -- ---- setting
 
--- a setting leaves the head's model, sizes and lists
-set-data : (m : Memory) (h : Head) (s : Setting) → dataIn (setMemory m (dataIn m h) s) (setHead h s) ≡ stored (dataIn m h) s
-unfolding setMemory
-set-data m h s = rw (← head-same h s)
-
-set-number : (h : Head) (s : Setting) → setHead h s .model ≡ h .model
-set-number h s = ap (λ (g : Head). g .model) (sym (head-same h s))
-
 set-keptT : (h : Head) (s : Setting) (T : Option Float) → KeptT T h → KeptT (setT s T) (setHead h s)
-unfolding setHead setT
+unfolding tAfter hasTAfter setT
 set-keptT h (Temperature U) T k = (refl, refl)
 set-keptT h (Entry i j v) T k = k
 set-keptT h (TdEntry i j p) T k = k
@@ -217,8 +207,8 @@ set-keptT h (Size i w v) T k = k
 set-keptT h (Count i j v) T k = k
 
 set-keptX : (h : Head) (s : Setting) (x : Option (List Float)) (n : ℕ) → KeptX x n h → KeptX x n (setHead h s)
-set-keptX h s none n k = rw (← head-same h s) k
-set-keptX h s (some x) n k = rw (← head-same h s) k
+set-keptX h s none n k = k
+set-keptX h s (some x) n k = k
 
 mark-step : (t u : Bool) (x y : ℕ) → y ≡ cond t 0 x → eqb x 1 ≡ not u → eqb y 1 ≡ not (t || u)
 mark-step true u x y e h = rw e
@@ -244,16 +234,15 @@ module _ (m : Memory) (h : Head) (d : Held) (T : Option Float) (x : Option (List
 
   set-range : (s : Setting) → (ltb (setHead h s .model) 5 && inRange (dataIn (setMemory m e s) (setHead h s))) ≡ true
   unfolding inRange
-  set-range s = subst (λ (z : ModelData). (ltb (setHead h s .model) 5 && inRange z) ≡ true) (sym (set-data m h s)) (rw (set-number h s) (k .range))
+  set-range s = k .range
 
   values-room : sizeOf e ≤ length (m .values)
   unfolding leastValues
   values-room = omega (arith, bounds e (kept-range m h k) .values, l .values)
 
   set-agree : (s : Setting) → caseFault d s ≡ 0 → Agrees (held (dataIn (setMemory m e s) (setHead h s))) (setIn s d)
-  set-agree s f =
-      subst (λ (z : ModelData). Agrees (held z) (setIn s d)) (sym (set-data m h s))
-      (agrees-trans (store-agrees e s (caseFault-same (held e) d (k .agrees .alike) s ∙ f) values-room) (set-agrees (held e) d (k .agrees) s))
+  unfolding setMemory
+  set-agree s f = agrees-trans (store-agrees e s (caseFault-same (held e) d (k .agrees .alike) s ∙ f) values-room) (set-agrees (held e) d (k .agrees) s)
 
   -- touched by the setting, or before
   touched-more : (c : Call) (i j : ℕ) → touched (d .model) (c ∷ since) i j ≡ (anyOf (inputs (d .model) i j) (gives c) || touched (d .model) since i j)
@@ -282,7 +271,7 @@ module _ (m : Memory) (h : Head) (d : Held) (T : Option Float) (x : Option (List
       let a = set-alike s d in
       let w : width d ≡ width (setIn s d) = width-same d (setIn s d) a in
       record {
-        number = rw (set-number h s) (k .number);
+        number = k .number;
         range = set-range s;
         agrees = set-agree s f;
         keptT = set-keptT h s T (k .keptT);

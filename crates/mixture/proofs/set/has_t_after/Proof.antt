@@ -1,12 +1,12 @@
 -- Whether T was set where the setting was declined, else what each case leaves.
 use borrow.Author.Needs.{needs}
 use borrow.Author.Tests.{eq-eqb, ne-eqb}
-use Rattle.mixture.specs.Calls.{setHead}
+use Rattle.mixture.specs.Calls.{hasTAfter}
 use Rattle.mixture.proofs.set.has_t_after.Statement.{statement}
 use Rattle.mixture.proofs.set.has_t_after.Tie as tie
 
 pub has-t-after-spec : {M : Type 1} → statement M
-unfolding setHead
+unfolding hasTAfter
 has-t-after-spec =
     tie.close
     (tie.spec

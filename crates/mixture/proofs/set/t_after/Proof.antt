@@ -1,12 +1,12 @@
 -- The head's own T where the setting was declined, else the one that each case leaves.
 use borrow.Author.Needs.{needs}
 use borrow.Author.Tests.{eq-eqb, ne-eqb}
-use Rattle.mixture.specs.Calls.{setHead}
+use Rattle.mixture.specs.Calls.{tAfter}
 use Rattle.mixture.proofs.set.t_after.Statement.{statement}
 use Rattle.mixture.proofs.set.t_after.Tie as tie
 
 pub t-after-spec : {M : Type 1} → statement M
-unfolding setHead
+unfolding tAfter
 t-after-spec =
     tie.close
     (tie.spec
