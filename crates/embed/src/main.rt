@@ -10,7 +10,7 @@ use mixture::faults::CELLS;
 use mixture::faults::MARKS;
 use mixture::faults::VALUES;
 use mixture::fractions::fractions;
-use mixture::head::bare_head;
+use mixture::head::no_head;
 use mixture::load::load;
 use mixture::open::open;
 use mixture::query::query;
@@ -52,7 +52,7 @@ fn main() {
     let mut values = [0.0; VALUES];
     let mut cells = [0.0; CELLS];
     let mut marks = [0u8; MARKS];
-    let opened = open(&values, &cells, &marks, bare_head(0, 0));
+    let opened = open(&values, &cells, &marks, no_head());
     check(opened);
     // two components, no groups and no lists; energies by rows in kelvin, then the molar volumes
     let given = [0.0, -81.46, 293.43, 0.0, 74.05, 40.73];

@@ -11,7 +11,7 @@ use arithmetic::bytes::fill_floats;
 use mixture::Answer;
 use mixture::Head;
 use mixture::Reply;
-use mixture::head::bare_head;
+use mixture::head::no_head;
 
 // A proved loop has to end, and nothing says that a script does: of a longer one the rest is unread.
 const MOST_RECORDS: u64 = 1000000;
@@ -127,7 +127,7 @@ fn all_records(fd: i32, values: &mut [f64], cells: &mut [f64], marks: &mut [u8])
         × (1100 ≤ length (now cells))
         × (1100 ≤ length (now marks)) ⌝ }
 {
-    let mut head = bare_head(0, 0);
+    let mut head = no_head();
     for _ in 0..MOST_RECORDS {
         let t = one_record(fd, values, cells, marks, head);
         if !t.more {

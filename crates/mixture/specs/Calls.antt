@@ -51,9 +51,13 @@ freshHead model n ng lens groups =
       «has_x» = false;
     }
 
+-- the head without a model
+abbrev pub noHead : Head
+noHead = freshHead 0 0 0 [] []
+
 -- writes no lent place and leaves no model
 unfoldable pub afterOpen : Memory → Head → After
-afterOpen m h = outcome (memoryFault m) m h (after m (freshHead 0 0 0 [] []) Done)
+afterOpen m h = outcome (memoryFault m) m h (after m noHead Done)
 
 -- ---- load
 

@@ -7,7 +7,7 @@ ghost use lib.ListN.{length, drop, replicate};
 ghost use Rattle.arithmetic.specs.Floats.{+0};
 ghost use Rattle.models.specs.Limits.{mostComponents, mostPlaces};
 ghost use Rattle.mixture.specs.Lists.{padded};
-ghost use Rattle.mixture.specs.Calls.{freshHead, headWith};
+ghost use Rattle.mixture.specs.Calls.{freshHead, noHead, headWith};
 use models::limits::COMPONENTS;
 use models::limits::PLACES;
 
@@ -61,6 +61,13 @@ fn unset_head(model: u8, n: usize, ng: usize, lens: [u8; COMPONENTS], groups: [u
         has_t: false,
         has_x: false,
     }
+}
+
+// The head without a model.
+pub fn no_head() -> Head
+    ensures { λ r. ⌜ r ≡ noHead ⌝ }
+{
+    unset_head(0, 0, 0, [0u8; COMPONENTS], [0u8; PLACES])
 }
 
 // A head with T and fractions unset and no lists.

@@ -6,7 +6,7 @@ use crate::answers::Answer;
 use crate::answers::Reply;
 use crate::faults::memory_fault;
 use crate::head::Head;
-use crate::head::bare_head;
+use crate::head::no_head;
 
 // Writes no lent place and leaves no model.
 pub fn open(values: &[f64], cells: &[f64], marks: &[u8], head: Head) -> Reply
@@ -20,7 +20,7 @@ pub fn open(values: &[f64], cells: &[f64], marks: &[u8], head: Head) -> Reply
         };
     }
     Reply {
-        head: bare_head(0, 0),
+        head: no_head(),
         answer: Answer::Done,
     }
 }

@@ -2,7 +2,7 @@
 -- change sets and a query; or the plain call at each temperature. Its result is the last value. Each step is the call's own definition, so
 -- `history` of mixture's proofs/History holds of it.
 use mathlib.Core.Bool.{cond}
-use mathlib.Core.List.{List, []}
+use mathlib.Core.List.{List}
 use Prim.Native.Nat.{ℕ, zero, suc, _+_, _-_, _*_, _/_}
 use lib.Dec.{eqb, ltb}
 use lib.ListN.{length, replicate}
@@ -26,7 +26,7 @@ use Rattle.mixture.specs.declared.answers.Answer.the-variants.{Refused, Done, V
 use Rattle.models.specs.Limits.{mostComponents, mostValues}
 use Rattle.models.specs.Model.{ModelData, byModel, modelOf}
 use Rattle.mixture.specs.Memory.{Memory, memory, leastValues, leastCells, leastMarks, After}
-use Rattle.mixture.specs.Calls.{freshHead, afterOpen, afterLoad, afterSetting, afterFractions, afterQuery}
+use Rattle.mixture.specs.Calls.{noHead, afterOpen, afterLoad, afterSetting, afterFractions, afterQuery}
 use Rattle.models.specs.Plain.{plainCall}
 
 -- what is asked, by the strip's numbers: 0 ln γ, 1 γ, else the excess energy
@@ -82,12 +82,9 @@ begun m h d x =
     let b = afterLoad (a .memory) (a .reply .head) d in
     afterFractions (b .memory) (b .reply .head) x
 
--- the memory and the head that it starts from
+-- the memory that it starts from
 unfoldable pub zeros : Memory
 zeros = memory (replicate leastValues +0) (replicate leastCells +0) (replicate leastMarks 0)
-
-abbrev pub noHead : Head
-noHead = freshHead 0 0 0 [] []
 
 -- the last value of the plain call
 unfoldable pub plainTurns : ℕ → ModelData → List Float → Quantity → Vector → Float

@@ -4,10 +4,11 @@ ghost use mathlib.Core.Path.{_≡_};
 ghost use Prim.Native.Nat.{_+_, _-_, _*_, _/_, _≤_};
 ghost use lib.ListN.{length};
 ghost use Rattle.mixture.specs.Memory.{before, later, left};
+ghost use Rattle.mixture.specs.Calls.{noHead};
 ghost use Rattle.models.specs.Model.{given as dataGiven};
 ghost use Rattle.models.specs.Plain.{plainCall};
 ghost use Rattle.repeat.specs.Exports.{quantityOf, valueOf, plainValue, settingOf, askedTimes, setTimes, turns, begun};
-ghost use Rattle.repeat.specs.Exports.{noHead, zeros, plainTurns, repeated, repeatedBytes, each, howMany};
+ghost use Rattle.repeat.specs.Exports.{zeros, plainTurns, repeated, repeatedBytes, each, howMany};
 use arithmetic::TdParam;
 use arithmetic::bytes;
 use mixture::Answer;
@@ -19,7 +20,7 @@ use mixture::faults::CELLS;
 use mixture::faults::MARKS;
 use mixture::faults::VALUES;
 use mixture::fractions::fractions;
-use mixture::head::bare_head;
+use mixture::head::no_head;
 use mixture::load::load;
 use mixture::open::open;
 use mixture::query::query;
@@ -282,7 +283,7 @@ fn kept(
     let mut values = [0.0; VALUES];
     let mut cells = [0.0; CELLS];
     let mut marks = [0u8; MARKS];
-    let head = bare_head(0, 0);
+    let head = no_head();
     let start = begin(
         &mut values[..],
         &cells[..],

@@ -60,7 +60,7 @@ pub fn run(strip: &[u8], out: &mut [u8]) -> usize
     let mut values = [0.0; VALUES];
     let mut cells = [0.0; CELLS];
     let mut marks = [0u8; MARKS];
-    let opened = mixture::open::open(&values, &cells, &marks, mixture::head::bare_head(0, 0));
+    let opened = mixture::open::open(&values, &cells, &marks, mixture::head::no_head());
     let h = opened.head;
     walk(strip, &mut values, &mut cells, &mut marks, h, out)
 }

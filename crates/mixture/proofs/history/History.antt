@@ -36,7 +36,7 @@ use Rattle.models.specs.Model.{ModelData}
 use Rattle.mixture.specs.Faults.{caseFault, memoryFault, inRange, headFault, loadFault, settingFault, fractionsFault, queryFault}
 use Rattle.mixture.specs.Memory.{Memory, memory, leastValues, leastCells, leastMarks, After}
 use Rattle.mixture.specs.Layout.{dataIn, place, numbers, cellAt}
-use Rattle.mixture.specs.Calls.{outcome, freshHead, afterOpen, loadedHead, loadedMemory, afterLoad, stales, stalesAt, setMemory, tAfter, hasTAfter, setHead, afterSetting, withFractions, afterFractions, exponential, valueBy, staleAt, worked, answered, afterQuery}
+use Rattle.mixture.specs.Calls.{outcome, noHead, afterOpen, loadedHead, loadedMemory, afterLoad, stales, stalesAt, setMemory, tAfter, hasTAfter, setHead, afterSetting, withFractions, afterFractions, exponential, valueBy, staleAt, worked, answered, afterQuery}
 use Rattle.mixture.specs.Book.{Call, Open, Load, Set, Fractions, Query, Book, book, empty, setIn, setT, setModel, bookAfter, gives, touched, touchedCells, plain, having, bookAnswer, isQuery, accepted, sinceAfter, bookAnswers}
 use Rattle.mixture.specs.History.{afterCall, answers, History}
 use Rattle.mixture.proofs.ListLaws.{never, or-none, length-written, getD-written, howMany-rows, howManyPairs-same}
@@ -466,4 +466,4 @@ pub history : History
 unfolding answers afterCall afterOpen empty
 history m h cs s =
     rw (short-no m (long-is m s))
-    (ap (λ (z : List Answer). Done ∷ z) (follows cs m (freshHead 0 0 0 [] []) empty [] (record { long = long-is m s; kept = refl })))
+    (ap (λ (z : List Answer). Done ∷ z) (follows cs m noHead empty [] (record { long = long-is m s; kept = refl })))

@@ -12,7 +12,7 @@ returns c = refused _ _ _ (c .before .memory-fault .ensures) (c .if1 .taken)
 
 returns-2 : tie.Need-returns-2
 unfolding afterOpen memoryFault
-returns-2 c = done _ _ (sym (c .before .before .memory-fault .ensures) ∙ c .before .if1 .left) (rw (c .bare-head .ensures))
+returns-2 c = done _ _ (sym (c .before .before .memory-fault .ensures) ∙ c .before .if1 .left) (rw (c .no-head .ensures))
 
 pub open-spec : {M : Type 1} → statement M
 open-spec = tie.close (tie.spec (λ c κs. tt) returns (λ c κs. tt) returns-2)

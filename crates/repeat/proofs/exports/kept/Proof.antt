@@ -8,7 +8,7 @@ use Rattle.repeat.proofs.exports.kept.Statement.{statement}
 use Rattle.repeat.proofs.exports.kept.Tie as tie
 
 returns : tie.Need-returns
-returns c = kept-is _ _ _ _ _ (λ k. floatAt (now (c .before .before .before .before .before .before .before .before .before .before .before .before .before .before .before .before .before .before .before .args .temperatures)) (8 * k)) _ _ (c .before .before .before .before .before .before .before .before .before .before .before .before .before .bare-head .ensures) (c .before .before .before .before .before .before .before .before .before .begin .ensures) (c .before .before .before .keep .ensures)
+returns c = kept-is _ _ _ _ _ (λ k. floatAt (now (c .before .before .before .before .before .before .before .before .before .before .before .before .before .before .before .before .before .before .before .args .temperatures)) (8 * k)) _ _ (c .before .before .before .before .before .before .before .before .before .before .before .before .before .no-head .ensures) (c .before .before .before .before .before .before .before .before .before .begin .ensures) (c .before .before .before .keep .ensures)
 
 pub kept-spec : {M : Type 1} → statement M
 kept-spec =
