@@ -23,7 +23,7 @@ use Rattle.mixture.specs.declared.answers.Answer.the-variants.{Refused, 
 use Rattle.mixture.specs.Answers.{valuesOf}
 use Rattle.mixture.specs.Holdings.{Held}
 use Rattle.mixture.specs.Memory.{Memory, isShort, short, leastValues, leastCells, leastMarks}
-use Rattle.mixture.specs.Book.{Call, Open, Query, Book, book, empty, plain, having, touchedCells, bookAnswer, bookAnswers, bookOf, sinceOf}
+use Rattle.mixture.specs.Book.{Call, Open, Query, Book, book, empty, plain, having, touchedCells, queryAnswer, bookAnswer, bookAnswers, bookOf, sinceOf}
 use Rattle.mixture.specs.History.{afterCall, answers}
 use Rattle.mixture.specs.Demand3.{leftBy, answerAfter, bookAnswerAfter, ByPlainCall, Demand3}
 use Rattle.mixture.proofs.history.History.{history}
@@ -64,7 +64,7 @@ record Found (b : Book) (since : List Call) (q : Quantity) : Type 0 where
   answer : bookAnswer b since (Query q) ≡ Value (plain d T x q) (touchedCells d since)
 
 found : (b : Book) (since : List Call) (q : Quantity) → ((k : ℕ) → bookAnswer b since (Query q) ≡ Refused k → ⊥) → Found b since q
-unfolding bookAnswer having
+unfolding bookAnswer queryAnswer having
 found b since q ne = go (b .model) (b .T) (b .x) ne
   where
     go : (o : Option Held) (t : Option Float) (u : Option (List Float)) → ((k : ℕ) → bookAnswer (book o t u) since (Query q) ≡ Refused k → ⊥) → Found (book o t u) since q

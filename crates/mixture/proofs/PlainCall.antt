@@ -35,7 +35,7 @@ use Rattle.mixture.specs.Holdings.{Held, held, entries, tdEntries, sizes
 use Rattle.models.specs.Model.{ModelData, byModel}
 use Rattle.mixture.specs.Faults.{hasEntry, hasTdEntry, hasSize, hasCount, caseFault}
 use Rattle.mixture.specs.Calls.{exponential}
-use Rattle.mixture.specs.Book.{Call, Open, Load, Set, Fractions, Query, Book, book, empty, replaced, holding, setIn, setModel, bookAfter, plain, having, touchedCells, bookAnswer, accepted, sinceAfter, bookAnswers, bookOf, sinceOf}
+use Rattle.mixture.specs.Book.{Call, Open, Load, Set, Fractions, Query, Book, book, empty, replaced, holding, setIn, setModel, bookAfter, plain, having, touchedCells, settingAnswer, queryAnswer, bookAnswer, accepted, sinceAfter, bookAnswers, bookOf, sinceOf}
 use Rattle.mixture.specs.PlainCall.{OneMore, PlainCall}
 use Rattle.mixture.specs.WrittenBack.{fives, valuesIn, dataOf}
 use Rattle.mixture.proofs.ListLaws.{never}
@@ -368,7 +368,7 @@ took k v h =
     ]
 
 after-proper : (b : Book) (since : List Call) (c : Call) → accepted b since c ≡ true → ProperBook (b .model) (b .x) → ProperBook (bookAfter b c .model) (bookAfter b c .x)
-unfolding bookAfter bookAnswer empty setModel having numberOf
+unfolding bookAfter bookAnswer settingAnswer empty setModel having numberOf
 after-proper b since Open t p = tt
 after-proper b since (Load e) t p = load-proper e (sound e (took (dataFault e) Done t))
 after-proper b since (Set s) t p = set-case (b .model) (b .x) t p
@@ -397,7 +397,7 @@ of-proper (c ∷ cs) b since p =
 -- what a book with all three answers to a query
 book-answers : (d : Held) (T : Float) (x : List Float) (since : List Call) (q : Quantity) → indexFault (d .n) q ≡ 0
     → bookAnswer (book (some d) (some T) (some x)) since (Query q) ≡ Answered (plain d T x q) (touchedCells d since)
-unfolding bookAnswer having
+unfolding bookAnswer queryAnswer having
 book-answers d T x since q z = rw z
 
 pub plain-call : PlainCall

@@ -125,15 +125,23 @@ unfoldable pub having : {A : Type 0} → ℕ → Option A → (A → Answer) →
 having k none f = Refused k
 having k (some a) f = f a
 
--- the answer to a call, `since` being the calls accepted since the last answered query: 8, no model; 9, T or fractions unset
+-- to a setting: 8, no model
+unfoldable pub settingAnswer : Book → Setting → Answer
+settingAnswer b s = having 8 (b .model) (λ d. unless (caseFault d s) Done)
+
+-- to a query, `since` being the calls accepted since the last answered query: 8, no model; 9, T or fractions unset
+unfoldable pub queryAnswer : Book → List Call → Quantity → Answer
+queryAnswer b since q =
+    having 8 (b .model) (λ d. having 9 (b .T) (λ T. having 9 (b .x) (λ x.
+    unless (indexFault (d .n) q) (Value (plain d T x q) (touchedCells d since)))))
+
+-- to a call
 unfoldable pub bookAnswer : Book → List Call → Call → Answer
 bookAnswer b since Open = Done
 bookAnswer b since (Load d) = unless (dataFault d) Done
-bookAnswer b since (Set s) = having 8 (b .model) (λ d. unless (caseFault d s) Done)
+bookAnswer b since (Set s) = settingAnswer b s
 bookAnswer b since (Fractions x) = having 8 (b .model) (λ d. unless (mixFault (d .n) x) Done)
-bookAnswer b since (Query q) =
-    having 8 (b .model) (λ d. having 9 (b .T) (λ T. having 9 (b .x) (λ x.
-    unless (indexFault (d .n) q) (Value (plain d T x q) (touchedCells d since)))))
+bookAnswer b since (Query q) = queryAnswer b since q
 
 -- an answered query, where accepted
 unfoldable pub isQuery : Call → Bool

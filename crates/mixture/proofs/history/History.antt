@@ -37,7 +37,7 @@ use Rattle.mixture.specs.Faults.{caseFault, memoryFault, inRange, headFa
 use Rattle.mixture.specs.Memory.{Memory, memory, leastValues, leastCells, leastMarks, After}
 use Rattle.mixture.specs.Layout.{dataIn, place, numbers, cellAt}
 use Rattle.mixture.specs.Calls.{outcome, noHead, afterOpen, loadedHead, loadedMemory, afterLoad, stales, stalesAt, setMemory, tAfter, hasTAfter, setHead, afterSetting, withFractions, afterFractions, exponential, valueBy, staleAt, worked, answered, afterQuery}
-use Rattle.mixture.specs.Book.{Call, Open, Load, Set, Fractions, Query, Book, book, empty, setIn, setT, setModel, bookAfter, gives, touched, touchedCells, plain, having, bookAnswer, isQuery, accepted, sinceAfter, bookAnswers}
+use Rattle.mixture.specs.Book.{Call, Open, Load, Set, Fractions, Query, Book, book, empty, setIn, setT, setModel, bookAfter, gives, touched, touchedCells, plain, having, settingAnswer, queryAnswer, bookAnswer, isQuery, accepted, sinceAfter, bookAnswers}
 use Rattle.mixture.specs.History.{afterCall, answers, History}
 use Rattle.mixture.proofs.ListLaws.{never, or-none, length-written, getD-written, howMany-rows, howManyPairs-same}
 use Rattle.mixture.proofs.PlaceLaws.{both, nought, sizeOf}
@@ -291,7 +291,7 @@ set-long m e s l =
 
 step-set : (m : Memory) (h : Head) (o : Option Held) (T : Option Float) (x : Option (List Float)) (since : List Call) (s : Setting)
     → Keeps m h (book o T x) since → Step (afterSetting m h s) (book o T x) since (Set s)
-unfolding afterSetting settingFault bookAnswer having bookAfter setModel sinceAfter isQuery numberOf
+unfolding afterSetting settingFault bookAnswer settingAnswer having bookAfter setModel sinceAfter isQuery numberOf
 step-set m h none T x since s k =
     step-declined (settingFault m h s) 8 m h _ (book none T x) since (Set s) k (rw (head-none m h (k .long) (k .kept))) refl (nought 7)
 step-set m h (some d) T x since s k =
@@ -423,7 +423,7 @@ work-long m h d l =
 
 step-query : (m : Memory) (h : Head) (o : Option Held) (T : Option Float) (x : Option (List Float)) (since : List Call) (q : Quantity)
     → Keeps m h (book o T x) since → Step (afterQuery m h q) (book o T x) since (Query q)
-unfolding afterQuery queryFault answered bookAnswer having bookAfter sinceAfter isQuery numberOf
+unfolding afterQuery queryFault answered bookAnswer queryAnswer having bookAfter sinceAfter isQuery numberOf
 step-query m h none T x since q k =
     step-declined (queryFault m h q) 8 m h _ (book none T x) since (Query q) k (rw (head-none m h (k .long) (k .kept))) refl (nought 7)
 step-query m h (some d) none x since q k =
