@@ -23,7 +23,7 @@ use Rattle.mixture.specs.declared.answers.Answer.the-variants.{Refused, 
 use Rattle.mixture.specs.Answers.{valuesOf}
 use Rattle.mixture.specs.Holdings.{Held}
 use Rattle.mixture.specs.Memory.{Memory, isShort, short, leastValues, leastCells, leastMarks}
-use Rattle.mixture.specs.Book.{Call, Open, Query, Book, book, empty, plain, having, touchedCells, queryAnswer, bookAnswer, bookAnswers, bookOf, sinceOf}
+use Rattle.mixture.specs.Book.{Call, Open, Query, Book, book, empty, plain, having, touchedCells, since, queryAnswer, bookAnswer, bookAnswers, bookOf, pastOf}
 use Rattle.mixture.specs.History.{afterCall, answers}
 use Rattle.mixture.specs.Demand3.{leftBy, answerAfter, bookAnswerAfter, ByPlainCall, Demand3}
 use Rattle.mixture.proofs.history.History.{history}
@@ -55,19 +55,19 @@ book-is m h calls c s =
 
 -- ---- what a query that isn't refused finds in the book
 
-record Found (b : Book) (since : List Call) (q : Quantity) : Type 0 where
+record Found (b : Book) (past : List Call) (q : Quantity) : Type 0 where
   d : Held
   T : Float
   x : List Float
   stands : b ≡ book (some d) (some T) (some x)
   index : indexFault (d .n) q ≡ 0
-  answer : bookAnswer b since (Query q) ≡ Value (plain d T x q) (touchedCells d since)
+  answer : bookAnswer b past (Query q) ≡ Value (plain d T x q) (touchedCells d (since past))
 
-found : (b : Book) (since : List Call) (q : Quantity) → ((k : ℕ) → bookAnswer b since (Query q) ≡ Refused k → ⊥) → Found b since q
+found : (b : Book) (past : List Call) (q : Quantity) → ((k : ℕ) → bookAnswer b past (Query q) ≡ Refused k → ⊥) → Found b past q
 unfolding bookAnswer queryAnswer having
-found b since q ne = go (b .model) (b .T) (b .x) ne
+found b past q ne = go (b .model) (b .T) (b .x) ne
   where
-    go : (o : Option Held) (t : Option Float) (u : Option (List Float)) → ((k : ℕ) → bookAnswer (book o t u) since (Query q) ≡ Refused k → ⊥) → Found (book o t u) since q
+    go : (o : Option Held) (t : Option Float) (u : Option (List Float)) → ((k : ℕ) → bookAnswer (book o t u) past (Query q) ≡ Refused k → ⊥) → Found (book o t u) past q
     go none t u ne = absurd (ne 8 refl)
     go (some d) none u ne = absurd (ne 9 refl)
     go (some d) (some T) none ne = absurd (ne 9 refl)
@@ -95,10 +95,10 @@ unfolding lastOf answers leftBy bookAnswers
 open-accepted m h s = ap (lastOf Done) (history m h [] s)
 
 -- what a query finds in the book is what it is answered with
-by-book : (calls : List Call) (q : Quantity) {a : Answer} → a ≡ bookAnswerAfter calls (Query q) → Found (bookOf empty [] calls) (sinceOf empty [] calls) q → ByPlainCall calls q a
+by-book : (calls : List Call) (q : Quantity) {a : Answer} → a ≡ bookAnswerAfter calls (Query q) → Found (bookOf empty [] calls) (pastOf empty [] calls) q → ByPlainCall calls q a
 unfolding valuesOf
 by-book calls q e f =
-    let plain-is = plain-call calls (sinceOf empty [] calls) (f .d) (f .T) (f .x) q (f .stands) (f .index) in
+    let plain-is = plain-call calls (pastOf empty [] calls) (f .d) (f .T) (f .x) q (f .stands) (f .index) in
     record {
       d = f .d;
       T = f .T;

@@ -35,7 +35,7 @@ use Rattle.mixture.specs.Holdings.{Held, held, entries, tdEntries, sizes
 use Rattle.models.specs.Model.{ModelData, byModel}
 use Rattle.mixture.specs.Faults.{hasEntry, hasTdEntry, hasSize, hasCount, caseFault}
 use Rattle.mixture.specs.Calls.{exponential}
-use Rattle.mixture.specs.Book.{Call, Open, Load, Set, Fractions, Query, Book, book, empty, replaced, holding, setIn, setModel, bookAfter, plain, having, touchedCells, settingAnswer, queryAnswer, bookAnswer, accepted, sinceAfter, bookAnswers, bookOf, sinceOf}
+use Rattle.mixture.specs.Book.{Call, Open, Load, Set, Fractions, Query, Book, book, empty, replaced, holding, setIn, setModel, bookAfter, plain, having, touchedCells, settingAnswer, queryAnswer, bookAnswer, accepted, since, bookAnswers, bookOf, pastOf}
 use Rattle.mixture.specs.PlainCall.{OneMore, PlainCall}
 use Rattle.mixture.specs.WrittenBack.{fives, valuesIn, dataOf}
 use Rattle.mixture.proofs.ListLaws.{never}
@@ -367,59 +367,59 @@ took k v h =
       | inr e ↦ eqb-true k 0 (rw e at h)
     ]
 
-after-proper : (b : Book) (since : List Call) (c : Call) → accepted b since c ≡ true → ProperBook (b .model) (b .x) → ProperBook (bookAfter b c .model) (bookAfter b c .x)
+after-proper : (b : Book) (past : List Call) (c : Call) → accepted b past c ≡ true → ProperBook (b .model) (b .x) → ProperBook (bookAfter b c .model) (bookAfter b c .x)
 unfolding bookAfter bookAnswer settingAnswer empty setModel having numberOf
-after-proper b since Open t p = tt
-after-proper b since (Load e) t p = load-proper e (sound e (took (dataFault e) Done t))
-after-proper b since (Set s) t p = set-case (b .model) (b .x) t p
+after-proper b past Open t p = tt
+after-proper b past (Load e) t p = load-proper e (sound e (took (dataFault e) Done t))
+after-proper b past (Set s) t p = set-case (b .model) (b .x) t p
   where
     set-case : (o : Option Held) (x : Option (List Float)) → eqb (numberOf (having 8 o (λ d. unless (caseFault d s) Done))) 0 ≡ true → ProperBook o x → ProperBook (setModel s o) x
     set-case none x t p = tt
     set-case (some d) none t p = set-proper s d (took (caseFault d s) Done t) p
     set-case (some d) (some x) t p = (set-proper s d (took (caseFault d s) Done t) (p .0), ap (λ (n : ℕ). mixFault n x) (sym (set-alike s d .n)) ∙ p .1)
-after-proper b since (Fractions x) t p = mix-case (b .model) (b .x) t p
+after-proper b past (Fractions x) t p = mix-case (b .model) (b .x) t p
   where
     mix-case : (o : Option Held) (u : Option (List Float)) → eqb (numberOf (having 8 o (λ d. unless (mixFault (d .n) x) Done))) 0 ≡ true → ProperBook o u → ProperBook o (some x)
     mix-case none u t p = tt
     mix-case (some d) none t p = (p, took (mixFault (d .n) x) Done t)
     mix-case (some d) (some u) t p = (p .0, took (mixFault (d .n) x) Done t)
-after-proper b since (Query q) t p = p
+after-proper b past (Query q) t p = p
 
-of-proper : (cs : List Call) (b : Book) (since : List Call) → ProperBook (b .model) (b .x) → ProperBook (bookOf b since cs .model) (bookOf b since cs .x)
+of-proper : (cs : List Call) (b : Book) (past : List Call) → ProperBook (b .model) (b .x) → ProperBook (bookOf b past cs .model) (bookOf b past cs .x)
 unfolding bookOf
-of-proper [] b since p = p
-of-proper (c ∷ cs) b since p =
-    elim (either (accepted b since c)) [
-      | inl t ↦ rw t (of-proper cs (bookAfter b c) (sinceAfter since c) (after-proper b since c t p))
-      | inr t ↦ rw t (of-proper cs b since p)
+of-proper [] b past p = p
+of-proper (c ∷ cs) b past p =
+    elim (either (accepted b past c)) [
+      | inl t ↦ rw t (of-proper cs (bookAfter b c) (c ∷ past) (after-proper b past c t p))
+      | inr t ↦ rw t (of-proper cs b past p)
     ]
 
 -- what a book with all three answers to a query
-book-answers : (d : Held) (T : Float) (x : List Float) (since : List Call) (q : Quantity) → indexFault (d .n) q ≡ 0
-    → bookAnswer (book (some d) (some T) (some x)) since (Query q) ≡ Answered (plain d T x q) (touchedCells d since)
+book-answers : (d : Held) (T : Float) (x : List Float) (past : List Call) (q : Quantity) → indexFault (d .n) q ≡ 0
+    → bookAnswer (book (some d) (some T) (some x)) past (Query q) ≡ Answered (plain d T x q) (touchedCells d (since past))
 unfolding bookAnswer queryAnswer having
-book-answers d T x since q z = rw z
+book-answers d T x past q z = rw z
 
 pub plain-call : PlainCall
 unfolding empty plainNumber plainValues valuesOf countsOf
-plain-call cs since d T x q e z =
+plain-call cs past d T x q e z =
     let p : Proper d × (mixFault (d .n) x ≡ 0) = subst (λ (b : Book). ProperBook (b .model) (b .x)) e (of-proper cs empty [] tt) in
     let plainly = plain-answers d T x q (p .0) (p .1) z in
-    rw (plainly, e, book-answers d T x since q z) (refl, refl, refl)
+    rw (plainly, e, book-answers d T x past q z) (refl, refl, refl)
 
 -- ---- one more call
 
-more : (cs : List Call) (b : Book) (since : List Call) (c : Call) → bookAnswers b since (cs ++ c ∷ []) ≡ bookAnswers b since cs ++ bookAnswer (bookOf b since cs) (sinceOf b since cs) c ∷ []
-unfolding bookAnswers bookOf sinceOf
-more [] b since c = ap (λ (l : List MixtureAnswer). bookAnswer b since c ∷ l) (none-left (accepted b since c))
+more : (cs : List Call) (b : Book) (past : List Call) (c : Call) → bookAnswers b past (cs ++ c ∷ []) ≡ bookAnswers b past cs ++ bookAnswer (bookOf b past cs) (pastOf b past cs) c ∷ []
+unfolding bookAnswers bookOf pastOf
+more [] b past c = ap (λ (l : List MixtureAnswer). bookAnswer b past c ∷ l) (none-left (accepted b past c))
   where
     none-left : (t : Bool) → _≡_ {A = List MixtureAnswer} (cond t [] []) []
     none-left true = refl
     none-left false = refl
-more (a ∷ cs) b since c =
-    elim (either (accepted b since a)) [
-      | inl e ↦ rw (e, more cs (bookAfter b a) (sinceAfter since a) c) refl
-      | inr e ↦ rw (e, more cs b since c) refl
+more (a ∷ cs) b past c =
+    elim (either (accepted b past a)) [
+      | inl e ↦ rw (e, more cs (bookAfter b a) (a ∷ past) c) refl
+      | inr e ↦ rw (e, more cs b past c) refl
     ]
 
 pub one-more : OneMore

@@ -110,6 +110,21 @@ touched m calls i j = anyOf calls (λ c. anyOf (inputs m i j) (gives c))
 unfoldable pub touchedCells : Held → List Call → ℕ
 touchedCells d calls = howManyPairs (width d) (width d) (λ i j. isCell d i j && touched (d .model) calls i j)
 
+-- ---- the accepted calls
+
+-- an answered query, where accepted
+unfoldable pub isQuery : Call → Bool
+isQuery Open = false
+isQuery (Load d) = false
+isQuery (Set s) = false
+isQuery (Fractions x) = false
+isQuery (Query q) = true
+
+-- of the accepted calls, the latest first, those since the last answered query
+unfoldable pub since : List Call → List Call
+since [] = []
+since (c ∷ past) = cond (isQuery c) [] (c ∷ since past)
+
 -- ---- answers
 
 -- the model's reference at the holdings
@@ -129,48 +144,36 @@ having k (some a) f = f a
 unfoldable pub settingAnswer : Book → Setting → Answer
 settingAnswer b s = having 8 (b .model) (λ d. unless (caseFault d s) Done)
 
--- to a query, `since` being the calls accepted since the last answered query: 8, no model; 9, T or fractions unset
+-- to a query, `past` being the accepted calls, the latest first: 8, no model; 9, T or fractions unset
 unfoldable pub queryAnswer : Book → List Call → Quantity → Answer
-queryAnswer b since q =
+queryAnswer b past q =
     having 8 (b .model) (λ d. having 9 (b .T) (λ T. having 9 (b .x) (λ x.
-    unless (indexFault (d .n) q) (Value (plain d T x q) (touchedCells d since)))))
+    unless (indexFault (d .n) q) (Value (plain d T x q) (touchedCells d (since past))))))
 
 -- to a call
 unfoldable pub bookAnswer : Book → List Call → Call → Answer
-bookAnswer b since Open = Done
-bookAnswer b since (Load d) = unless (dataFault d) Done
-bookAnswer b since (Set s) = settingAnswer b s
-bookAnswer b since (Fractions x) = having 8 (b .model) (λ d. unless (mixFault (d .n) x) Done)
-bookAnswer b since (Query q) = queryAnswer b since q
-
--- an answered query, where accepted
-unfoldable pub isQuery : Call → Bool
-isQuery Open = false
-isQuery (Load d) = false
-isQuery (Set s) = false
-isQuery (Fractions x) = false
-isQuery (Query q) = true
+bookAnswer b past Open = Done
+bookAnswer b past (Load d) = unless (dataFault d) Done
+bookAnswer b past (Set s) = settingAnswer b s
+bookAnswer b past (Fractions x) = having 8 (b .model) (λ d. unless (mixFault (d .n) x) Done)
+bookAnswer b past (Query q) = queryAnswer b past q
 
 abbrev pub accepted : Book → List Call → Call → Bool
-accepted b since c = eqb (numberOf (bookAnswer b since c)) 0
-
--- the accepted calls since the last answered query, after one more
-unfoldable pub sinceAfter : List Call → Call → List Call
-sinceAfter since c = cond (isQuery c) [] (c ∷ since)
+accepted b past c = eqb (numberOf (bookAnswer b past c)) 0
 
 -- a refused call changes nothing
 unfoldable pub bookAnswers : Book → List Call → List Call → List Answer
-bookAnswers b since [] = []
-bookAnswers b since (c ∷ cs) =
-    bookAnswer b since c
-    ∷ cond (accepted b since c) (bookAnswers (bookAfter b c) (sinceAfter since c) cs) (bookAnswers b since cs)
+bookAnswers b past [] = []
+bookAnswers b past (c ∷ cs) =
+    bookAnswer b past c
+    ∷ cond (accepted b past c) (bookAnswers (bookAfter b c) (c ∷ past) cs) (bookAnswers b past cs)
 
 -- the book after the calls
 unfoldable pub bookOf : Book → List Call → List Call → Book
-bookOf b since [] = b
-bookOf b since (c ∷ cs) = cond (accepted b since c) (bookOf (bookAfter b c) (sinceAfter since c) cs) (bookOf b since cs)
+bookOf b past [] = b
+bookOf b past (c ∷ cs) = cond (accepted b past c) (bookOf (bookAfter b c) (c ∷ past) cs) (bookOf b past cs)
 
--- the accepted calls since the last answered query, after the calls
-unfoldable pub sinceOf : Book → List Call → List Call → List Call
-sinceOf b since [] = since
-sinceOf b since (c ∷ cs) = cond (accepted b since c) (sinceOf (bookAfter b c) (sinceAfter since c) cs) (sinceOf b since cs)
+-- the accepted calls, the latest first, after the calls
+unfoldable pub pastOf : Book → List Call → List Call → List Call
+pastOf b past [] = past
+pastOf b past (c ∷ cs) = cond (accepted b past c) (pastOf (bookAfter b c) (c ∷ past) cs) (pastOf b past cs)

@@ -13,7 +13,7 @@ use Rattle.mixture.specs.declared.answers.Answer.{Answer}
 use Rattle.mixture.specs.declared.answers.Answer.the-variants.{Refused, Done, Value}
 use Rattle.mixture.specs.Holdings.{Held}
 use Rattle.mixture.specs.Memory.{Memory}
-use Rattle.mixture.specs.Book.{Call, Open, Query, book, empty, touchedCells, bookAnswer, bookOf, sinceOf}
+use Rattle.mixture.specs.Book.{Call, Open, Query, book, empty, touchedCells, since, bookAnswer, bookOf, pastOf}
 use Rattle.mixture.specs.History.{afterCall}
 use Rattle.mixture.specs.WrittenBack.{dataOf}
 use Rattle.models.specs.Plain.{plainCall}
@@ -34,7 +34,7 @@ answerAfter m h calls c = afterCall (leftBy m h calls .memory) (leftBy m h calls
 
 -- the book is told the calls alone
 abbrev pub bookAnswerAfter : List Call → Call → Answer
-bookAnswerAfter calls c = bookAnswer (bookOf empty [] calls) (sinceOf empty [] calls) c
+bookAnswerAfter calls c = bookAnswer (bookOf empty [] calls) (pastOf empty [] calls) c
 
 -- ---- the claim
 
@@ -47,7 +47,7 @@ pub record ByPlainCall (calls : List Call) (q : Quantity) (a : Answer) : Type 0 
   pub v : Float
   pub stands : bookOf empty [] calls ≡ book (some d) (some T) (some x)
   pub plainly : plainCall (dataOf d) T x q ≡ Plainly v
-  pub given : a ≡ Value v (touchedCells d (sinceOf empty [] calls))
+  pub given : a ≡ Value v (touchedCells d (since (pastOf empty [] calls)))
 
 -- on three slices with any bits and with any head the opening is accepted; after it and any calls a further call is refused with k
 -- exactly when the book refuses it with k, and a query that isn't refused is answered

@@ -9,20 +9,20 @@ use Rattle.models.specs.Faults.{indexFault}
 use Rattle.models.specs.Plain.{plainCall}
 use Rattle.mixture.specs.Holdings.{Held}
 use Rattle.mixture.specs.Answers.{valuesOf, countsOf}
-use Rattle.mixture.specs.Book.{Call, Query, book, empty, touchedCells, bookAnswer, bookAnswers, bookOf, sinceOf}
+use Rattle.mixture.specs.Book.{Call, Query, book, empty, touchedCells, since, bookAnswer, bookAnswers, bookOf, pastOf}
 use Rattle.mixture.specs.WrittenBack.{dataOf}
 
--- The answer to one more call is by the book after the calls, and by those accepted since the last answered query.
+-- The answer to one more call is by the book after the calls, and by those of them that were accepted.
 abbrev pub OneMore : Type 0
 OneMore = (calls : List Call) (c : Call)
-    → bookAnswers empty [] (calls ++ c ∷ []) ≡ bookAnswers empty [] calls ++ bookAnswer (bookOf empty [] calls) (sinceOf empty [] calls) c ∷ []
+    → bookAnswers empty [] (calls ++ c ∷ []) ≡ bookAnswers empty [] calls ++ bookAnswer (bookOf empty [] calls) (pastOf empty [] calls) c ∷ []
 
 -- After any calls, where the book holds a model, T and fractions and has the component asked for, the plain call on its
--- holdings is not refused; its value is the one that the book answers, with the number of cells touched. (In a history `since` is what
+-- holdings is not refused; its value is the one that the book answers, with the number of cells touched. (In a history `past` is what
 -- `OneMore` says; here it may be any list.)
 abbrev pub PlainCall : Type 0
-PlainCall = (calls since : List Call) (d : Held) (T : Float) (x : List Float) (q : Quantity)
+PlainCall = (calls past : List Call) (d : Held) (T : Float) (x : List Float) (q : Quantity)
     → bookOf empty [] calls ≡ book (some d) (some T) (some x) → indexFault (d .n) q ≡ 0
     → (plainNumber (plainCall (dataOf d) T x q) ≡ 0)
-    × (valuesOf (bookAnswer (bookOf empty [] calls) since (Query q)) ≡ plainValues (plainCall (dataOf d) T x q))
-    × (countsOf (bookAnswer (bookOf empty [] calls) since (Query q)) ≡ touchedCells d since ∷ [])
+    × (valuesOf (bookAnswer (bookOf empty [] calls) past (Query q)) ≡ plainValues (plainCall (dataOf d) T x q))
+    × (countsOf (bookAnswer (bookOf empty [] calls) past (Query q)) ≡ touchedCells d (since past) ∷ [])

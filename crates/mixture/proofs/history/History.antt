@@ -23,6 +23,7 @@ use Rattle.models.specs.Faults.{indexFault, dataFault, mixFault}
 use Rattle.models.specs.Values.{start, lists}
 use Rattle.models.proofs.GroupListLaws.{list-place}
 use Rattle.mixture.specs.declared.head.Head.{Head}
+use Rattle.models.specs.declared.model.Model.{Model}
 use Rattle.models.specs.declared.model.Model.the-variants.{Unifac}
 use Rattle.mixture.specs.declared.setting.Setting.{Setting}
 use Rattle.mixture.specs.declared.setting.Setting.the-variants.{Temperature, Entry, TdEntry, Size, Count}
@@ -37,7 +38,7 @@ use Rattle.mixture.specs.Faults.{caseFault, memoryFault, inRange, headFa
 use Rattle.mixture.specs.Memory.{Memory, memory, leastValues, leastCells, leastMarks, After}
 use Rattle.mixture.specs.Layout.{dataIn, place, numbers, cellAt}
 use Rattle.mixture.specs.Calls.{outcome, noHead, afterOpen, loadedHead, loadedMemory, afterLoad, stales, stalesAt, setMemory, tAfter, hasTAfter, setHead, afterSetting, withFractions, afterFractions, exponential, valueBy, staleAt, worked, answered, afterQuery}
-use Rattle.mixture.specs.Book.{Call, Open, Load, Set, Fractions, Query, Book, book, empty, setIn, setT, setModel, bookAfter, gives, touched, touchedCells, plain, having, settingAnswer, queryAnswer, bookAnswer, isQuery, accepted, sinceAfter, bookAnswers}
+use Rattle.mixture.specs.Book.{Call, Open, Load, Set, Fractions, Query, Book, book, empty, setIn, setT, setModel, bookAfter, gives, touched, touchedCells, plain, having, settingAnswer, queryAnswer, bookAnswer, isQuery, accepted, since, bookAnswers}
 use Rattle.mixture.specs.History.{afterCall, answers, History}
 use Rattle.mixture.proofs.ListLaws.{never, or-none, length-written, getD-written, howMany-rows, howManyPairs-same}
 use Rattle.mixture.proofs.PlaceLaws.{both, nought, sizeOf}
@@ -57,40 +58,40 @@ abbrev KeptX : Option (List Float) → ℕ → Head → Type 0
 KeptX none n h = h .«has_x» ≡ false
 KeptX (some x) n h = (h .«has_x» ≡ true) × (length x ≡ n) × (h .x ≡ padded 12 +0 x)
 
-record KeptModel (m : Memory) (h : Head) (d : Held) (T : Option Float) (x : Option (List Float)) (since : List Call) : Type 0 where
+record KeptModel (m : Memory) (h : Head) (d : Held) (T : Option Float) (x : Option (List Float)) (past : List Call) : Type 0 where
   number : h .model ≡ 0 → ⊥
   range : (ltb (h .model) 5 && inRange (dataIn m h)) ≡ true
   agrees : Agrees (held (dataIn m h)) d
   keptT : KeptT T h
   keptX : KeptX x (d .n) h
   marks : (i j : ℕ) → i < width d → j < width d → isCell d i j ≡ true
-      → eqb (getD (m .marks) (i * width d + j) 0) 1 ≡ not (touched (d .model) since i j)
-  cells : (i j : ℕ) → i < width d → j < width d → isCell d i j ≡ true → touched (d .model) since i j ≡ false
+      → eqb (getD (m .marks) (i * width d + j) 0) 1 ≡ not (touched (d .model) (since past) i j)
+  cells : (i j : ℕ) → i < width d → j < width d → isCell d i j ≡ true → touched (d .model) (since past) i j ≡ false
       → (U : Float) → T ≡ some U → grid (width d) (m .cells) i j ≡ exponential d U i j
 
 abbrev Kept : Memory → Head → Option Held → Option Float → Option (List Float) → List Call → Type 0
-Kept m h none T x since = h .model ≡ 0
-Kept m h (some d) T x since = KeptModel m h d T x since
+Kept m h none T x past = h .model ≡ 0
+Kept m h (some d) T x past = KeptModel m h d T x past
 
-record Keeps (m : Memory) (h : Head) (b : Book) (since : List Call) : Type 0 where
+record Keeps (m : Memory) (h : Head) (b : Book) (past : List Call) : Type 0 where
   long : Long m
-  kept : Kept m h (b .model) (b .T) (b .x) since
+  kept : Kept m h (b .model) (b .T) (b .x) past
 
 -- ---- one call
 
 -- the answer is the book's, and memory and head keep the book that the call leaves
-record Step (a : After) (b : Book) (since : List Call) (c : Call) : Type 0 where
-  answer : a .reply .answer ≡ bookAnswer b since c
-  done : accepted b since c ≡ true → Keeps (a .memory) (a .reply .head) (bookAfter b c) (sinceAfter since c)
-  refused : accepted b since c ≡ false → Keeps (a .memory) (a .reply .head) b since
+record Step (a : After) (b : Book) (past : List Call) (c : Call) : Type 0 where
+  answer : a .reply .answer ≡ bookAnswer b past c
+  done : accepted b past c ≡ true → Keeps (a .memory) (a .reply .head) (bookAfter b c) (c ∷ past)
+  refused : accepted b past c ≡ false → Keeps (a .memory) (a .reply .head) b past
 
 -- by the number of the refusal
-step-by : (fault k : ℕ) (m : Memory) (h : Head) (a : After) (v : Answer) (b : Book) (since : List Call) (c : Call)
-    → Keeps m h b since → fault ≡ k → bookAnswer b since c ≡ unless k v → numberOf v ≡ 0
-    → (k ≡ 0 → (a .reply .answer ≡ v) × Keeps (a .memory) (a .reply .head) (bookAfter b c) (sinceAfter since c))
-    → Step (outcome fault m h a) b since c
+step-by : (fault k : ℕ) (m : Memory) (h : Head) (a : After) (v : Answer) (b : Book) (past : List Call) (c : Call)
+    → Keeps m h b past → fault ≡ k → bookAnswer b past c ≡ unless k v → numberOf v ≡ 0
+    → (k ≡ 0 → (a .reply .answer ≡ v) × Keeps (a .memory) (a .reply .head) (bookAfter b c) (c ∷ past))
+    → Step (outcome fault m h a) b past c
 unfolding numberOf
-step-by fault k m h a v b since c kept e s z f =
+step-by fault k m h a v b past c kept e s z f =
     elim (either (eqb k 0)) [
       | inl t ↦
           let g = f (eqb-true k 0 t) in
@@ -109,10 +110,10 @@ step-by fault k m h a v b since c kept e s z f =
           })
     ]
 
-step-declined : (fault k : ℕ) (m : Memory) (h : Head) (a : After) (b : Book) (since : List Call) (c : Call)
-    → Keeps m h b since → fault ≡ k → bookAnswer b since c ≡ Refused k → (k ≡ 0 → ⊥) → Step (outcome fault m h a) b since c
+step-declined : (fault k : ℕ) (m : Memory) (h : Head) (a : After) (b : Book) (past : List Call) (c : Call)
+    → Keeps m h b past → fault ≡ k → bookAnswer b past c ≡ Refused k → (k ≡ 0 → ⊥) → Step (outcome fault m h a) b past c
 unfolding numberOf
-step-declined fault k m h a b since c kept e s n = step-by fault k m h a Done b since c kept e (s ∙ rw (ne-eqb k 0 n)) refl (λ z. absurd (n z))
+step-declined fault k m h a b past c kept e s n = step-by fault k m h a Done b past c kept e (s ∙ rw (ne-eqb k 0 n)) refl (λ z. absurd (n z))
 
 -- ---- the faults of memory and head
 
@@ -124,15 +125,15 @@ head-fine : (m : Memory) (h : Head) → Long m → (h .model ≡ 0 → ⊥) → 
 unfolding headFault
 head-fine m h l n r = rw (short-no m l, ne-eqb (h .model) 0 n, r)
 
-kept-range : (m : Memory) (h : Head) {d : Held} {T : Option Float} {x : Option (List Float)} {since : List Call} → KeptModel m h d T x since → inRange (dataIn m h) ≡ true
+kept-range : (m : Memory) (h : Head) {d : Held} {T : Option Float} {x : Option (List Float)} {past : List Call} → KeptModel m h d T x past → inRange (dataIn m h) ≡ true
 kept-range m h k = both (ltb (h .model) 5) (inRange (dataIn m h)) (k .range) .1
 
 -- ---- open
 
-step-open : (m : Memory) (h : Head) (b : Book) (since : List Call) → Keeps m h b since → Step (afterOpen m h) b since Open
+step-open : (m : Memory) (h : Head) (b : Book) (past : List Call) → Keeps m h b past → Step (afterOpen m h) b past Open
 unfolding afterOpen bookAnswer bookAfter empty numberOf
-step-open m h b since k =
-    step-by (memoryFault m) 0 m h _ Done b since Open k (short-no m (k .long)) refl refl
+step-open m h b past k =
+    step-by (memoryFault m) 0 m h _ Done b past Open k (short-no m (k .long)) refl refl
     (λ _. (refl, record { long = k .long; kept = refl }))
 
 -- ---- cells at their places
@@ -157,10 +158,10 @@ stale-mark p marks c h t = getD-written p (λ c. 0) marks c 0 h ∙ rw t
 
 -- ---- load
 
-load-kept : (m : Memory) (d : ModelData) (since : List Call) → Long m → Sound d
-    → KeptModel (loadedMemory m d) (loadedHead d) (held d) none none (Load d ∷ since)
-unfolding touched anyOf loadedMemory
-load-kept m d since l s =
+load-kept : (m : Memory) (d : ModelData) (past : List Call) → Long m → Sound d
+    → KeptModel (loadedMemory m d) (loadedHead d) (held d) none none (Load d ∷ past)
+unfolding touched anyOf loadedMemory since isQuery
+load-kept m d past l s =
     let k = d .model in
     let range : inRange (dataIn (loadedMemory m d) (loadedHead d)) ≡ true = left-inRange m d k s in
     let agrees = left-agrees m d k s in
@@ -190,11 +191,17 @@ load-long m d l =
       marks = rw (length-written (cellAt (held d)) (λ c. 0) (m .marks)) (l .marks);
     }
 
-step-load : (m : Memory) (h : Head) (b : Book) (since : List Call) (d : ModelData) → Keeps m h b since → Step (afterLoad m h d) b since (Load d)
-unfolding afterLoad loadFault bookAnswer bookAfter sinceAfter isQuery numberOf
-step-load m h b since d k =
-    step-by (loadFault m d) (dataFault d) m h _ Done b since (Load d) k (rw (short-no m (k .long))) refl refl
-    (λ z. (refl, record { long = load-long m d (k .long); kept = load-kept m d since (k .long) (sound d z) }))
+step-load : (m : Memory) (h : Head) (b : Book) (past : List Call) (d : ModelData) → Keeps m h b past → Step (afterLoad m h d) b past (Load d)
+unfolding afterLoad loadFault bookAnswer bookAfter numberOf
+step-load m h b past d k =
+    step-by (loadFault m d) (dataFault d) m h _ Done b past (Load d) k (rw (short-no m (k .long))) refl refl
+    (λ z. (refl, record { long = load-long m d (k .long); kept = load-kept m d past (k .long) (sound d z) }))
+
+-- touched by one call more that is no query, or before
+touched-more : (k : Model) (past : List Call) (c : Call) → isQuery c ≡ false → (i j : ℕ)
+    → touched k (since (c ∷ past)) i j ≡ (anyOf (inputs k i j) (gives c) || touched k (since past) i j)
+unfolding touched anyOf since
+touched-more k past c n i j = rw n
 
 -- ---- setting
 
@@ -222,7 +229,7 @@ stales-same c d a (TdEntry r q p) i j = refl
 stales-same c d a (Size r w v) i j = refl
 stales-same c d a (Count r q v) i j = refl
 
-module _ (m : Memory) (h : Head) (d : Held) (T : Option Float) (x : Option (List Float)) (since : List Call) (l : Long m) (k : KeptModel m h d T x since) where
+module _ (m : Memory) (h : Head) (d : Held) (T : Option Float) (x : Option (List Float)) (past : List Call) (l : Long m) (k : KeptModel m h d T x past) where
   abbrev e : ModelData
   e = dataIn m h
 
@@ -244,29 +251,24 @@ module _ (m : Memory) (h : Head) (d : Held) (T : Option Float) (x : Option (List
   unfolding setMemory
   set-agree s f = agrees-trans (store-agrees e s (caseFault-same (held e) d (k .agrees .alike) s ∙ f) values-room) (set-agrees (held e) d (k .agrees) s)
 
-  -- touched by the setting, or before
-  touched-more : (c : Call) (i j : ℕ) → touched (d .model) (c ∷ since) i j ≡ (anyOf (inputs (d .model) i j) (gives c) || touched (d .model) since i j)
-  unfolding touched anyOf
-  touched-more c i j = refl
-
   set-marks : (s : Setting) → caseFault d s ≡ 0 → (i j : ℕ) → i < width d → j < width d → isCell d i j ≡ true
-      → eqb (getD (setMemory m e s .marks) (i * width d + j) 0) 1 ≡ not (touched (d .model) (Set s ∷ since) i j)
-  unfolding setMemory
+      → eqb (getD (setMemory m e s .marks) (i * width d + j) 0) 1 ≡ not (touched (d .model) (since (Set s ∷ past)) i j)
+  unfolding setMemory isQuery
   set-marks s f i j hi hj c =
-      rw (touched-more (Set s) i j, ← (stales-inputs d s i j f))
-      (mark-step (stales d s i j) (touched (d .model) since i j) (getD (m .marks) (i * width d + j) 0) _
+      rw (touched-more (d .model) past (Set s) refl i j, ← (stales-inputs d s i j f))
+      (mark-step (stales d s i j) (touched (d .model) (since past) i j) (getD (m .marks) (i * width d + j) 0) _
       (getD-written (stalesAt (held e) s) (λ c. 0) (m .marks) (i * width d + j) 0 (mark-room (m .marks) (width d) (l .marks) (room e d (kept-range m h k) (k .agrees .alike)) i j hi hj)
       ∙ rw (stalesAt-is s i j hi hj c))
       (k .marks i j hi hj c))
 
   set-cells : (s : Setting) → caseFault d s ≡ 0 → (i j : ℕ) → i < width d → j < width d → isCell d i j ≡ true
-      → touched (d .model) (Set s ∷ since) i j ≡ false → (U : Float) → setT s T ≡ some U → grid (width d) (setMemory m e s .cells) i j ≡ exponential (setIn s d) U i j
-  unfolding setMemory
+      → touched (d .model) (since (Set s ∷ past)) i j ≡ false → (U : Float) → setT s T ≡ some U → grid (width d) (setMemory m e s .cells) i j ≡ exponential (setIn s d) U i j
+  unfolding setMemory isQuery
   set-cells s f i j hi hj c t U p =
-      let b = or-none (stales d s i j) (touched (d .model) since i j) (ap (λ (z : Bool). z || touched (d .model) since i j) (stales-inputs d s i j f) ∙ sym (touched-more (Set s) i j) ∙ t) in
+      let b = or-none (stales d s i j) (touched (d .model) (since past) i j) (ap (λ (z : Bool). z || touched (d .model) (since past) i j) (stales-inputs d s i j f) ∙ sym (touched-more (d .model) past (Set s) refl i j) ∙ t) in
       k .cells i j hi hj c (b .1) U (sym (setT-still d s i j T (b .0)) ∙ p) ∙ sym (exponential-still d s U i j (b .0))
 
-  set-kept : (s : Setting) → caseFault d s ≡ 0 → KeptModel (setMemory m e s) (setHead h s) (setIn s d) (setT s T) x (Set s ∷ since)
+  set-kept : (s : Setting) → caseFault d s ≡ 0 → KeptModel (setMemory m e s) (setHead h s) (setIn s d) (setT s T) x (Set s ∷ past)
   set-kept s f =
       let a = set-alike s d in
       let w : width d ≡ width (setIn s d) = width-same d (setIn s d) a in
@@ -289,15 +291,15 @@ set-long m e s l =
       marks = rw (length-written _ (λ c. 0) (m .marks)) (l .marks);
     }
 
-step-set : (m : Memory) (h : Head) (o : Option Held) (T : Option Float) (x : Option (List Float)) (since : List Call) (s : Setting)
-    → Keeps m h (book o T x) since → Step (afterSetting m h s) (book o T x) since (Set s)
-unfolding afterSetting settingFault bookAnswer settingAnswer having bookAfter setModel sinceAfter isQuery numberOf
-step-set m h none T x since s k =
-    step-declined (settingFault m h s) 8 m h _ (book none T x) since (Set s) k (rw (head-none m h (k .long) (k .kept))) refl (nought 7)
-step-set m h (some d) T x since s k =
-    step-by (settingFault m h s) (caseFault d s) m h _ Done (book (some d) T x) since (Set s) k
+step-set : (m : Memory) (h : Head) (o : Option Held) (T : Option Float) (x : Option (List Float)) (past : List Call) (s : Setting)
+    → Keeps m h (book o T x) past → Step (afterSetting m h s) (book o T x) past (Set s)
+unfolding afterSetting settingFault bookAnswer settingAnswer having bookAfter setModel numberOf
+step-set m h none T x past s k =
+    step-declined (settingFault m h s) 8 m h _ (book none T x) past (Set s) k (rw (head-none m h (k .long) (k .kept))) refl (nought 7)
+step-set m h (some d) T x past s k =
+    step-by (settingFault m h s) (caseFault d s) m h _ Done (book (some d) T x) past (Set s) k
     (rw (head-fine m h (k .long) (k .kept .number) (k .kept .range)) (caseFault-same (held (dataIn m h)) d (k .kept .agrees .alike) s)) refl refl
-    (λ z. (refl, record { long = set-long m (dataIn m h) s (k .long); kept = set-kept m h d T x since (k .long) (k .kept) s z }))
+    (λ z. (refl, record { long = set-long m (dataIn m h) s (k .long); kept = set-kept m h d T x past (k .long) (k .kept) s z }))
 
 -- ---- fractions
 
@@ -305,10 +307,10 @@ fractions-keptT : (h : Head) (T : Option Float) (x : List Float) → KeptT T h �
 fractions-keptT h none x k = k
 fractions-keptT h (some T) x k = k
 
-fractions-kept : (m : Memory) (h : Head) (d : Held) (T : Option Float) (o : Option (List Float)) (since : List Call) (x : List Float) → length x ≡ d .n
-    → KeptModel m h d T o since → KeptModel m (withFractions h x) d T (some x) (Fractions x ∷ since)
-unfolding touched anyOf
-fractions-kept m h d T o since x n k =
+fractions-kept : (m : Memory) (h : Head) (d : Held) (T : Option Float) (o : Option (List Float)) (past : List Call) (x : List Float) → length x ≡ d .n
+    → KeptModel m h d T o past → KeptModel m (withFractions h x) d T (some x) (Fractions x ∷ past)
+unfolding touched anyOf since isQuery
+fractions-kept m h d T o past x n k =
     record {
       number = k .number;
       range = k .range;
@@ -319,22 +321,22 @@ fractions-kept m h d T o since x n k =
       cells = λ i j hi hj c t. k .cells i j hi hj c (rw (← (fractions-inputs (d .model) x i j)) at t);
     }
 
-step-fractions : (m : Memory) (h : Head) (o : Option Held) (T : Option Float) (u : Option (List Float)) (since : List Call) (x : List Float)
-    → Keeps m h (book o T u) since → Step (afterFractions m h x) (book o T u) since (Fractions x)
-unfolding afterFractions fractionsFault bookAnswer having bookAfter sinceAfter isQuery numberOf
-step-fractions m h none T u since x k =
-    step-declined (fractionsFault m h x) 8 m h _ (book none T u) since (Fractions x) k (rw (head-none m h (k .long) (k .kept))) refl (nought 7)
-step-fractions m h (some d) T u since x k =
-    step-by (fractionsFault m h x) (mixFault (d .n) x) m h _ Done (book (some d) T u) since (Fractions x) k
+step-fractions : (m : Memory) (h : Head) (o : Option Held) (T : Option Float) (u : Option (List Float)) (past : List Call) (x : List Float)
+    → Keeps m h (book o T u) past → Step (afterFractions m h x) (book o T u) past (Fractions x)
+unfolding afterFractions fractionsFault bookAnswer having bookAfter numberOf
+step-fractions m h none T u past x k =
+    step-declined (fractionsFault m h x) 8 m h _ (book none T u) past (Fractions x) k (rw (head-none m h (k .long) (k .kept))) refl (nought 7)
+step-fractions m h (some d) T u past x k =
+    step-by (fractionsFault m h x) (mixFault (d .n) x) m h _ Done (book (some d) T u) past (Fractions x) k
     (rw (head-fine m h (k .long) (k .kept .number) (k .kept .range)) (ap (λ (n : ℕ). mixFault n x) (k .kept .agrees .alike .n))) refl refl
-    (λ z. (refl, record { long = k .long; kept = fractions-kept m h d T u since x (mix-length (d .n) x z) (k .kept) }))
+    (λ z. (refl, record { long = k .long; kept = fractions-kept m h d T u past x (mix-length (d .n) x z) (k .kept) }))
 
 -- ---- query
 
 some-is : (T U : Float) → _≡_ {A = Option Float} (some T) (some U) → T ≡ U
 some-is T U e = cc
 
-module _ (m : Memory) (h : Head) (d : Held) (T : Float) (x : List Float) (since : List Call) (l : Long m) (k : KeptModel m h d (some T) (some x) since) where
+module _ (m : Memory) (h : Head) (d : Held) (T : Float) (x : List Float) (past : List Call) (l : Long m) (k : KeptModel m h d (some T) (some x) past) where
   abbrev c : Held
   c = held (dataIn m h)
 
@@ -345,12 +347,12 @@ module _ (m : Memory) (h : Head) (d : Held) (T : Float) (x : List Float) (since 
   small = room (dataIn m h) d (kept-range m h k) (k .agrees .alike)
 
   -- a place is stale where it is that of a touched cell
-  stale-is : (i j : ℕ) → i < width d → j < width d → staleAt m c (i * width d + j) ≡ (isCell d i j && touched (d .model) since i j)
+  stale-is : (i j : ℕ) → i < width d → j < width d → staleAt m c (i * width d + j) ≡ (isCell d i j && touched (d .model) (since past) i j)
   unfolding staleAt
   stale-is i j hi hj =
       rw (cellAt-is c d (k .agrees .alike) i j hi hj)
       (elim (either (isCell d i j)) [
-        | inl t ↦ rw (t, k .marks i j hi hj t) (Bool·not-not (touched (d .model) since i j))
+        | inl t ↦ rw (t, k .marks i j hi hj t) (Bool·not-not (touched (d .model) (since past) i j))
         | inr t ↦ rw t
       ])
 
@@ -359,7 +361,7 @@ module _ (m : Memory) (h : Head) (d : Held) (T : Float) (x : List Float) (since 
   unfolding worked
   fresh i j hi hj t =
       rw (getD-written (staleAt m c) (λ c. 1) (m .marks) (i * width d + j) 0 (mark-room (m .marks) (width d) (l .marks) small i j hi hj), stale-is i j hi hj, t)
-      (elim (either (touched (d .model) since i j)) [
+      (elim (either (touched (d .model) (since past) i j)) [
         | inl u ↦ rw u
         | inr u ↦ rw u (k .marks i j hi hj t ∙ rw u)
       ])
@@ -372,7 +374,7 @@ module _ (m : Memory) (h : Head) (d : Held) (T : Float) (x : List Float) (since 
         stale-is i j hi hj,
         t,
       )
-      (elim (either (touched (d .model) since i j)) [
+      (elim (either (touched (d .model) (since past) i j)) [
         | inl u ↦ rw (u, same, cell-row (width d) i j hj, cell-column (width d) i j hj, k .keptT .1) (exponential-same c d (k .agrees) T i j hi hj)
         | inr u ↦ rw u (k .cells i j hi hj t u T refl)
       ])
@@ -395,12 +397,12 @@ module _ (m : Memory) (h : Head) (d : Held) (T : Float) (x : List Float) (since 
       (λ i j hi hj t. rw same (right i j hi hj t)) fraction known q z
       ∙ rw (k .keptT .1) (plain-is d T x q)
 
-  count : howMany (width c * width c) (staleAt m c) ≡ touchedCells d since
+  count : howMany (width c * width c) (staleAt m c) ≡ touchedCells d (since past)
   unfolding touchedCells
   count = rw same (howMany-rows (width d) (width d) (staleAt m c) ∙ howManyPairs-same (width d) (width d) _ _ stale-is)
 
-  query-kept : (q : Quantity) → KeptModel (worked m c (h .t)) h d (some T) (some x) []
-  unfolding worked touched anyOf
+  query-kept : (q : Quantity) → KeptModel (worked m c (h .t)) h d (some T) (some x) (Query q ∷ past)
+  unfolding worked touched anyOf since isQuery
   query-kept q =
       record {
         number = k .number;
@@ -421,45 +423,45 @@ work-long m h d l =
       marks = rw (length-written _ _ (m .marks)) (l .marks);
     }
 
-step-query : (m : Memory) (h : Head) (o : Option Held) (T : Option Float) (x : Option (List Float)) (since : List Call) (q : Quantity)
-    → Keeps m h (book o T x) since → Step (afterQuery m h q) (book o T x) since (Query q)
-unfolding afterQuery queryFault answered bookAnswer queryAnswer having bookAfter sinceAfter isQuery numberOf
-step-query m h none T x since q k =
-    step-declined (queryFault m h q) 8 m h _ (book none T x) since (Query q) k (rw (head-none m h (k .long) (k .kept))) refl (nought 7)
-step-query m h (some d) none x since q k =
-    step-declined (queryFault m h q) 9 m h _ (book (some d) none x) since (Query q) k (rw (head-fine m h (k .long) (k .kept .number) (k .kept .range), k .kept .keptT)) refl (nought 8)
-step-query m h (some d) (some T) none since q k =
-    step-declined (queryFault m h q) 9 m h _ (book (some d) (some T) none) since (Query q) k
+step-query : (m : Memory) (h : Head) (o : Option Held) (T : Option Float) (x : Option (List Float)) (past : List Call) (q : Quantity)
+    → Keeps m h (book o T x) past → Step (afterQuery m h q) (book o T x) past (Query q)
+unfolding afterQuery queryFault answered bookAnswer queryAnswer having bookAfter numberOf
+step-query m h none T x past q k =
+    step-declined (queryFault m h q) 8 m h _ (book none T x) past (Query q) k (rw (head-none m h (k .long) (k .kept))) refl (nought 7)
+step-query m h (some d) none x past q k =
+    step-declined (queryFault m h q) 9 m h _ (book (some d) none x) past (Query q) k (rw (head-fine m h (k .long) (k .kept .number) (k .kept .range), k .kept .keptT)) refl (nought 8)
+step-query m h (some d) (some T) none past q k =
+    step-declined (queryFault m h q) 9 m h _ (book (some d) (some T) none) past (Query q) k
     (rw (head-fine m h (k .long) (k .kept .number) (k .kept .range), k .kept .keptT .0, k .kept .keptX)) refl (nought 8)
-step-query m h (some d) (some T) (some x) since q k =
-    step-by (queryFault m h q) (indexFault (d .n) q) m h _ (Value (plain d T x q) (touchedCells d since))
-    (book (some d) (some T) (some x)) since (Query q) k
+step-query m h (some d) (some T) (some x) past q k =
+    step-by (queryFault m h q) (indexFault (d .n) q) m h _ (Value (plain d T x q) (touchedCells d (since past)))
+    (book (some d) (some T) (some x)) past (Query q) k
     (rw (head-fine m h (k .long) (k .kept .number) (k .kept .range), k .kept .keptT .0, k .kept .keptX .0) (ap (λ (n : ℕ). indexFault n q) (k .kept .agrees .alike .n))) refl refl
     (λ z. (
-      ap₂ Value (value m h d T x since (k .long) (k .kept) q z) (count m h d T x since (k .long) (k .kept)),
-      record { long = work-long m h d (k .long); kept = query-kept m h d T x since (k .long) (k .kept) q },
+      ap₂ Value (value m h d T x past (k .long) (k .kept) q z) (count m h d T x past (k .long) (k .kept)),
+      record { long = work-long m h d (k .long); kept = query-kept m h d T x past (k .long) (k .kept) q },
     ))
 
 -- ---- every list
 
-step : (m : Memory) (h : Head) (b : Book) (since : List Call) (c : Call) → Keeps m h b since → Step (afterCall m h c) b since c
+step : (m : Memory) (h : Head) (b : Book) (past : List Call) (c : Call) → Keeps m h b past → Step (afterCall m h c) b past c
 unfolding afterCall
-step m h b since Open k = step-open m h b since k
-step m h b since (Load d) k = step-load m h b since d k
-step m h b since (Set s) k = step-set m h (b .model) (b .T) (b .x) since s k
-step m h b since (Fractions x) k = step-fractions m h (b .model) (b .T) (b .x) since x k
-step m h b since (Query q) k = step-query m h (b .model) (b .T) (b .x) since q k
+step m h b past Open k = step-open m h b past k
+step m h b past (Load d) k = step-load m h b past d k
+step m h b past (Set s) k = step-set m h (b .model) (b .T) (b .x) past s k
+step m h b past (Fractions x) k = step-fractions m h (b .model) (b .T) (b .x) past x k
+step m h b past (Query q) k = step-query m h (b .model) (b .T) (b .x) past q k
 
-follows : (cs : List Call) (m : Memory) (h : Head) (b : Book) (since : List Call) → Keeps m h b since → answers m h cs ≡ bookAnswers b since cs
+follows : (cs : List Call) (m : Memory) (h : Head) (b : Book) (past : List Call) → Keeps m h b past → answers m h cs ≡ bookAnswers b past cs
 unfolding answers bookAnswers
-follows [] m h b since k = refl
-follows (c ∷ cs) m h b since k =
-    let s = step m h b since c k in
+follows [] m h b past k = refl
+follows (c ∷ cs) m h b past k =
+    let s = step m h b past c k in
     rw (s .answer)
-    (ap (λ (z : List Answer). bookAnswer b since c ∷ z)
-    (elim (either (accepted b since c)) [
-      | inl t ↦ rw t (follows cs _ _ (bookAfter b c) (sinceAfter since c) (s .done t))
-      | inr t ↦ rw t (follows cs _ _ b since (s .refused t))
+    (ap (λ (z : List Answer). bookAnswer b past c ∷ z)
+    (elim (either (accepted b past c)) [
+      | inl t ↦ rw t (follows cs _ _ (bookAfter b c) (c ∷ past) (s .done t))
+      | inr t ↦ rw t (follows cs _ _ b past (s .refused t))
     ]))
 
 pub history : History
