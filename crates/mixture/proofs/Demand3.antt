@@ -98,7 +98,9 @@ open-accepted m h s = ap (lastOf Done) (history m h [] s)
 by-book : (calls : List Call) (q : Quantity) {a : Answer} → a ≡ bookAnswerAfter calls (Query q) → Found (bookOf empty [] calls) (pastOf empty [] calls) q → ByPlainCall calls q a
 unfolding valuesOf
 by-book calls q e f =
-    let plain-is = plain-call calls (pastOf empty [] calls) (f .d) (f .T) (f .x) q (f .stands) (f .index) in
+    let plain-is =
+    plain-call calls (pastOf empty [] calls) (f .d) (f .T) (f .x) q
+    (ap (λ (b : Book). b .model) (f .stands)) (ap (λ (b : Book). b .T) (f .stands)) (ap (λ (b : Book). b .x) (f .stands)) (f .index) in
     record {
       d = f .d;
       T = f .T;

@@ -35,7 +35,7 @@ use Rattle.mixture.specs.Holdings.{Held, held, entries, tdEntries, sizes
 use Rattle.models.specs.Model.{ModelData, byModel}
 use Rattle.mixture.specs.Faults.{hasEntry, hasTdEntry, hasSize, hasCount, caseFault}
 use Rattle.mixture.specs.Calls.{exponential}
-use Rattle.mixture.specs.Book.{Call, Open, Load, Set, Fractions, Query, Book, book, empty, replaced, holding, setIn, setModel, bookAfter, plain, having, touchedCells, settingAnswer, queryAnswer, bookAnswer, accepted, since, bookAnswers, bookOf, pastOf}
+use Rattle.mixture.specs.Book.{Call, Open, Load, Set, Fractions, Query, Book, empty, replaced, holding, setIn, setModel, bookAfter, plain, having, touchedCells, settingAnswer, queryAnswer, bookAnswer, accepted, since, bookAnswers, bookOf, pastOf}
 use Rattle.mixture.specs.PlainCall.{OneMore, PlainCall}
 use Rattle.mixture.specs.WrittenBack.{fives, valuesIn, dataOf}
 use Rattle.mixture.proofs.ListLaws.{never}
@@ -395,17 +395,19 @@ of-proper (c ∷ cs) b past p =
     ]
 
 -- what a book with all three answers to a query
-book-answers : (d : Held) (T : Float) (x : List Float) (past : List Call) (q : Quantity) → indexFault (d .n) q ≡ 0
-    → bookAnswer (book (some d) (some T) (some x)) past (Query q) ≡ Answered (plain d T x q) (touchedCells d (since past))
+book-answers : (b : Book) (past : List Call) (d : Held) (T : Float) (x : List Float) (q : Quantity)
+    → b .model ≡ some d → b .T ≡ some T → b .x ≡ some x → indexFault (d .n) q ≡ 0
+    → bookAnswer b past (Query q) ≡ Answered (plain d T x q) (touchedCells d (since past))
 unfolding bookAnswer queryAnswer having
-book-answers d T x past q z = rw z
+book-answers b past d T x q p r s z = rw (p, r, s, z)
 
 pub plain-call : PlainCall
 unfolding empty plainNumber plainValues valuesOf countsOf
-plain-call cs past d T x q e z =
-    let p : Proper d × (mixFault (d .n) x ≡ 0) = subst (λ (b : Book). ProperBook (b .model) (b .x)) e (of-proper cs empty [] tt) in
+plain-call cs past d T x q r s u z =
+    let o : ProperBook (some d) (bookOf empty [] cs .x) = subst (λ (o : Option Held). ProperBook o (bookOf empty [] cs .x)) r (of-proper cs empty [] tt) in
+    let p : Proper d × (mixFault (d .n) x ≡ 0) = subst (λ (o : Option (List Float)). ProperBook (some d) o) u o in
     let plainly = plain-answers d T x q (p .0) (p .1) z in
-    rw (plainly, e, book-answers d T x past q z) (refl, refl, refl)
+    rw (plainly, book-answers (bookOf empty [] cs) past d T x q r s u z) (refl, refl, refl)
 
 -- ---- one more call
 

@@ -9,7 +9,7 @@ use Rattle.models.specs.Faults.{indexFault}
 use Rattle.models.specs.Plain.{plainCall}
 use Rattle.mixture.specs.Holdings.{Held}
 use Rattle.mixture.specs.Answers.{valuesOf, countsOf}
-use Rattle.mixture.specs.Book.{Call, Query, book, empty, touchedCells, since, bookAnswer, bookAnswers, bookOf, pastOf}
+use Rattle.mixture.specs.Book.{Call, Query, empty, touchedCells, since, bookAnswer, bookAnswers, bookOf, pastOf}
 use Rattle.mixture.specs.WrittenBack.{dataOf}
 
 -- The answer to one more call is by the book after the calls, and by those of them that were accepted.
@@ -22,7 +22,8 @@ OneMore = (calls : List Call) (c : Call)
 -- `OneMore` says; here it may be any list.)
 abbrev pub PlainCall : Type 0
 PlainCall = (calls past : List Call) (d : Held) (T : Float) (x : List Float) (q : Quantity)
-    → bookOf empty [] calls ≡ book (some d) (some T) (some x) → indexFault (d .n) q ≡ 0
+    → bookOf empty [] calls .model ≡ some d → bookOf empty [] calls .T ≡ some T → bookOf empty [] calls .x ≡ some x
+    → indexFault (d .n) q ≡ 0
     → (plainNumber (plainCall (dataOf d) T x q) ≡ 0)
     × (valuesOf (bookAnswer (bookOf empty [] calls) past (Query q)) ≡ plainValues (plainCall (dataOf d) T x q))
     × (countsOf (bookAnswer (bookOf empty [] calls) past (Query q)) ≡ touchedCells d (since past) ∷ [])
