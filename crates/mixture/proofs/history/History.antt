@@ -77,6 +77,31 @@ record Keeps (m : Memory) (h : Head) (b : Book) (past : List Call) : Type 0 wher
   long : Long m
   kept : Kept m h (b .model) (b .T) (b .x) past
 
+-- touched by one call more that is no query, or before
+touched-more : (k : Model) (past : List Call) (c : Call) → isQuery c ≡ false → (i j : ℕ)
+    → touched k (since (c ∷ past)) i j ≡ (anyOf (inputs k i j) (gives c) || touched k (since past) i j)
+unfolding touched anyOf since
+touched-more k past c n i j = rw n
+
+-- of the accepted calls only what they touch since the last answered query counts
+kept-past : (m : Memory) (h : Head) (o : Option Held) (T : Option Float) (x : Option (List Float)) (past past′ : List Call)
+    → ((k : Model) (i j : ℕ) → touched k (since past) i j ≡ touched k (since past′) i j) → Kept m h o T x past → Kept m h o T x past′
+kept-past m h none T x past past′ e k = k
+kept-past m h (some d) T x past past′ e k =
+    record {
+      number = k .number;
+      range = k .range;
+      agrees = k .agrees;
+      keptT = k .keptT;
+      keptX = k .keptX;
+      marks = λ i j hi hj c. rw (← (e (d .model) i j)) (k .marks i j hi hj c);
+      cells = λ i j hi hj c t. k .cells i j hi hj c (e (d .model) i j ∙ t);
+    }
+
+keeps-past : (m : Memory) (h : Head) (b : Book) (past past′ : List Call) → ((k : Model) (i j : ℕ) → touched k (since past) i j ≡ touched k (since past′) i j)
+    → Keeps m h b past → Keeps m h b past′
+keeps-past m h b past past′ e k = record { long = k .long; kept = kept-past m h (b .model) (b .T) (b .x) past past′ e (k .kept) }
+
 -- ---- one call
 
 -- the answer is the book's, and memory and head keep the book that the call leaves
@@ -197,12 +222,6 @@ step-load m h b past d k =
     step-by (loadFault m d) (dataFault d) m h _ Done b past (Load d) k (rw (short-no m (k .long))) refl refl
     (λ z. (refl, record { long = load-long m d (k .long); kept = load-kept m d past (k .long) (sound d z) }))
 
--- touched by one call more that is no query, or before
-touched-more : (k : Model) (past : List Call) (c : Call) → isQuery c ≡ false → (i j : ℕ)
-    → touched k (since (c ∷ past)) i j ≡ (anyOf (inputs k i j) (gives c) || touched k (since past) i j)
-unfolding touched anyOf since
-touched-more k past c n i j = rw n
-
 -- ---- setting
 
 set-keptT : (h : Head) (s : Setting) (T : Option Float) → KeptT T h → KeptT (setT s T) (setHead h s)
@@ -308,8 +327,7 @@ fractions-keptT h none x k = k
 fractions-keptT h (some T) x k = k
 
 fractions-kept : (m : Memory) (h : Head) (d : Held) (T : Option Float) (o : Option (List Float)) (past : List Call) (x : List Float) → length x ≡ d .n
-    → KeptModel m h d T o past → KeptModel m (withFractions h x) d T (some x) (Fractions x ∷ past)
-unfolding touched anyOf since isQuery
+    → KeptModel m h d T o past → KeptModel m (withFractions h x) d T (some x) past
 fractions-kept m h d T o past x n k =
     record {
       number = k .number;
@@ -317,9 +335,14 @@ fractions-kept m h d T o past x n k =
       agrees = k .agrees;
       keptT = fractions-keptT h T x (k .keptT);
       keptX = (refl, n, refl);
-      marks = λ i j hi hj c. rw (← (fractions-inputs (d .model) x i j)) (k .marks i j hi hj c);
-      cells = λ i j hi hj c t. k .cells i j hi hj c (rw (← (fractions-inputs (d .model) x i j)) at t);
+      marks = k .marks;
+      cells = k .cells;
     }
+
+-- fractions touch no cell
+fractions-past : (x : List Float) (past : List Call) (k : Model) (i j : ℕ) → touched k (since past) i j ≡ touched k (since (Fractions x ∷ past)) i j
+unfolding isQuery
+fractions-past x past k i j = sym (touched-more k past (Fractions x) refl i j ∙ rw (← (fractions-inputs k x i j)))
 
 step-fractions : (m : Memory) (h : Head) (o : Option Held) (T : Option Float) (u : Option (List Float)) (past : List Call) (x : List Float)
     → Keeps m h (book o T u) past → Step (afterFractions m h x) (book o T u) past (Fractions x)
@@ -329,7 +352,11 @@ step-fractions m h none T u past x k =
 step-fractions m h (some d) T u past x k =
     step-by (fractionsFault m h x) (mixFault (d .n) x) m h _ Done (book (some d) T u) past (Fractions x) k
     (rw (head-fine m h (k .long) (k .kept .number) (k .kept .range)) (ap (λ (n : ℕ). mixFault n x) (k .kept .agrees .alike .n))) refl refl
-    (λ z. (refl, record { long = k .long; kept = fractions-kept m h d T u past x (mix-length (d .n) x z) (k .kept) }))
+    (λ z. (
+      refl,
+      keeps-past m (withFractions h x) (book (some d) T (some x)) past (Fractions x ∷ past) (fractions-past x past)
+          (record { long = k .long; kept = fractions-kept m h d T u past x (mix-length (d .n) x z) (k .kept) }),
+    ))
 
 -- ---- query
 
