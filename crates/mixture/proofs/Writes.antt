@@ -26,7 +26,7 @@ use Rattle.mixture.specs.Calls.{outcome, afterOpen, loadedMemory, afterL
 use Rattle.mixture.specs.Faults.{memoryFault, loadFault, settingFault, fractionsFault, queryFault}
 use Rattle.mixture.specs.Book.{Open, Load, Set, Fractions, Query}
 use Rattle.mixture.specs.History.{afterCall}
-use Rattle.mixture.specs.Writes.{callFault, Numbers, Declined, heldBy, valuePlaces, cellPlaces, markPlaces, Writes, OnlyThere, DiagonalKept}
+use Rattle.mixture.specs.Writes.{callFault, Numbers, Declined, heldBy, places, Writes, OnlyThere, DiagonalKept}
 use Rattle.mixture.proofs.ListLaws.{length-written, getD-kept}
 use Rattle.mixture.proofs.PlaceLaws.{at-away}
 use Rattle.mixture.proofs.history.RangeLaws.{first-is}
@@ -90,7 +90,7 @@ outside p n k h =
     ]
 
 pub only-there : OnlyThere
-unfolding loadFault afterCall afterOpen afterLoad loadedMemory afterSetting setMemory stalesAt afterFractions afterQuery answered worked staleAt valuePlaces cellPlaces markPlaces
+unfolding loadFault afterCall afterOpen afterLoad loadedMemory afterSetting setMemory stalesAt afterFractions afterQuery answered worked staleAt places
 only-there m h Open = writes-by _ _ _ m h (memoryFault m) _ (λ z. still _ _ _ m h)
 only-there m h (Load d) =
     writes-by _ _ _ m h (loadFault m d) _

@@ -45,29 +45,33 @@ heldBy m h (Set s) = held (dataIn m h)
 heldBy m h (Fractions x) = held (dataIn m h)
 heldBy m h (Query q) = held (dataIn m h)
 
--- a load the model's values, a setting the numbers of what it names
-unfoldable pub valuePlaces : Memory → Head → Call → ℕ → Bool
-valuePlaces m h Open k = false
-valuePlaces m h (Load d) k = ltb k (length (d .values))
-valuePlaces m h (Set s) k = leb (place (dataIn m h) s) k && ltb k (place (dataIn m h) s + length (numbers s))
-valuePlaces m h (Fractions x) k = false
-valuePlaces m h (Query q) k = false
+-- which of values, of cells and of marks
+pub record Places : Type 0 where
+  pub values : ℕ → Bool
+  pub cells : ℕ → Bool
+  pub marks : ℕ → Bool
 
--- a query the stale cells
-unfoldable pub cellPlaces : Memory → Head → Call → ℕ → Bool
-cellPlaces m h Open c = false
-cellPlaces m h (Load d) c = false
-cellPlaces m h (Set s) c = false
-cellPlaces m h (Fractions x) c = false
-cellPlaces m h (Query q) c = not (eqb (getD (m .marks) c 0) 1)
+abbrev pub noPlaces : Places
+noPlaces = record { values = λ k. false; cells = λ c. false; marks = λ c. false }
 
--- a load the marks of all cells, a setting of those that it makes stale, a query of the stale ones
-unfoldable pub markPlaces : Memory → Head → Call → ℕ → Bool
-markPlaces m h Open c = false
-markPlaces m h (Load d) c = true
-markPlaces m h (Set s) c = stales (held (dataIn m h)) s (c / width (held (dataIn m h))) (c % width (held (dataIn m h)))
-markPlaces m h (Fractions x) c = false
-markPlaces m h (Query q) c = not (eqb (getD (m .marks) c 0) 1)
+-- a load the model's values and the marks of all cells; a setting the numbers of what it names and the marks of those that it
+-- makes stale; a query the stale cells and their marks
+unfoldable pub places : Memory → Head → Call → Places
+places m h Open = noPlaces
+places m h (Load d) = record { values = λ k. ltb k (length (d .values)); cells = λ c. false; marks = λ c. true }
+places m h (Set s) =
+    record {
+      values = λ k. leb (place (dataIn m h) s) k && ltb k (place (dataIn m h) s + length (numbers s));
+      cells = λ c. false;
+      marks = λ c. stales (held (dataIn m h)) s (c / width (held (dataIn m h))) (c % width (held (dataIn m h)));
+    }
+places m h (Fractions x) = noPlaces
+places m h (Query q) =
+    record {
+      values = λ k. false;
+      cells = λ c. not (eqb (getD (m .marks) c 0) 1);
+      marks = λ c. not (eqb (getD (m .marks) c 0) 1);
+    }
 
 -- all other places keep what they held
 pub record Writes (value cell mark : ℕ → Bool) (m m′ : Memory) : Type 0 where
@@ -79,7 +83,7 @@ pub record Writes (value cell mark : ℕ → Bool) (m m′ : Memory) : Type 0 wh
 -- of cells and marks only those of the model's cells
 abbrev pub OnlyThere : Type 0
 OnlyThere = (m : Memory) (h : Head) (c : Call)
-    → Writes (valuePlaces m h c) (λ k. cellAt (heldBy m h c) k && cellPlaces m h c k) (λ k. cellAt (heldBy m h c) k && markPlaces m h c k)
+    → Writes (places m h c .values) (λ k. cellAt (heldBy m h c) k && places m h c .cells k) (λ k. cellAt (heldBy m h c) k && places m h c .marks k)
     m (afterCall m h c .memory)
 
 -- ---- the diagonal
