@@ -23,7 +23,7 @@ use Rattle.models.specs.Model.{ModelData, byModel}
 use Rattle.mixture.specs.Memory.{Memory, memory, leastValues, leastMarks, short, isShort, After, after}
 use Rattle.mixture.specs.Layout.{dataIn, cellAt}
 use Rattle.mixture.specs.Calls.{outcome, loadedHead, loadedMemory, afterLoad}
-use Rattle.mixture.specs.Faults.{memoryFault, inRange, headFault, fractionsFault, loadFault}
+use Rattle.mixture.specs.Faults.{memoryFault, inRange, headFault, readyFault, fractionsFault, loadFault}
 use Rattle.mixture.proofs.ListLaws.{never}
 use Rattle.mixture.proofs.PlaceLaws.{both, passed, spared, nought}
 use Rattle.mixture.proofs.history.RangeLaws.{at-all, first-is, start-bound, Bounds, bounds, Long, long-is, Sound, sound}
@@ -84,6 +84,23 @@ module _ (m : Memory) (h : Head) where
     unfolding headFault
     judged-by n l e = rw (eq-eqb _ _ long, ne-eqb _ _ n, lt-ltb (h .model) 5 (omega arith), e)
 
+  pub ready-head : {k : ℕ} → k ≡ headFault m h → (k ≡ 0 → ⊥) → k ≡ readyFault m h
+  unfolding readyFault
+  ready-head e n = first-left _ e n
+
+  module _ {k : ℕ} (e : k ≡ headFault m h) (z : k ≡ 0) where
+    pub ready-no-t : h .«has_t» ≡ false → 9 ≡ readyFault m h
+    unfolding readyFault
+    ready-no-t t = rw (← e, z, t)
+
+    pub ready-no-x : h .«has_t» ≡ true → h .«has_x» ≡ false → 9 ≡ readyFault m h
+    unfolding readyFault
+    ready-no-x t x = rw (← e, z, t, x)
+
+    pub ready-none : h .«has_t» ≡ true → h .«has_x» ≡ true → 0 ≡ readyFault m h
+    unfolding readyFault
+    ready-none t x = rw (← e, z, t, x)
+
 -- ---- slices and a head that pass
 
 memory-long : (m : Memory) → memoryFault m ≡ 0 → Long m
@@ -105,6 +122,10 @@ module _ (m : Memory) (h : Head) (e : headFault m h ≡ 0) where
   pub head-passed : Passed m h
   unfolding headFault
   head-passed = record { long = memory-long m (first-is (memoryFault m) _ e .0); range = bounds (dataIn m h) in-range }
+
+pub ready-passed : (m : Memory) (h : Head) → readyFault m h ≡ 0 → Passed m h
+unfolding readyFault
+ready-passed m h e = head-passed m h (first-is (headFault m h) _ e .0)
 
 -- n is in range where the head passes with some memory of these lengths
 pub few-by : (h : Head) (lv lc lm : ℕ) {r : ℕ}

@@ -73,7 +73,10 @@ settingFault m h s = first (headFault m h) (caseFault (held (dataIn m h)) s)
 unfoldable pub fractionsFault : Memory → Head → List Float → ℕ
 fractionsFault m h x = first (headFault m h) (mixFault (h .n) x)
 
--- 9, T or fractions unset; 7, i ≥ n
+-- a model, T and fractions are there: 1 and 8; 9, T unset; 9, fractions unset
+unfoldable pub readyFault : Memory → Head → ℕ
+readyFault m h = first (headFault m h) (first (cond (h .«has_t») 0 9) (cond (h .«has_x») 0 9))
+
+-- 7, i ≥ n
 unfoldable pub queryFault : Memory → Head → Quantity → ℕ
-queryFault m h q =
-    first (headFault m h) (first (cond (h .«has_t») 0 9) (first (cond (h .«has_x») 0 9) (indexFault (h .n) q)))
+queryFault m h q = first (readyFault m h) (indexFault (h .n) q)

@@ -13,8 +13,7 @@ ghost use Rattle.models.specs.Values.{start};
 ghost use Rattle.mixture.specs.Holdings.{held};
 ghost use Rattle.mixture.specs.Memory.{Memory, OfLengths, short};
 ghost use Rattle.mixture.specs.Layout.{dataIn};
-ghost use Rattle.mixture.specs.Faults.{below, caseFault};
-ghost use Rattle.mixture.specs.Faults.{inRange, headFault, settingFault, fractionsFault, queryFault};
+ghost use Rattle.mixture.specs.Faults.{below, caseFault, inRange, headFault, settingFault, fractionsFault, readyFault, queryFault};
 use crate::head::Head;
 use crate::setting::Setting;
 use models::Model;
@@ -213,9 +212,10 @@ pub fn fractions_fault(lv: usize, lc: usize, lm: usize, head: Head, x: &[f64]) -
     models::faults::mix_fault(head.n, x)
 }
 
-// What a query is declined for: 1 and 8; 9, T or fractions unset; 7, no component i. Memory counts by its lengths alone.
-pub fn query_fault(lv: usize, lc: usize, lm: usize, head: Head, q: Quantity) -> u8
-    ensures { λ r. ⌜ ((m : Memory) → OfLengths lv lc lm m → r ≡ queryFault m head q) ⌝ }
+// Whether a model, T and fractions are there: 1 and 8; 9, T unset; 9, fractions unset. Memory counts by its
+// lengths alone.
+pub fn ready_fault(lv: usize, lc: usize, lm: usize, head: Head) -> u8
+    ensures { λ r. ⌜ ((m : Memory) → OfLengths lv lc lm m → r ≡ readyFault m head) ⌝ }
 {
     let fault = head_fault(lv, lc, lm, head);
     if fault != 0 {
@@ -226,6 +226,17 @@ pub fn query_fault(lv: usize, lc: usize, lm: usize, head: Head, q: Quantity) -> 
     }
     if !head.has_x {
         return 9;
+    }
+    0
+}
+
+// What a query is declined for; 7 comes last, no component i. Memory counts by its lengths alone.
+pub fn query_fault(lv: usize, lc: usize, lm: usize, head: Head, q: Quantity) -> u8
+    ensures { λ r. ⌜ ((m : Memory) → OfLengths lv lc lm m → r ≡ queryFault m head q) ⌝ }
+{
+    let fault = ready_fault(lv, lc, lm, head);
+    if fault != 0 {
+        return fault;
     }
     models::faults::index_fault(head.n, q)
 }

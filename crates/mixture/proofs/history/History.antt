@@ -34,7 +34,7 @@ use Rattle.mixture.specs.Lists.{written, padded, anyOf, howMany}
 use Rattle.mixture.specs.Holdings.{Held, held}
 use Rattle.mixture.specs.Cells.{width, isCell, inputs}
 use Rattle.models.specs.Model.{ModelData}
-use Rattle.mixture.specs.Faults.{caseFault, memoryFault, inRange, headFault, loadFault, settingFault, fractionsFault, queryFault}
+use Rattle.mixture.specs.Faults.{caseFault, memoryFault, inRange, headFault, loadFault, settingFault, fractionsFault, readyFault, queryFault}
 use Rattle.mixture.specs.Memory.{Memory, memory, leastValues, leastCells, leastMarks, After}
 use Rattle.mixture.specs.Layout.{dataIn, place, numbers, cellAt}
 use Rattle.mixture.specs.Calls.{outcome, noHead, afterOpen, loadedHead, loadedMemory, afterLoad, stales, stalesAt, setMemory, tAfter, hasTAfter, setHead, afterSetting, withFractions, afterFractions, exponential, valueBy, staleAt, worked, answered, afterQuery}
@@ -452,7 +452,7 @@ work-long m h d l =
 
 step-query : (m : Memory) (h : Head) (o : Option Held) (T : Option Float) (x : Option (List Float)) (past : List Call) (q : Quantity)
     → Keeps m h (book o T x) past → Step (afterQuery m h q) (book o T x) past (Query q)
-unfolding afterQuery queryFault answered bookAnswer queryAnswer having bookAfter numberOf
+unfolding afterQuery queryFault readyFault answered bookAnswer queryAnswer having bookAfter numberOf
 step-query m h none T x past q k =
     step-declined (queryFault m h q) 8 m h _ (book none T x) past (Query q) k (rw (head-none m h (k .long) (k .kept))) refl (nought 7)
 step-query m h (some d) none x past q k =

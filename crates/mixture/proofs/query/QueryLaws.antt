@@ -1,9 +1,8 @@
--- What a query declines, what one that passes has shown, and a model's refilled cells and value as the answer.
+-- What a query that passes has shown, and a model's refilled cells and value as the answer.
 use mathlib.Core.Path.{_≡_, sym, _∙_}
-use mathlib.Core.Bool.{Bool, true, false, not, cond, and-assoc}
+use mathlib.Core.Bool.{Bool, not, and-assoc}
 use mathlib.Core.List.{List}
 use Prim.Native.Nat.{ℕ, _*_, _/_, _%_}
-use borrow.Author.Tests.{ne-eqb}
 use lib.Dec.{ltb, eqb}
 use lib.ListN.{getD}
 use lib.Ieee.{Float}
@@ -27,42 +26,18 @@ use Rattle.mixture.specs.Memory.{Memory, memory, after}
 use Rattle.mixture.specs.Layout.{dataIn, cellAt}
 use Rattle.models.specs.Model.{modelOf}
 use Rattle.mixture.specs.Calls.{exponential, valueBy, staleAt, worked, answered, afterQuery}
-use Rattle.mixture.specs.Faults.{headFault, queryFault}
+use Rattle.mixture.specs.Faults.{readyFault, queryFault}
 use Rattle.mixture.specs.steps.Refills.{staleCell, Ranged, Solved, Answered}
 use Rattle.mixture.proofs.ListLaws.{written-same, howMany-same}
 use Rattle.mixture.proofs.history.RangeLaws.{first-is}
-use Rattle.mixture.proofs.CallLaws.{refused, done, Passed, head-passed}
+use Rattle.mixture.proofs.CallLaws.{refused, done, Passed, ready-passed}
 use Rattle.mixture.proofs.RefillLaws.{among, among-in}
 
--- ---- what a query declines
+-- ---- a query that passes
 
-module _ (m : Memory) (h : Head) (q : Quantity) where
-  pub query-head : {k : ℕ} → k ≡ headFault m h → (k ≡ 0 → ⊥) → k ≡ queryFault m h q
-  unfolding queryFault
-  query-head {k} e n = rw (← e, ne-eqb k 0 n)
-
-  module _ {k : ℕ} (e : k ≡ headFault m h) (z : k ≡ 0) where
-    pub query-no-t : h .«has_t» ≡ false → 9 ≡ queryFault m h q
-    unfolding queryFault
-    query-no-t t = rw (← e, z, t)
-
-    pub query-no-x : h .«has_t» ≡ true → h .«has_x» ≡ false → 9 ≡ queryFault m h q
-    unfolding queryFault
-    query-no-x t x = rw (← e, z, t, x)
-
-    pub query-index : {r : ℕ} → h .«has_t» ≡ true → h .«has_x» ≡ true → r ≡ indexFault (h .n) q → r ≡ queryFault m h q
-    unfolding queryFault
-    query-index t x i = rw (← e, z, t, x) i
-
-  -- ---- a query that passes
-
-  pub query-passed : queryFault m h q ≡ 0 → Passed m h × (indexFault (h .n) q ≡ 0)
-  unfolding queryFault
-  query-passed e =
-      let f = first-is (headFault m h) _ e in
-      let t = first-is (cond (h .«has_t») 0 9) _ (f .1) in
-      let x = first-is (cond (h .«has_x») 0 9) _ (t .1) in
-      (head-passed m h (f .0), x .1)
+pub query-passed : (m : Memory) (h : Head) (q : Quantity) → queryFault m h q ≡ 0 → Passed m h × (indexFault (h .n) q ≡ 0)
+unfolding queryFault
+query-passed m h q e = let f = first-is (readyFault m h) _ e in (ready-passed m h (f .0), f .1)
 
 pub head-ranged : (m : Memory) (h : Head) → Passed m h → modelOf (h .model) ≡ Unifac → Ranged (h .n) (h .ng) (h .lens) (h .groups)
 head-ranged m h p e =
