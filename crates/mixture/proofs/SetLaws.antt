@@ -31,7 +31,7 @@ use Rattle.mixture.specs.Faults.{below, hasEntry, hasTdEntry, hasSize, h
 use Rattle.mixture.specs.Memory.{Memory, memory, leastValues, leastMarks, After, after}
 use Rattle.mixture.specs.Layout.{dataIn, place, numbers, cellAt}
 use Rattle.mixture.specs.Calls.{headWith, stales, stalesAt, setMemory, setHead, afterSetting}
-use Rattle.mixture.specs.steps.Blocks.{inBlock, block, blockOf, headOnly, Settable}
+use Rattle.mixture.specs.steps.Blocks.{inBlock, BlockFits, block, entryBlock, blockOf, headOnly, Settable}
 use Rattle.mixture.proofs.ListLaws.{never, written-same}
 use Rattle.mixture.proofs.PlaceLaws.{below-is, had, fiveOf, store-in}
 use Rattle.mixture.proofs.history.RangeLaws.{first-is, bounds}
@@ -302,20 +302,19 @@ module _ (h : Head) {model : Model} (e : model ≡ modelOf (h .model)) {w : ℕ}
     stale-is s ok l {b} {r} q t = t ∙ rw q (written-same _ _ (λ c. 0) l (block-stales s ok))
 
   -- what making a block stale asks for
-  pub fits-by : (s : Setting) → Settable h s → {b : Block} {lm : ℕ} → b ≡ blockOf model w s → 1024 ≤ lm
-      → (1 ≤ w) × (w ≤ 32) × (b .top + b .rows ≤ w) × (b .left + b .columns ≤ w) × (w * w ≤ lm)
+  pub fits-by : (s : Setting) → Settable h s → {b : Block} {lm : ℕ} → b ≡ blockOf model w s → 1024 ≤ lm → BlockFits w b lm
   fits-by s ok q long =
       let v = width-in h ok e f in
       let z = block-fits s ok in
       let square : w * w ≤ 1024 = mul-le-mul (v .1) (v .1) in
-      (v .0, v .1, rw q (z .0), rw q (z .1), omega arith)
+      record { some = v .0; few = v .1; rows = rw q (z .0); columns = rw q (z .1); marked = omega arith }
 
 module _ (model : Model) (w i j : ℕ) where
   pub row-entry : {l k : ℕ} → i ≡ j → l ≡ byModel model 0 0 j j → k ≡ byModel model w w 1 1
-      → block i 1 l k ≡ cond (eqb i j) (block i 1 (byModel model 0 0 j j) (byModel model w w 1 1)) (block i 1 j 1)
+      → block i 1 l k ≡ entryBlock model w i j
   row-entry e f g = rw (eq-eqb i j e, f, g)
 
-  pub cell-entry : (i ≡ j → ⊥) → block i 1 j 1 ≡ cond (eqb i j) (block i 1 (byModel model 0 0 j j) (byModel model w w 1 1)) (block i 1 j 1)
+  pub cell-entry : (i ≡ j → ⊥) → block i 1 j 1 ≡ entryBlock model w i j
   cell-entry n = rw (ne-eqb i j n)
 
 -- ---- numbers in turn

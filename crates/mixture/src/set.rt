@@ -10,14 +10,13 @@ ghost use Rattle.arithmetic.specs.Floats.{+0};
 ghost use Rattle.models.specs.Limits.{mostComponents, mostGroups, mostListed, mostPlaces};
 ghost use Rattle.models.specs.Values.{countsAt, start};
 ghost use Rattle.mixture.specs.declared.answers.Answer.the-variants.{Refused, Done};
-ghost use Rattle.mixture.specs.Lists.{written};
 ghost use Rattle.mixture.specs.Holdings.{held};
 ghost use Rattle.models.specs.Model.{byModel};
 ghost use Rattle.mixture.specs.Faults.{below, caseFault, settingFault};
 ghost use Rattle.mixture.specs.Memory.{Memory, OfLengths, after, before, later, left, leastMarks};
 ghost use Rattle.mixture.specs.Layout.{dataIn, numbers, place};
 ghost use Rattle.mixture.specs.Calls.{stalesAt, setHead, afterSetting};
-ghost use Rattle.mixture.specs.steps.Blocks.{headOnly, Settable, block, blockOf};
+ghost use Rattle.mixture.specs.steps.Blocks.{Staled, entryBlock, blockOf, headOnly, Settable};
 use crate::answers::Answer;
 use crate::answers::Reply;
 use crate::faults::setting_fault;
@@ -111,7 +110,7 @@ fn put(values: &mut [f64], at: usize, s: Setting)
 
 // The block of the cells that an entry is an input of: its own, and row i's for an energy a_ii.
 fn entry_block(model: Model, w: usize, i: usize, j: usize) -> Block
-    ensures { λ r. ⌜ r ≡ cond (eqb i j) (block i 1 (byModel model 0 0 j j) (byModel model w w 1 1)) (block i 1 j 1) ⌝ }
+    ensures { λ r. ⌜ r ≡ entryBlock model w i j ⌝ }
 {
     if i == j {
         let left = by_model(model, 0, 0, j, j);
@@ -167,7 +166,7 @@ fn block_of(model: Model, w: usize, s: Setting) -> Block
 // Writes 0 to the marks of the cells that a setting makes stale.
 fn stale_by(marks: &mut [u8], head: Head, s: Setting)
     requires { ⌜ (Settable head s) × (leastMarks ≤ length (now marks)) ⌝ }
-    ensures { λ _. ⌜ now (marks .exit) ≡ written (stalesAt (held (headOnly head)) s) (λ c. 0) (now (marks .entry)) ⌝ }
+    ensures { λ _. ⌜ Staled (stalesAt (held (headOnly head)) s) marks ⌝ }
 {
     let model = model_of(head.model);
     let w = by_model(model, head.n, head.n, head.n, head.ng);

@@ -1,12 +1,9 @@
 // Marks made stale: a block of rows and columns, off the diagonal where that has no cells.
 ghost use mathlib.Core.Path.{_≡_};
-ghost use mathlib.Core.Bool.{not, _&&_, cond};
-ghost use Prim.Native.Nat.{_+_, _*_, _≤_};
-ghost use lib.Dec.{leb, ltb, eqb};
+ghost use mathlib.Core.Bool.{cond};
+ghost use Prim.Native.Nat.{_+_, _≤_};
 ghost use lib.ListN.{length};
-ghost use Rattle.models.specs.Limits.{mostGroups};
-ghost use Rattle.mixture.specs.Lists.{written};
-ghost use Rattle.mixture.specs.steps.Blocks.{inBlock};
+ghost use Rattle.mixture.specs.steps.Blocks.{Staled, inRow, inBlock, BlockFits};
 
 // So many rows from top on, and so many columns from left on.
 pub struct Block {
@@ -19,7 +16,7 @@ pub struct Block {
 // Writes 0 from left to below right of the row that begins at start, except at skip.
 fn stale_row(marks: &mut [u8], start: usize, left: usize, right: usize, skip: usize)
     requires { ⌜ (left ≤ right) × (start + right ≤ length (now marks)) ⌝ }
-    ensures { λ _. ⌜ now (marks .exit) ≡ written (λ c. leb (start + left) c && ltb c (start + right) && not (eqb c (start + skip))) (λ c. 0) (now (marks .entry)) ⌝ }
+    ensures { λ _. ⌜ Staled (inRow start left right skip) marks ⌝ }
 {
     for j in left..right {
         if j != skip {
@@ -40,8 +37,8 @@ fn skipped(w: usize, diagonal: bool, i: usize) -> usize
 
 // Writes 0 to the marks of the block's cells in rows of w, those of the diagonal only where it has cells.
 pub fn stale(marks: &mut [u8], w: usize, diagonal: bool, block: Block)
-    requires { ⌜ (1 ≤ w) × (w ≤ mostGroups) × (block .top + block .rows ≤ w) × (block .left + block .columns ≤ w) × (w * w ≤ length (now marks)) ⌝ }
-    ensures { λ _. ⌜ now (marks .exit) ≡ written (inBlock w diagonal block) (λ c. 0) (now (marks .entry)) ⌝ }
+    requires { ⌜ BlockFits w block (length (now marks)) ⌝ }
+    ensures { λ _. ⌜ Staled (inBlock w diagonal block) marks ⌝ }
 {
     let bottom = block.top + block.rows;
     let left = block.left;

@@ -13,14 +13,11 @@ use Rattle.arithmetic.proofs.Tests.{le-or}
 use Rattle.arithmetic.proofs.TableLaws.{by-place, row-end}
 use Rattle.mixture.specs.declared.stale.Block.{Block}
 use Rattle.mixture.specs.Lists.{written}
-use Rattle.mixture.specs.steps.Blocks.{inBlock}
+use Rattle.mixture.specs.steps.Blocks.{inRow, inBlock}
 use Rattle.mixture.proofs.ListLaws.{written-same, written-none, written-set, written-both}
 use Rattle.mixture.proofs.PlaceLaws.{eq-cases}
 
 -- ---- a row
-
-abbrev pub inRow : ℕ → ℕ → ℕ → ℕ → ℕ → Bool
-inRow start left right skip c = leb (start + left) c && ltb c (start + right) && not (eqb c (start + skip))
 
 module _ (start left j skip : ℕ) where
   row-out : (c : ℕ) → (eqb c (start + j) ≡ false) → (ltb c (start + (j + 1)) ≡ ltb c (start + j)) → inRow start left (j + 1) skip c ≡ (inRow start left j skip c || eqb c (start + j))

@@ -14,7 +14,7 @@ stale-requires : tie.Need-stale-requires
 stale-requires c κs =
     let top = c .before .before in
     let w = wide top in
-    (w .0, w .1, omega arith, omega arith, omega (arith, mul-le-mul (w .1) (w .1), top .before .before .pre))
+    record { some = w .0; few = w .1; rows = omega arith; columns = omega arith; marked = omega (arith, mul-le-mul (w .1) (w .1), top .before .before .pre) }
 
 returns : tie.Need-returns
 returns c d so =

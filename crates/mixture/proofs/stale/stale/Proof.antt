@@ -21,7 +21,7 @@ entry c = c .before .before .before .before .before
 
 -- row i ends within the marks
 room : (c : tie.In-loop Inv-loop μ-loop) → let w = entry c .args .w in (c .before .loop .i * w + w ≤ w * w) × (w * w ≤ length (c .before .loop .marks))
-room c = (row-end (entry c .args .w) (entry c .args .w) (c .before .loop .i) (omega arith), omega (arith, length-as _ _ _ (c .before .loop .inv .2), entry c .pre .4))
+room c = (row-end (entry c .args .w) (entry c .args .w) (c .before .loop .i) (omega arith), omega (arith, length-as _ _ _ (c .before .loop .inv .2), entry c .pre .marked))
 
 loop-holds : tie.Need-loop-holds Inv-loop μ-loop
 loop-holds c =
@@ -36,7 +36,7 @@ loop-again c =
     let b = s .args .block in (
       omega arith,
       omega arith,
-      stale-turn (s .args .w) (s .args .diagonal) (b .top) (b .left) (b .left + b .columns) (l .i) (s .pre .0) (s .pre .3) (l .inv .0) _ _ _ (c .before .before .before .before .skipped .ensures) (l .inv .2) (c .before .before .stale-row .ensures),
+      stale-turn (s .args .w) (s .args .diagonal) (b .top) (b .left) (b .left + b .columns) (l .i) (s .pre .some) (s .pre .columns) (l .inv .0) _ _ _ (c .before .before .before .before .skipped .ensures) (l .inv .2) (c .before .before .stale-row .ensures),
     )
 
 returns : tie.Need-returns Inv-loop μ-loop

@@ -4,8 +4,9 @@ use mathlib.Core.Logic.{⊎-elim}
 use Prim.Native.Nat.{_-_, _≤_}
 use native.Mathlib.Omega.{arith}
 use Rattle.mixture.specs.Lists.{written}
+use Rattle.mixture.specs.steps.Blocks.{inRow}
 use Rattle.mixture.proofs.ListLaws.{length-as, written-none}
-use Rattle.mixture.proofs.stale.StaleLaws.{inRow, row-write, row-keep, row-none}
+use Rattle.mixture.proofs.stale.StaleLaws.{row-write, row-keep, row-none}
 use Rattle.mixture.proofs.stale.stale_row.Statement.{statement}
 use Rattle.mixture.proofs.stale.stale_row.Tie as tie
 
