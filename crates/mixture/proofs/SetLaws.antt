@@ -21,17 +21,18 @@ use Rattle.models.specs.declared.model.Model.the-variants.{Wilson, Uniquac, Nrt
 use Rattle.mixture.specs.declared.setting.Setting.{Setting}
 use Rattle.mixture.specs.declared.setting.Setting.the-variants.{Temperature, Entry, TdEntry, Size, Count}
 use Rattle.mixture.specs.declared.answers.Answer.{Answer}
-use Rattle.mixture.specs.declared.answers.Answer.the-variants.{Done, Refused}
+use Rattle.mixture.specs.declared.answers.Reply.{Reply}
+use Rattle.mixture.specs.declared.answers.Answer.the-variants.{Done}
 use Rattle.mixture.specs.declared.stale.Block.{Block}
 use Rattle.mixture.specs.Lists.{written}
 use Rattle.mixture.specs.Holdings.{Held, held}
 use Rattle.mixture.specs.Cells.{width, isCell}
 use Rattle.models.specs.Model.{byModel, modelOf}
 use Rattle.mixture.specs.Faults.{below, hasEntry, hasTdEntry, hasSize, hasCount, caseFault, inRange, headFault, settingFault}
-use Rattle.mixture.specs.Memory.{Memory, memory, leastValues, leastMarks, After, after}
+use Rattle.mixture.specs.Memory.{Memory, memory, leastValues, leastMarks, After, after, left}
 use Rattle.mixture.specs.Layout.{dataIn, place, numbers, cellAt}
 use Rattle.mixture.specs.Calls.{headWith, stales, stalesAt, setMemory, setHead, afterSetting}
-use Rattle.mixture.specs.steps.Blocks.{inBlock, BlockFits, block, entryBlock, blockOf, headOnly, Settable}
+use Rattle.mixture.specs.steps.Blocks.{inBlock, BlockFits, block, entryBlock, blockOf, headOnly, Settable, CountFits, setReply}
 use Rattle.mixture.proofs.ListLaws.{never, written-same}
 use Rattle.mixture.proofs.PlaceLaws.{below-is, had, fiveOf, store-in}
 use Rattle.mixture.proofs.history.RangeLaws.{first-is, bounds}
@@ -193,12 +194,17 @@ module _ (h : Head) {s : Setting} (ok : Settable h s) {i j : ℕ} {v : Float} (g
   unfolding caseFault hasCount lists
   has-count = unifac-alone (modelOf (h .model)) _ (had (hasCount (held (headOnly h)) i j) _ (rw g at (ok .case)))
 
-  pub count-within : (h .ng ≤ 32) × (i ≤ 12) × (j ≤ 12) × (start (h .lens) i ≤ 144)
+  pub count-within : CountFits (h .lens) (h .ng) i j
   count-within =
       let r = bounds (headOnly h) (ok .range) in
       let l = r .lists (has-count .0) in
       let b = below-is i (h .n) j (getD (h .lens) i 0) (has-count .1) in
-      (l .few, omega (arith, r .few), omega (arith, l .short i (b .0)), omega (arith, l .places, start-up (h .lens) i (h .n) (omega arith)))
+      record {
+        groups = l .few;
+        component = omega (arith, r .few);
+        listed = omega (arith, l .short i (b .0));
+        before = omega (arith, l .places, start-up (h .lens) i (h .n) (omega arith));
+      }
 
   pub count-place : {r : ℕ} → r ≡ countsAt (h .ng) + (start (h .lens) i + j) → r ≡ place (headOnly h) s
   unfolding place
@@ -373,7 +379,7 @@ set-done m h s {a} {v} {k} {g} e p q r t =
 -- ---- the reply
 
 module _ (m : Memory) (h : Head) (s : Setting) where
-  pub set-refused : {k : ℕ} → k ≡ settingFault m h s → (k ≡ 0 → ⊥) → after m (cond (eqb k 0) (setHead h s) h) (cond (eqb k 0) Done (Refused k)) ≡ afterSetting m h s
+  pub set-refused : {k : ℕ} → k ≡ settingFault m h s → (k ≡ 0 → ⊥) → left m (setReply k h s) ≡ afterSetting m h s
   unfolding afterSetting
   set-refused {k} e n = rw (ne-eqb k 0 n) (refused m h _ e n)
 
@@ -386,5 +392,9 @@ head-changed h s k p q = rw (p, q) (go (eqb k 0))
     go true = refl
     go false = refl
 
-pub replied : {m : Memory} {g h : Head} {a b : Answer} {z : After} → g ≡ h → a ≡ b → after m h b ≡ z → after m g a ≡ z
-replied {m} p q r = rw (p, q) r
+pub reply-is : (h : Head) (s : Setting) (k : ℕ) {g : Head} {a : Answer} → g ≡ setReply k h s .head → a ≡ setReply k h s .answer
+    → _≡_ {A = Reply} (record { head = g; answer = a }) (setReply k h s)
+reply-is h s k p q = rw (p, q)
+
+pub replied : {m : Memory} {r q : Reply} {z : After} → r ≡ q → left m q ≡ z → left m r ≡ z
+replied p e = rw p e

@@ -2,7 +2,7 @@
 use mathlib.Core.Bool.{Bool, true, false, not, _&&_, _||_, cond}
 use mathlib.Core.List.{List, [], _++_}
 use Prim.Native.Nat.{ℕ, _*_, _/_, _%_}
-use lib.Dec.{leb, ltb, eqb}
+use lib.Dec.{eqb}
 use lib.ListN.{length, getD, drop, replicate}
 use lib.Seq.{sets}
 use lib.Ieee.{Float}
@@ -36,20 +36,24 @@ outcome k m h a = cond (eqb k 0) a (after m h (Refused k))
 
 -- ---- open
 
--- a head with T and fractions unset, and 0 in its unset and unused fields
-abbrev pub freshHead : ℕ → ℕ → ℕ → List ℕ → List ℕ → Head
-freshHead model n ng lens groups =
+-- a head with T and fractions unset, and 0 in these fields
+abbrev pub unsetHead : ℕ → ℕ → ℕ → List ℕ → List ℕ → Head
+unsetHead model n ng lens groups =
     record {
       model = model;
       n = n;
       ng = ng;
-      lens = padded mostComponents 0 lens;
-      groups = padded mostPlaces 0 groups;
+      lens = lens;
+      groups = groups;
       t = +0;
       x = replicate mostComponents +0;
       «has_t» = false;
       «has_x» = false;
     }
+
+-- with lists as a load brings them, and 0 in the places past them
+abbrev pub freshHead : ℕ → ℕ → ℕ → List ℕ → List ℕ → Head
+freshHead model n ng lens groups = unsetHead model n ng (padded mostComponents 0 lens) (padded mostPlaces 0 groups)
 
 -- the head without a model
 abbrev pub noHead : Head

@@ -11,7 +11,8 @@ use crate::head::pad_fractions;
 
 // Keeps the fractions, with 0 in the places past n.
 pub fn fractions(values: &[f64], cells: &[f64], marks: &[u8], head: Head, x: &[f64]) -> Reply
-    ensures { λ r. ⌜ left (before values cells marks) r ≡ afterFractions (before values cells marks) head (now (x .entry)) ⌝ }
+    ensures { λ r. ⌜ left (before values cells marks) r
+        ≡ afterFractions (before values cells marks) head (now (x .entry)) ⌝ }
 {
     let fault = fractions_fault(values.len(), cells.len(), marks.len(), head, x);
     if fault != 0 {

@@ -1,13 +1,12 @@
 // The head, which goes in and comes back by value.
 ghost use mathlib.Core.Path.{_≡_};
-ghost use mathlib.Core.Bool.{false};
 ghost use mathlib.Core.List.{[], _++_};
 ghost use Prim.Native.Nat.{_≤_};
-ghost use lib.ListN.{length, drop, replicate};
+ghost use lib.ListN.{length, drop};
 ghost use Rattle.arithmetic.specs.Floats.{+0};
 ghost use Rattle.models.specs.Limits.{mostComponents, mostPlaces};
 ghost use Rattle.mixture.specs.Lists.{padded};
-ghost use Rattle.mixture.specs.Calls.{freshHead, noHead, headWith};
+ghost use Rattle.mixture.specs.Calls.{unsetHead, freshHead, noHead, headWith};
 use models::limits::COMPONENTS;
 use models::limits::PLACES;
 
@@ -48,7 +47,7 @@ pub fn pad_fractions(s: &[f64]) -> [f64; COMPONENTS]
 
 // A head with T and fractions unset.
 fn unset_head(model: u8, n: usize, ng: usize, lens: [u8; COMPONENTS], groups: [u8; PLACES]) -> Head
-    ensures { λ r. ⌜ r ≡ record { model = model; n = n; ng = ng; lens = lens; groups = groups; t = +0; x = replicate mostComponents +0; «has_t» = false; «has_x» = false } ⌝ }
+    ensures { λ r. ⌜ r ≡ unsetHead model n ng lens groups ⌝ }
 {
     Head {
         model: model,

@@ -3,20 +3,19 @@ ghost use mathlib.Core.Path.{_≡_};
 ghost use mathlib.Core.Bool.{cond};
 ghost use Prim.Native.Nat.{_+_, _*_, _<_, _≤_};
 ghost use lib.Dec.{eqb};
-ghost use lib.ListN.{length, getD};
+ghost use lib.ListN.{length};
 ghost use lib.Seq.{sets};
-ghost use lib.Ieee.{lt};
-ghost use Rattle.arithmetic.specs.Floats.{+0};
-ghost use Rattle.models.specs.Limits.{mostComponents, mostGroups, mostListed, mostPlaces};
+ghost use Rattle.models.specs.Limits.{mostGroups};
 ghost use Rattle.models.specs.Values.{countsAt, start};
-ghost use Rattle.mixture.specs.declared.answers.Answer.the-variants.{Refused, Done};
+ghost use Rattle.mixture.specs.declared.answers.Answer.the-variants.{Done};
+ghost use Rattle.mixture.specs.Answers.{unless};
 ghost use Rattle.mixture.specs.Holdings.{held};
 ghost use Rattle.models.specs.Model.{byModel};
-ghost use Rattle.mixture.specs.Faults.{below, caseFault, settingFault};
-ghost use Rattle.mixture.specs.Memory.{Memory, OfLengths, after, before, later, left, leastMarks};
-ghost use Rattle.mixture.specs.Layout.{dataIn, numbers, place};
+ghost use Rattle.mixture.specs.Memory.{before, later, left, leastMarks};
+ghost use Rattle.mixture.specs.Layout.{numbers, place};
 ghost use Rattle.mixture.specs.Calls.{stalesAt, setHead, afterSetting};
-ghost use Rattle.mixture.specs.steps.Blocks.{Staled, entryBlock, blockOf, headOnly, Settable};
+ghost use Rattle.mixture.specs.steps.Blocks.{Staled, entryBlock, blockOf};
+ghost use Rattle.mixture.specs.steps.Blocks.{headOnly, Settable, CountFits, setReply};
 use crate::answers::Answer;
 use crate::answers::Reply;
 use crate::faults::setting_fault;
@@ -56,7 +55,7 @@ fn size_at(model: Model, w: usize, i: usize, which: usize) -> usize
 
 // Where the count of component i at list place j stands.
 fn count_at(lens: [u8; COMPONENTS], ng: usize, i: usize, j: usize) -> usize
-    requires { ⌜ (ng ≤ mostGroups) × (i ≤ mostComponents) × (j ≤ mostListed) × (start lens i ≤ mostPlaces) ⌝ }
+    requires { ⌜ CountFits lens ng i j ⌝ }
     ensures { λ r. ⌜ r ≡ countsAt ng + (start lens i + j) ⌝ }
 {
     let before = models::groups::start_of(&lens[..], i);
@@ -209,7 +208,7 @@ fn has_t_after(head: Head, fault: u8, s: Setting) -> bool
 
 // The answer: done, or the number of what it was declined for.
 fn answer_by(fault: u8) -> Answer
-    ensures { λ r. ⌜ r ≡ cond (eqb fault 0) Done (Refused fault) ⌝ }
+    ensures { λ r. ⌜ r ≡ unless fault Done ⌝ }
 {
     if fault != 0 {
         return Answer::Refused(fault);
@@ -217,9 +216,11 @@ fn answer_by(fault: u8) -> Answer
     Answer::Done
 }
 
-// What a setting does to values and marks; 0, or the number of what it is declined for, in which case it does nothing.
+// What a setting does to values and marks; 0, or the number of what it is declined for, in which case it does
+// nothing.
 fn change(values: &mut [f64], cells: &[f64], marks: &mut [u8], head: Head, s: Setting) -> u8
-    ensures { λ r. ⌜ after (later values cells marks) (cond (eqb r 0) (setHead head s) head) (cond (eqb r 0) Done (Refused r)) ≡ afterSetting (before values cells marks) head s ⌝ }
+    ensures { λ r. ⌜ left (later values cells marks) (setReply r head s)
+        ≡ afterSetting (before values cells marks) head s ⌝ }
 {
     let fault = setting_fault(values.len(), cells.len(), marks.len(), head, s);
     if fault != 0 {
@@ -233,7 +234,7 @@ fn change(values: &mut [f64], cells: &[f64], marks: &mut [u8], head: Head, s: Se
 
 // The reply to a setting: the head with its T where that was set, and what it was declined for.
 fn reply_by(head: Head, fault: u8, s: Setting) -> Reply
-    ensures { λ r. ⌜ (r .head ≡ cond (eqb fault 0) (setHead head s) head) × (r .answer ≡ cond (eqb fault 0) Done (Refused fault)) ⌝ }
+    ensures { λ r. ⌜ r ≡ setReply fault head s ⌝ }
 {
     let mut after = head;
     after.t = t_after(head, fault, s);
@@ -244,8 +245,8 @@ fn reply_by(head: Head, fault: u8, s: Setting) -> Reply
     }
 }
 
-// Replaces what the setting names and makes the cells that it is an input of stale. Both branches are the same on purpose, and
-// `change` is handed a copy of the head, as in `query`.
+// Replaces what the setting names and makes the cells that it is an input of stale. Both branches are the
+// same on purpose, and `change` is handed a copy of the head, as in `query`.
 pub fn set(values: &mut [f64], cells: &[f64], marks: &mut [u8], head: Head, s: Setting) -> Reply
     ensures { λ r. ⌜ left (later values cells marks) r ≡ afterSetting (before values cells marks) head s ⌝ }
 {

@@ -1,5 +1,5 @@
--- What the inner functions of a load and a setting say of places: the head read alone, and cells by a block of rows and
--- columns. No call's own contract speaks of it.
+-- What the inner functions of a load and a setting say: the head read alone, cells by a block of rows and columns, and a
+-- setting's reply by its number. No call's own contract speaks of it.
 use mathlib.Core.Path.{_≡_}
 use mathlib.Core.Bool.{Bool, true, not, _&&_, _||_, cond}
 use mathlib.Core.List.{List, []}
@@ -7,18 +7,23 @@ use Prim.Native.Nat.{ℕ, _+_, _*_, _/_, _%_, _≤_}
 use lib.Dec.{leb, ltb, eqb}
 use denote.Ref.{RefT, now}
 use denote.Triple.Both.{Both}
-use Rattle.models.specs.Limits.{mostGroups}
+use Rattle.models.specs.Limits.{mostComponents, mostGroups, mostListed, mostPlaces}
+use Rattle.models.specs.Values.{start}
 use Rattle.mixture.specs.declared.head.Head.{Head}
 use Rattle.models.specs.declared.model.Model.{Model}
 use Rattle.mixture.specs.declared.setting.Setting.{Setting}
 use Rattle.mixture.specs.declared.setting.Setting.the-variants.{Temperature, Entry, TdEntry, Size, Count}
 use Rattle.mixture.specs.declared.stale.Block.{Block}
+use Rattle.mixture.specs.declared.answers.Reply.{Reply}
+use Rattle.mixture.specs.declared.answers.Answer.the-variants.{Done}
 use Rattle.mixture.specs.Lists.{written}
 use Rattle.mixture.specs.Holdings.{held}
 use Rattle.models.specs.Model.{ModelData, byModel}
 use Rattle.mixture.specs.Faults.{caseFault, inRange}
 use Rattle.mixture.specs.Memory.{memory}
 use Rattle.mixture.specs.Layout.{dataIn}
+use Rattle.mixture.specs.Answers.{unless}
+use Rattle.mixture.specs.Calls.{setHead}
 
 -- of the marks those that pass are made 0
 abbrev pub Staled : (ℕ → Bool) → Both (RefT (List ℕ)) (RefT (List ℕ)) → Type 0
@@ -65,3 +70,14 @@ headOnly h = dataIn (memory [] [] []) h
 pub record Settable (h : Head) (s : Setting) : Type 0 where
   pub range : inRange (headOnly h) ≡ true
   pub case : caseFault (held (headOnly h)) s ≡ 0
+
+-- a count's indices, and the lists before its own, are within the limits
+pub record CountFits (lens : List ℕ) (ng i j : ℕ) : Type 0 where
+  pub groups : ng ≤ mostGroups
+  pub component : i ≤ mostComponents
+  pub listed : j ≤ mostListed
+  pub before : start lens i ≤ mostPlaces
+
+-- the reply to a setting, by the number of what it is declined for
+abbrev pub setReply : ℕ → Head → Setting → Reply
+setReply k h s = record { head = cond (eqb k 0) (setHead h s) h; answer = unless k Done }

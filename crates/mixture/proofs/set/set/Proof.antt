@@ -5,10 +5,10 @@ use Rattle.mixture.proofs.set.set.Statement.{statement}
 use Rattle.mixture.proofs.set.set.Tie as tie
 
 returns : tie.Need-returns
-returns c = replied (c .reply-by .ensures .0) (c .reply-by .ensures .1) (c .before .before .before .before .before .change .ensures)
+returns c = replied (c .reply-by .ensures) (c .before .before .before .before .before .change .ensures)
 
 returns-2 : tie.Need-returns-2
-returns-2 c = replied (c .reply-by2 .ensures .0) (c .reply-by2 .ensures .1) (c .before .before .before .before .before .change2 .ensures)
+returns-2 c = replied (c .reply-by2 .ensures) (c .before .before .before .before .before .change2 .ensures)
 
 pub set-spec : {M : Type 1} → statement M
 set-spec =
