@@ -326,7 +326,7 @@ fn fill_table(
 // Puts the last row of a table by rows of w, but for its own diagonal, on the diagonal of the rows above it.
 fn lay_last(a: &mut [f64], w: usize)
     requires { ⌜ (1 ≤ w) × (w ≤ mostGroups) × (w * w ≤ length (now a)) ⌝ }
-    ensures { λ _. ⌜ Laid w (w - 1) (now (a .entry)) (now (a .exit)) ⌝ }
+    ensures { λ _. ⌜ Laid w (now (a .entry)) (now (a .exit)) ⌝ }
 {
     let last = (w - 1) * w;
     for i in 0..w - 1 {
@@ -337,7 +337,7 @@ fn lay_last(a: &mut [f64], w: usize)
 // Takes it back from there.
 fn lift_last(a: &mut [f64], w: usize)
     requires { ⌜ (1 ≤ w) × (w ≤ mostGroups) × (w * w ≤ length (now a)) ⌝ }
-    ensures { λ _. ⌜ Lifted w (w - 1) (now (a .entry)) (now (a .exit)) ⌝ }
+    ensures { λ _. ⌜ Lifted w (now (a .entry)) (now (a .exit)) ⌝ }
 {
     let last = (w - 1) * w;
     for i in 0..w - 1 {

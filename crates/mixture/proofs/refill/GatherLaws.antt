@@ -5,7 +5,7 @@ use mathlib.Core.Bool.{Bool, true, false}
 use mathlib.Core.List.{List, _++_}
 use mathlib.Core.Logic.{inl, inr}
 use Prim.Native.Nat.{ℕ, zero, suc, _+_, _*_, _-_, _/_, _%_, _<_, _≤_}
-use native.Mathlib.Nat.{le-antisymm, ne-of-lt, ne-of-gt, div-add-mod', mod-lt, div-lt-iff-lt-mul}
+use native.Mathlib.Nat.{le-antisymm, mul-le-mul, ne-of-lt, div-add-mod', mod-lt, div-lt-iff-lt-mul}
 use native.Mathlib.Omega.{arith}
 use borrow.Author.Tests.{eq-eqb}
 use lib.ListN.{length, getD, set, take, length-set}
@@ -25,7 +25,7 @@ use Rattle.models.specs.declared.model.Model.{Model}
 use Rattle.models.specs.declared.model.Model.the-variants.{Wilson, Uniquac, Nrtl, Unifac}
 use Rattle.models.specs.Model.{byModel}
 use Rattle.mixture.specs.Lists.{howMany}
-use Rattle.mixture.specs.steps.Refills.{rowCell, rowArgument, staleCell, Refilled, Gathered, Laid, Lifted, OffDiagonalTaken}
+use Rattle.mixture.specs.steps.Refills.{rowCell, rowArgument, staleCell, Refilled, Gathered, Moved, Laid, Lifted, OffDiagonalTaken}
 use Rattle.mixture.proofs.ListLaws.{never, written-as, howMany-le}
 use Rattle.mixture.proofs.refill.FreshLaws.{many-none, many-more, many-skip, many-all, all-of}
 use Rattle.mixture.proofs.RefillLaws.{among, among-in, among-below}
@@ -55,44 +55,51 @@ same-row w i j k l a b e = sym (cell-row w i j a) ∙ (ap (λ (c : ℕ). c / w) 
 same-column : (w i j k l : ℕ) → j < w → l < w → i * w + j ≡ k * w + l → j ≡ l
 same-column w i j k l a b e = sym (cell-column w i j a) ∙ (ap (λ (c : ℕ). c % w) e ∙ cell-column w k l b)
 
--- the last row, entry by entry, on the diagonal
-pub laid-none : (w : ℕ) (l : List Float) → Laid w 0 l l
-laid-none w l = record { laid = λ i h. absurd (omega arith); kept = λ i j a b ne. refl }
+-- entries moved one by one, none of them to a place that another has taken or is still to give
+pub moved-none : (place source : ℕ → ℕ) (l : List Float) → Moved place source 0 l l
+moved-none place source l = record { moved = λ i h. absurd (omega arith); kept = λ c free. refl }
 
-pub laid-more : (w k : ℕ) (l : List Float) {m : List Float} → k < w - 1 → length m ≡ length l → w * w ≤ length l → Laid w k l m → Laid w (k + 1) l (set m (k * w + k) (grid w m (w - 1) k))
-laid-more w k l {m} h e g so = record {
-  laid = λ i b.
+pub moved-more : (place source : ℕ → ℕ) (k : ℕ) {l m : List Float} → Moved place source k l m → place k < length m
+    → ((i : ℕ) → i < k → place i ≡ place k → ⊥) → ((i : ℕ) → i < k → source k ≡ place i → ⊥)
+    → Moved place source (k + 1) l (set m (place k) (at m (source k)))
+moved-more place source k {l} {m} so h apart clear = record {
+  moved = λ i b.
       by-place i k
-      (λ c. getD-set-other m (k * w + k) (i * w + i) (grid w m (w - 1) k) nan (λ q. ne-of-lt c (same-row w i i k k (omega arith) (omega arith) q)) ∙ so .laid i c)
-      (λ q. rw (← q) (getD-set-same m (k * w + k) (grid w m (w - 1) k) nan (omega (arith, cell-lt w w k k (omega arith) (omega arith))) ∙ old))
+      (λ c. getD-set-other m (place k) (place i) (at m (source k)) nan (apart i c) ∙ so .moved i c)
+      (λ q. rw (← q) (getD-set-same m (place k) (at m (source k)) nan h ∙ so .kept (source k) clear))
       (λ c. absurd (omega arith));
-  kept = λ i j a b ne.
-      getD-set-other m (k * w + k) (i * w + j) (grid w m (w - 1) k) nan
-      (λ q. ne (same-row w i j k k b (omega arith) q ∙ sym (same-column w i j k k b (omega arith) q)))
-      ∙ so .kept i j a b ne;
+  kept = λ c free.
+      getD-set-other m (place k) c (at m (source k)) nan (free k (omega arith)) ∙ so .kept c (λ i b. free i (omega arith));
 }
-  where
-    old : grid w m (w - 1) k ≡ grid w l (w - 1) k
-    old = so .kept (w - 1) k (omega arith) (omega arith) (ne-of-gt h)
 
--- and back
-pub lifted-none : (w : ℕ) (l : List Float) → Lifted w 0 l l
-lifted-none w l = record { lifted = λ j h. absurd (omega arith); kept = λ c h. refl }
+pub moved-done : {place source : ℕ → ℕ} {i k : ℕ} {l m : List Float} → i ≤ k → k ≤ i → Moved place source i l m → Moved place source k l m
+moved-done {place} {source} {l = l} {m} a b so = subst (λ (n : ℕ). Moved place source n l m) (le-antisymm a b) so
 
-pub lifted-more : (w k : ℕ) (l : List Float) {m : List Float} → k < w - 1 → length m ≡ length l → w * w ≤ length l → Lifted w k l m → Lifted w (k + 1) l (set m ((w - 1) * w + k) (grid w m k k))
-lifted-more w k l {m} h e g so = record {
-  lifted = λ j b.
-      by-place j k
-      (λ c. getD-set-other m ((w - 1) * w + k) ((w - 1) * w + j) (grid w m k k) nan (λ q. omega arith) ∙ so .lifted j c)
-      (λ q. rw (← q) (getD-set-same m ((w - 1) * w + k) (grid w m k k) nan (omega (arith, cell-lt w w (w - 1) k (omega arith) (omega arith)))
-      ∙ so .kept (k * w + k) (cell-lt (w - 1) w k k h (omega arith))))
-      (λ c. absurd (omega arith));
-  kept = λ c b. getD-set-other m ((w - 1) * w + k) c (grid w m k k) nan (λ q. omega arith) ∙ so .kept c b;
-}
+-- place k of row k, and of the last row, in a table of at most 32 rows
+pub diagonal-room : (w k : ℕ) → k < w - 1 → w ≤ 32 → (k * w + k < w * w) × ((w - 1) * w + k < w * w) × (w * w ≤ 1024)
+diagonal-room w k h few = (cell-lt w w k k (omega arith) (omega arith), cell-lt w w (w - 1) k (omega arith) (omega arith), mul-le-mul few few)
+
+pub last-start : (w : ℕ) → w ≤ 32 → (w - 1) * w ≤ 1024
+last-start w h = let g : w - 1 ≤ 32 = omega arith in mul-le-mul g h
+
+module _ (w k : ℕ) {l m : List Float} (h : k < w - 1) (e : length m ≡ length l) (g : w * w ≤ length l) where
+  pub laid-more : Moved (λ i. i * w + i) (λ i. (w - 1) * w + i) k l m
+      → Moved (λ i. i * w + i) (λ i. (w - 1) * w + i) (k + 1) l (set m (k * w + k) (grid w m (w - 1) k))
+  laid-more so =
+      moved-more _ _ k so (omega (arith, cell-lt w w k k (omega arith) (omega arith)))
+      (λ i b q. ne-of-lt b (same-row w i i k k (omega arith) (omega arith) q))
+      (λ i b q. let e = same-row w (w - 1) k i i (omega arith) (omega arith) q in omega arith)
+
+  pub lifted-more : Moved (λ i. (w - 1) * w + i) (λ i. i * w + i) k l m
+      → Moved (λ i. (w - 1) * w + i) (λ i. i * w + i) (k + 1) l (set m ((w - 1) * w + k) (grid w m k k))
+  lifted-more so =
+      moved-more _ _ k so (omega (arith, cell-lt w w (w - 1) k (omega arith) (omega arith)))
+      (λ i b q. omega arith)
+      (λ i b q. let e = same-row w k k (w - 1) i (omega arith) (omega arith) q in omega arith)
 
 -- meanwhile exp runs over the rows above the last
-pub exp-off : (w : ℕ) {l a b m : List Float} {n : ℕ} → n ≡ (w - 1) * w → n ≤ length a → Laid w (w - 1) l a
-    → Filled (upTo n (λ c. expOf (at a c)) (at a)) (length a) b → Lifted w (w - 1) b m → OffDiagonalTaken w l m
+pub exp-off : (w : ℕ) {l a b m : List Float} {n : ℕ} → n ≡ (w - 1) * w → n ≤ length a → Laid w l a
+    → Filled (upTo n (λ c. expOf (at a c)) (at a)) (length a) b → Lifted w b m → OffDiagonalTaken w l m
 exp-off w {l} {a} {b} {m} {n} e h down each up =
     record { each = λ i j x y ne. by-place i (w - 1) (λ c. above i j c y ne) (λ q. last i j q y ne) (λ c. absurd (omega arith)) }
   where
@@ -102,12 +109,13 @@ exp-off w {l} {a} {b} {m} {n} e h down each up =
     above : (i j : ℕ) → i < w - 1 → j < w → (i ≡ j → ⊥) → grid w m i j ≡ expOf (grid w l i j)
     above i j x y ne =
         let low = cell-lt (w - 1) w i j x y in
-        up .kept (i * w + j) low ∙ taken (i * w + j) low ∙ ap expOf (down .kept i j (omega arith) y ne)
+        up .kept (i * w + j) (λ k z q. omega arith) ∙ taken (i * w + j) low
+        ∙ ap expOf (down .kept (i * w + j) (λ k z q. ne (same-row w i j k k y (omega arith) q ∙ sym (same-column w i j k k y (omega arith) q))))
 
     last : (i j : ℕ) → w - 1 ≡ i → j < w → (i ≡ j → ⊥) → grid w m i j ≡ expOf (grid w l i j)
     last i j q y ne =
         let c : j < w - 1 = by-place j (w - 1) (λ c. c) (λ c. absurd (ne (sym q ∙ c))) (λ c. absurd (omega arith)) in
-        rw (← q) (up .lifted j c ∙ taken (j * w + j) (cell-lt (w - 1) w j j c y) ∙ ap expOf (down .laid j c))
+        rw (← q) (up .moved j c ∙ taken (j * w + j) (cell-lt (w - 1) w j j c y) ∙ ap expOf (down .moved j c))
 
 -- ---- the table of arguments
 

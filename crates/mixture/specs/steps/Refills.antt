@@ -2,7 +2,7 @@
 use mathlib.Core.Path.{_≡_}
 use mathlib.Core.Bool.{Bool, true, not, _&&_}
 use mathlib.Core.List.{List}
-use Prim.Native.Nat.{ℕ, _*_, _-_, _/_, _%_, _<_, _≤_}
+use Prim.Native.Nat.{ℕ, _+_, _*_, _-_, _/_, _%_, _<_, _≤_}
 use lib.Dec.{ltb, eqb}
 use lib.ListN.{getD}
 use lib.Ieee.{Float, neg}
@@ -62,15 +62,18 @@ pub record Gathered (n : ℕ) (p : ℕ → Bool) (f : ℕ → Float) (l : List F
   pub counted : r ≡ howMany n p
   pub each : (j : ℕ) → j < n → p j ≡ true → at l (howMany j p) ≡ f j
 
--- of a table by rows of w, the first k entries of the last row stand on the diagonal as well, and every entry off it is kept
-pub record Laid (w k : ℕ) (l l′ : List Float) : Type 0 where
-  pub laid : (i : ℕ) → i < k → grid w l′ i i ≡ grid w l (w - 1) i
-  pub kept : (i j : ℕ) → i < w → j < w → (i ≡ j → ⊥) → grid w l′ i j ≡ grid w l i j
+-- the first k of some places take what stood at others, and every other place is kept
+pub record Moved (place source : ℕ → ℕ) (k : ℕ) (l l′ : List Float) : Type 0 where
+  pub moved : (i : ℕ) → i < k → at l′ (place i) ≡ at l (source i)
+  pub kept : (c : ℕ) → ((i : ℕ) → i < k → c ≡ place i → ⊥) → at l′ c ≡ at l c
 
--- the first k entries of the diagonal stand in the last row as well, and the rows above it are kept
-pub record Lifted (w k : ℕ) (l l′ : List Float) : Type 0 where
-  pub lifted : (j : ℕ) → j < k → grid w l′ (w - 1) j ≡ grid w l j j
-  pub kept : (c : ℕ) → c < (w - 1) * w → at l′ c ≡ at l c
+-- of a table by rows of w: the last row's entries, but for its own diagonal, stand on the diagonal of the rows above it
+abbrev pub Laid : ℕ → List Float → List Float → Type 0
+Laid w l l′ = Moved (λ i. i * w + i) (λ i. (w - 1) * w + i) (w - 1) l l′
+
+-- and back
+abbrev pub Lifted : ℕ → List Float → List Float → Type 0
+Lifted w l l′ = Moved (λ i. (w - 1) * w + i) (λ i. i * w + i) (w - 1) l l′
 
 -- each entry off the diagonal has the exp of what it held
 pub record OffDiagonalTaken (w : ℕ) (l l′ : List Float) : Type 0 where
