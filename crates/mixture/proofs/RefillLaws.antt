@@ -3,8 +3,8 @@ use mathlib.Core.Path.{_≡_, refl, sym, ap, _∙_, subst}
 use mathlib.Core.Bool.{Bool, true, false, _&&_, _||_, cond, and-false, or-true, or-false}
 use mathlib.Core.List.{List, _++_, append-nil}
 use mathlib.Core.Logic.{inl, inr}
-use Prim.Native.Nat.{ℕ, zero, suc, _+_, _*_, _-_, _/_, _%_, _<_, _≤_}
-use native.Mathlib.Nat.{ne-of-lt, ne-of-gt, add-zero, le-antisymm, mul-le-mul-right}
+use Prim.Native.Nat.{ℕ, zero, suc, _+_, _*_, _-_, _<_, _≤_}
+use native.Mathlib.Nat.{ne-of-lt, ne-of-gt, add-zero, le-antisymm, mul-le-mul, mul-le-mul-right}
 use native.Mathlib.Numerals.{add-one}
 use native.Mathlib.Omega.{arith}
 use borrow.Rule.Slice.PartMut.{putMid}
@@ -15,12 +15,13 @@ use lib.Seq.{getD-take, getD-drop, getD-append-add, length-take-le, ext-getD}
 use lib.Ieee.{Float, nan}
 use Rattle.arithmetic.specs.Tables.{at, from}
 use Rattle.arithmetic.proofs.Tests.{le-or}
-use Rattle.arithmetic.proofs.TableLaws.{by-place, row-end, row-next, from-length, from-at, cell-row, cell-column}
+use Rattle.arithmetic.proofs.TableLaws.{by-place, row-end, row-next, from-length, cell-row, cell-column}
 use Rattle.models.specs.declared.model.Model.{Model}
 use Rattle.models.specs.declared.model.Model.the-variants.{Wilson, Uniquac, Nrtl, Unifac}
 use Rattle.models.specs.Model.{byModel}
 use Rattle.mixture.specs.Lists.{written, howMany}
-use Rattle.mixture.specs.steps.Refills.{rowCell, staleCell, Refilled}
+use Rattle.mixture.specs.declared.refill.Rows.{Rows}
+use Rattle.mixture.specs.steps.Refills.{staleCell, cellIn, cellOf, staleIn, staleOf, hasDiagonal, RowFits, TableFits, Refilled}
 use Rattle.mixture.proofs.ListLaws.{never, length-written, length-as, getD-written, getD-kept, written-same, written-as, written-none, written-set, howMany-le, howMany-none, howMany-add, howMany-same}
 
 -- ---- a writable part, back
@@ -78,7 +79,7 @@ module _ (mark i j : ℕ) where
       go Unifac = refl
 
   -- only UNIFAC has cells on the diagonal
-  pub stale-diagonal : {k : Model} (l : Model) → k ≡ l → (mark ≡ 1 → ⊥) → i ≡ j → byModel l false false false true ≡ staleCell k mark i j
+  pub stale-diagonal : {k : Model} (l : Model) → k ≡ l → (mark ≡ 1 → ⊥) → i ≡ j → hasDiagonal l ≡ staleCell k mark i j
   unfolding staleCell
   stale-diagonal l q f e = rw (q, ne-eqb mark 1 f, eq-eqb i j e) (go l)
     where
@@ -160,15 +161,15 @@ refilled-is : {n : ℕ} {p : ℕ → Bool} {f : ℕ → Float} {cells : List Flo
 refilled-is e g h all = record { worked = e ∙ all .worked; marked = g ∙ all .marked; counted = h ∙ all .counted }
 
 module _ (k : Model) (i : ℕ) {f : ℕ → Float} {cells : List Float} {marks : List ℕ} {j : ℕ} {c : List Float} {l : List ℕ} {r : ℕ} {b : Bool}
-    (now : Refilling j (λ c. staleCell k (getD marks c 0) i c) f cells marks c l r) (told : b ≡ staleCell k (getD l j 0) i j) where
+    (now : Refilling j (staleIn k marks i) f cells marks c l r) (told : b ≡ staleCell k (getD l j 0) i j) where
   stale-told : b ≡ staleCell k (getD marks j 0) i j
   stale-told = told ∙ ap (λ (mark : ℕ). staleCell k mark i j) (refilled-mark _ f cells marks j (now .all))
 
   pub row-more : {d : List Float} {m : List ℕ} {s : ℕ} {v : Float} → b ≡ true → v ≡ f j → d ≡ set c j v → m ≡ set l j 1 → s ≡ r + 1
-      → Refilling (j + 1) (λ c. staleCell k (getD marks c 0) i c) f cells marks d m s
+      → Refilling (j + 1) (staleIn k marks i) f cells marks d m s
   row-more t e x y z = refilling (refilled-is x y z (refilled-more _ f cells marks j (now .all) (sym stale-told ∙ t) e))
 
-  pub row-skip : {d : List Float} {m : List ℕ} {s : ℕ} → b ≡ false → d ≡ c → m ≡ l → s ≡ r → Refilling (j + 1) (λ c. staleCell k (getD marks c 0) i c) f cells marks d m s
+  pub row-skip : {d : List Float} {m : List ℕ} {s : ℕ} → b ≡ false → d ≡ c → m ≡ l → s ≡ r → Refilling (j + 1) (staleIn k marks i) f cells marks d m s
   row-skip t x y z = refilling (refilled-is x y z (refilled-skip _ f cells marks j (now .all) (sym stale-told ∙ t)))
 
 -- ---- a row that comes back in the middle
@@ -228,74 +229,58 @@ module _ {A : Type 0} (s w : ℕ) (p q : ℕ → Bool) (f g : ℕ → A) (old : 
           | inr d ↦ lower c d
         ])
 
-module _ (k : Model) (w i : ℕ) (f : ℕ → Float) (cells : List Float) (marks : List ℕ) (hc : i * w + w ≤ length cells) (hm : i * w + w ≤ length marks) where
-  -- the rows above i, and row i
-  refilled-row : {c ys : List Float} {l zs : List ℕ} {r s : ℕ} (g : ℕ → Float)
-      → Refilled (i * w) (λ c. staleCell k (getD marks c 0) (c / w) (c % w)) f cells marks c l r
-      → Refilled w (λ j. staleCell k (getD (from (i * w) l) j 0) i j) g (from (i * w) c) (from (i * w) l) ys zs s
-      → ((j : ℕ) → j < w → g j ≡ f (i * w + j))
-      → Refilled ((i + 1) * w) (λ c. staleCell k (getD marks c 0) (c / w) (c % w)) f cells marks
+-- the rows above i, and row i: what it holds is what stands at its places
+module _ (k : Model) (w i : ℕ) (f g : ℕ → Float) (cells : List Float) (marks : List ℕ) (b : i < w)
+    (hc : w * w ≤ length cells) (hm : w * w ≤ length marks) (gs : (j : ℕ) → j < w → g j ≡ f (i * w + j)) where
+  pub rows-more : {c ys : List Float} {l zs : List ℕ} {r s : ℕ} → Refilled (i * w) (staleOf k w marks) f cells marks c l r
+      → Refilled w (staleIn k (from (i * w) l) i) g (from (i * w) c) (from (i * w) l) ys zs s
+      → (i + 1 ≤ w) × Refilling ((i + 1) * w) (staleOf k w marks) f cells marks
       (putMid (i * w) (length c - i * w) c ys) (putMid (i * w) (length l - i * w) l zs) (r + s)
-  refilled-row {c} {ys} {l} {zs} {r} {s} g above row gs =
-      record {
-        worked = row-back (i * w) w p q f g cells nan hc ps gs (above .worked) (row .worked) ∙ rw (row-next w i);
-        marked = row-back (i * w) w p q (λ c. 1) (λ c. 1) marks 0 hm ps (λ j b. refl) (above .marked) (row .marked) ∙ rw (row-next w i);
-        counted = rw (above .counted, row .counted, howMany-same w q (λ j. p (i * w + j)) ps, row-next w i) (sym (howMany-add (i * w) w p));
-      }
+  rows-more {c} {ys} {l} {zs} {r} {s} above row = (
+    omega arith,
+    refilling (record {
+      worked = row-back (i * w) w p q f g cells nan (omega (arith, row-end w w i b)) ps gs (above .worked) (row .worked) ∙ rw (row-next w i);
+      marked = row-back (i * w) w p q (λ c. 1) (λ c. 1) marks 0 (omega (arith, row-end w w i b)) ps (λ j b. refl) (above .marked) (row .marked) ∙ rw (row-next w i);
+      counted = rw (above .counted, row .counted, howMany-same w q (λ j. p (i * w + j)) ps, row-next w i) (sym (howMany-add (i * w) w p));
+    }),
+  )
     where
       p : ℕ → Bool
-      p c = staleCell k (getD marks c 0) (c / w) (c % w)
+      p = staleOf k w marks
 
       q : ℕ → Bool
-      q j = staleCell k (getD (from (i * w) l) j 0) i j
+      q = staleIn k (from (i * w) l) i
 
       ps : (j : ℕ) → j < w → q j ≡ p (i * w + j)
-      ps j b = rw (cell-row w i j b, cell-column w i j b) (ap (λ (mark : ℕ). staleCell k mark i j) (lent (i * w) p (λ c. 1) marks 0 (above .marked) j (omega arith)))
+      ps j d =
+          rw (cell-row w i j d, cell-column w i j d)
+          (ap (λ (mark : ℕ). staleCell k mark i j) (lent (i * w) p (λ c. 1) marks 0 (above .marked) j (omega (arith, row-end w w i b))))
 
 -- entry j of row i, by its place
-row-cells : (k : Model) (w stride : ℕ) (table tau : List Float) (T L : Float) (i j : ℕ) → j < w → rowCell k (from (i * stride) table) (from (i * stride) tau) T L i j
-    ≡ rowCell k (from ((i * w + j) / w * stride) table) (from ((i * w + j) / w * stride) tau) T L ((i * w + j) / w) ((i * w + j) % w)
-row-cells k w stride table tau T L i j b = rw (cell-row w i j b, cell-column w i j b)
+pub row-cells : (g : Rows) (table tau : List Float) (i j : ℕ) → j < g .w
+    → cellIn g (from (i * g .stride) table) (from (i * g .stride) tau) i j ≡ cellOf g table tau (i * g .w + j)
+row-cells g table tau i j b = rw (cell-row (g .w) i j b, cell-column (g .w) i j b)
 
--- a turn of the loop over the rows: row i, lent as parts, lies within them, and once worked out it joins those above
-module _ (k : Model) (w stride i : ℕ) (table tau : List Float) (T L : Float) (cells : List Float) (marks : List ℕ) (b : i < w)
-    (hc : w * w ≤ length cells) (hm : w * w ≤ length marks) {c : List Float} {l : List ℕ} {r : ℕ}
-    (above : Refilled (i * w) (λ c. staleCell k (getD marks c 0) (c / w) (c % w))
-    (λ c. rowCell k (from (c / w * stride) table) (from (c / w * stride) tau) T L (c / w) (c % w)) cells marks c l r) where
-  pub turn-lent : (w - 1) * stride + w * 5 ≤ length table → (w - 1) * stride + w ≤ length tau
-      → (i < w) × (w * 5 ≤ length (from (i * stride) table)) × (w ≤ length (from (i * stride) tau)) × (w ≤ length (from (i * w) c)) × (w ≤ length (from (i * w) l))
-  turn-lent ht hu =
-      let kept = refilling above .long in
-      let e : i * stride ≤ (w - 1) * stride = mul-le-mul-right stride (omega arith) in
-      let d = row-end w w i b in
-      (b, omega (arith, from-length (i * stride) table), omega (arith, from-length (i * stride) tau), omega (arith, from-length (i * w) c), omega (arith, from-length (i * w) l))
+-- ---- row i, lent as parts, lies within them
 
-  pub turn-more : {ys : List Float} {zs : List ℕ} {s : ℕ}
-      → Refilled w (λ j. staleCell k (getD (from (i * w) l) j 0) i j) (rowCell k (from (i * stride) table) (from (i * stride) tau) T L i) (from (i * w) c) (from (i * w) l) ys zs s
-      → (i + 1 ≤ w) × Refilling ((i + 1) * w) (λ c. staleCell k (getD marks c 0) (c / w) (c % w))
-      (λ c. rowCell k (from (c / w * stride) table) (from (c / w * stride) tau) T L (c / w) (c % w)) cells marks
-      (putMid (i * w) (length c - i * w) c ys) (putMid (i * w) (length l - i * w) l zs) (r + s)
-  turn-more row =
-      let d = row-end w w i b in
-      (omega arith, refilling (refilled-row k w i _ cells marks (omega arith) (omega arith) _ above row (λ j b. row-cells k w stride table tau T L i j b)))
+-- it ends within the w·w places, and starts in the inputs no later than the last
+pub row-room : (w stride i : ℕ) → w ≤ 32 → i < w → (i * w + w ≤ w * w) × (w * w ≤ 1024) × (i * stride ≤ (w - 1) * stride)
+row-room w stride i few b = (row-end w w i b, mul-le-mul few few, mul-le-mul-right stride (omega arith))
 
--- the same where row i is taken over from a table of exponentials
-module _ (k : Model) (w i : ℕ) (worked cells : List Float) (marks : List ℕ) (b : i < w) (hw : w * w ≤ length worked)
-    (hc : w * w ≤ length cells) (hm : w * w ≤ length marks) {c : List Float} {l : List ℕ} {r : ℕ}
-    (above : Refilled (i * w) (λ c. staleCell k (getD marks c 0) (c / w) (c % w)) (at worked) cells marks c l r) where
-  pub taken-lent : (w ≤ length (from (i * w) worked)) × (w ≤ length (from (i * w) c)) × (w ≤ length (from (i * w) l))
-  taken-lent =
-      let kept = refilling above .long in
-      let d = row-end w w i b in
-      (omega (arith, from-length (i * w) worked), omega (arith, from-length (i * w) c), omega (arith, from-length (i * w) l))
+pub part-long : {A : Type 0} {w i k : ℕ} (l : List A) → i < w → length l ≡ k → w * w ≤ k → w ≤ length (from (i * w) l)
+part-long {w = w} {i} l b kept h = omega (arith, from-length (i * w) l, row-end w w i b)
 
-  pub taken-more : {ys : List Float} {zs : List ℕ} {s : ℕ}
-      → Refilled w (λ j. staleCell k (getD (from (i * w) l) j 0) i j) (at (from (i * w) worked)) (from (i * w) c) (from (i * w) l) ys zs s
-      → (i + 1 ≤ w) × Refilling ((i + 1) * w) (λ c. staleCell k (getD marks c 0) (c / w) (c % w)) (at worked) cells marks
-      (putMid (i * w) (length c - i * w) c ys) (putMid (i * w) (length l - i * w) l zs) (r + s)
-  taken-more row =
-      let d = row-end w w i b in
-      (omega arith, refilling (refilled-row k w i _ cells marks (omega arith) (omega arith) _ above row (λ j q. from-at worked (i * w) j (omega arith))))
+pub row-fits : {w stride i : ℕ} {table tau out : List Float} (l : List Float) → TableFits w stride table tau out → i < w → length l ≡ length out
+    → RowFits w i (from (i * stride) table) (from (i * stride) tau) (from (i * w) l)
+row-fits {w} {stride} {i} {table} {tau} l fits b kept =
+    let e : i * stride ≤ (w - 1) * stride = mul-le-mul-right stride (omega arith) in
+    record {
+      inside = b;
+      few = fits .few;
+      fives = omega (arith, fits .fives, from-length (i * stride) table);
+      taus = omega (arith, fits .taus, from-length (i * stride) tau);
+      room = part-long l b kept (fits .room);
+    }
 
 -- a loop that counts i to w has all of them at its end
 pub refilled-done : (i w : ℕ) {p : ℕ → Bool} {f : ℕ → Float} {cells : List Float} {marks : List ℕ} {c : List Float} {l : List ℕ} {r : ℕ}

@@ -21,6 +21,7 @@ use crate::answers::Reply;
 use crate::faults::query_fault;
 use crate::head::Head;
 use crate::refill;
+use crate::refill::Rows;
 use models::Model;
 use models::Quantity;
 use models::limits::COMPONENTS;
@@ -49,7 +50,14 @@ fn wilson(
         let v = now (values .entry) in
         ⌜ Solves Model.Wilson n (energy (energies n v) t) (λ E. W·wilson n (volumes n v) E (at x) q) cells marks r ⌝ }
 {
-    let count = refill::refill(Model::Wilson, n, n, values, values, t, 0.0, cells, marks);
+    let rows = Rows {
+        model: Model::Wilson,
+        w: n,
+        stride: n,
+        t: t,
+        ln: 0.0,
+    };
+    let count = refill::refill(rows, values, values, cells, marks);
     let place = n * n;
     let value = models::wilson::value_over(n, &values[place..], &cells[..], &x[..], q);
     Worked { value, count }
@@ -68,7 +76,14 @@ fn uniquac(
     requires { ⌜ (n ≤ mostComponents) × (indexFault n q ≡ 0) × (leastValues ≤ length (now values)) × (leastCells ≤ length (now cells)) × (leastMarks ≤ length (now marks)) ⌝ }
     ensures { λ r. ⌜ Solves Model.Uniquac n (energy (energies n (now (values .entry))) t) (λ E. U·uniquac n (rs n (now (values .entry))) (qs n (now (values .entry))) E (at x) q) cells marks r ⌝ }
 {
-    let count = refill::refill(Model::Uniquac, n, n, values, values, t, 0.0, cells, marks);
+    let rows = Rows {
+        model: Model::Uniquac,
+        w: n,
+        stride: n,
+        t: t,
+        ln: 0.0,
+    };
+    let count = refill::refill(rows, values, values, cells, marks);
     let r_place = n * n;
     let q_place = r_place + n;
     let value = models::uniquac::value_over(
@@ -98,17 +113,14 @@ fn nrtl_over(
 {
     models::nrtl::fill_taus(n, values, t, tau);
     let place = n * n * 5;
-    let count = refill::refill(
-        Model::Nrtl,
-        n,
-        n,
-        &values[place..],
-        tau,
-        t,
-        0.0,
-        cells,
-        marks,
-    );
+    let rows = Rows {
+        model: Model::Nrtl,
+        w: n,
+        stride: n,
+        t: t,
+        ln: 0.0,
+    };
+    let count = refill::refill(rows, &values[place..], tau, cells, marks);
     let value = models::nrtl::value_over(n, tau, &cells[..], x, q);
     Worked { value, count }
 }
@@ -153,7 +165,14 @@ fn unifac(
     let ln = arithmetic::log(t);
     let place = ng + ng;
     let table = &values[place..];
-    let count = refill::refill(Model::Unifac, ng, ng * 5, table, table, t, ln, cells, marks);
+    let rows = Rows {
+        model: Model::Unifac,
+        w: ng,
+        stride: ng * 5,
+        t: t,
+        ln: ln,
+    };
+    let count = refill::refill(rows, table, table, cells, marks);
     let value = models::unifac::value_over(
         n,
         ng,

@@ -1,45 +1,57 @@
 // A query's stale cells: each is worked out from its inputs, and marked 1.
 ghost use mathlib.Core.Path.{_≡_};
 ghost use mathlib.Core.Bool.{true, false};
-ghost use Prim.Native.Nat.{_+_, _*_, _-_, _/_, _%_, _≤_, _<_};
-ghost use lib.ListN.{length, getD};
-ghost use Rattle.arithmetic.specs.Tables.{at, from, Filled};
-ghost use Rattle.models.specs.Limits.{mostGroups, tableSize};
+ghost use Prim.Native.Nat.{_+_, _*_, _-_, _≤_, _<_};
+ghost use lib.ListN.{length};
+ghost use Rattle.arithmetic.specs.Tables.{at, Filled};
+ghost use Rattle.models.specs.Limits.{mostComponents, mostGroups, tableSize};
 ghost use Rattle.mixture.specs.Lists.{howMany};
-ghost use Rattle.models.specs.Model.{byModel};
-ghost use Rattle.mixture.specs.steps.Refills.{rowCell, rowArgument, staleCell, unmarked, Refilled, Gathered, Laid, Lifted, OffDiagonalTaken};
+ghost use Rattle.mixture.specs.steps.Refills.{argumentIn, argumentOf, cellIn, hasDiagonal, packed, rowCount, staleCell, staleIn, tableCount, unmarked};
+ghost use Rattle.mixture.specs.steps.Refills.{AllStale, Laid, Lifted, OffDiagonalTaken, RowFits, RowGathered, RowRefilled, RowTaken, TableFits, TableRefilled, TableTaken};
 use models::Model;
 use models::limits::GROUPS;
 use models::limits::PAIRS;
 use models::model::has_diagonal;
 
+// What goes with every row of a table: the model, the number w of rows, how far apart they start in the
+// inputs, T, and log(T), which only UNIFAC reads.
+pub struct Rows {
+    pub model: Model,
+    pub w: usize,
+    pub stride: usize,
+    pub t: f64,
+    pub ln: f64,
+}
+
 // The mark of a fresh cell.
 const FRESH: u8 = 1;
 
-// What entry j of row i is the exp of. `row` starts at the row's energies, α or td entries; `tau` at its τ at T, which only NRTL
-// reads; ln is log(T), which only UNIFAC reads.
-fn argument(model: Model, row: &[f64], tau: &[f64], t: f64, ln: f64, i: usize, j: usize) -> f64
+// What entry j of row i is the exp of. `row` starts at the row's energies, α or td entries; `tau` at its τ at
+// T, which only NRTL reads.
+fn argument(rows: Rows, row: &[f64], tau: &[f64], i: usize, j: usize) -> f64
     requires { ⌜ (i < length (now row)) × (j * 5 + 5 ≤ length (now row)) × (j < length (now tau)) ⌝ }
-    ensures { λ r. ⌜ r ≡ rowArgument model (now (row .entry)) (now (tau .entry)) t ln i j ⌝ }
+    ensures { λ r. ⌜ r ≡ argumentIn rows (now (row .entry)) (now (tau .entry)) i j ⌝ }
 {
+    let model = rows.model;
     match model {
-        Model::Wilson => models::exponentials::argument(row, t, i, j),
-        Model::Uniquac => models::exponentials::argument(row, t, i, j),
+        Model::Wilson => models::exponentials::argument(row, rows.t, i, j),
+        Model::Uniquac => models::exponentials::argument(row, rows.t, i, j),
         Model::Nrtl => models::nrtl::argument(row[j], tau[j]),
-        Model::Unifac => models::unifac::argument(row, t, ln, j),
+        Model::Unifac => models::unifac::argument(row, rows.t, rows.ln, j),
     }
 }
 
 // Entry j of row i. The slices are those of `argument`.
-fn exponential(model: Model, row: &[f64], tau: &[f64], t: f64, ln: f64, i: usize, j: usize) -> f64
+fn exponential(rows: Rows, row: &[f64], tau: &[f64], i: usize, j: usize) -> f64
     requires { ⌜ (i < length (now row)) × (j * 5 + 5 ≤ length (now row)) × (j < length (now tau)) ⌝ }
-    ensures { λ r. ⌜ r ≡ rowCell model (now (row .entry)) (now (tau .entry)) t ln i j ⌝ }
+    ensures { λ r. ⌜ r ≡ cellIn rows (now (row .entry)) (now (tau .entry)) i j ⌝ }
 {
+    let model = rows.model;
     match model {
-        Model::Wilson => models::exponentials::energy(row, t, i, j),
-        Model::Uniquac => models::exponentials::energy(row, t, i, j),
+        Model::Wilson => models::exponentials::energy(row, rows.t, i, j),
+        Model::Uniquac => models::exponentials::energy(row, rows.t, i, j),
         Model::Nrtl => models::nrtl::exponential(row[j], tau[j]),
-        Model::Unifac => models::unifac::psi(row, t, ln, j),
+        Model::Unifac => models::unifac::psi(row, rows.t, rows.ln, j),
     }
 }
 
@@ -63,23 +75,21 @@ fn is_stale(model: Model, mark: u8, i: usize, j: usize) -> bool
 
 // Works out the stale cells of row i one by one, and counts them. All four slices start at that row.
 fn refill_cells(
-    model: Model,
-    w: usize,
-    i: usize,
+    rows: Rows,
     row: &[f64],
     tau: &[f64],
-    t: f64,
-    ln: f64,
+    i: usize,
     cells: &mut [f64],
     marks: &mut [u8],
 ) -> usize
-    requires { ⌜ (i < w) × (w * 5 ≤ length (now row)) × (w ≤ length (now tau)) × (w ≤ length (now cells)) × (w ≤ length (now marks)) ⌝ }
-    ensures { λ r. ⌜ Refilled w (λ j. staleCell model (getD (now (marks .entry)) j 0) i j) (rowCell model (now (row .entry)) (now (tau .entry)) t ln i) (now (cells .entry)) (now (marks .entry)) (now (cells .exit)) (now (marks .exit)) r ⌝ }
+    requires { ⌜ RowFits (rows .w) i (now row) (now tau) (now cells) × (rows .w ≤ length (now marks)) ⌝ }
+    ensures { λ r. ⌜ RowRefilled rows row tau i cells marks r ⌝ }
 {
+    let model = rows.model;
     let mut count: usize = 0;
-    for j in 0..w {
+    for j in 0..rows.w {
         if is_stale(model, marks[j], i, j) {
-            cells[j] = exponential(model, row, tau, t, ln, i, j);
+            cells[j] = exponential(rows, row, tau, i, j);
             marks[j] = FRESH;
             count += 1;
         }
@@ -88,9 +98,9 @@ fn refill_cells(
 }
 
 // How many of the first n marks are other than 1.
-fn count_unmarked(marks: &[u8], n: usize) -> u16
+fn count_unmarked(n: usize, marks: &[u8]) -> u16
     requires { ⌜ (n ≤ tableSize) × (n ≤ length (now marks)) ⌝ }
-    ensures { λ r. ⌜ r ≡ howMany n (λ c. unmarked (now (marks .entry)) c) ⌝ }
+    ensures { λ r. ⌜ r ≡ howMany n (unmarked (now (marks .entry))) ⌝ }
 {
     let mut count: u16 = 0;
     for c in 0..n {
@@ -102,58 +112,53 @@ fn count_unmarked(marks: &[u8], n: usize) -> u16
 }
 
 // Writes what the stale cells of row i are the exp of, one after the other.
-fn gather(
-    model: Model,
-    w: usize,
-    i: usize,
-    row: &[f64],
-    tau: &[f64],
-    t: f64,
-    ln: f64,
-    marks: &[u8],
-    out: &mut [f64],
-)
-    requires { ⌜ (i < w) × (w * 5 ≤ length (now row)) × (w ≤ length (now tau)) × (w ≤ length (now marks)) × (w ≤ length (now out)) ⌝ }
-    ensures { λ _. ⌜ Gathered w (λ j. staleCell model (getD (now (marks .entry)) j 0) i j) (rowArgument model (now (row .entry)) (now (tau .entry)) t ln i) (now (out .exit)) (howMany w (λ j. staleCell model (getD (now (marks .entry)) j 0) i j)) ⌝ }
+fn gather(rows: Rows, row: &[f64], tau: &[f64], marks: &[u8], i: usize, out: &mut [f64])
+    requires { ⌜ RowFits (rows .w) i (now row) (now tau) (now out) × (rows .w ≤ length (now marks)) ⌝ }
+    ensures { λ _.
+        let count = rowCount (rows .model) (rows .w) (now (marks .entry)) i in
+        ⌜ RowGathered rows row tau marks i out count ⌝ }
 {
+    let model = rows.model;
     let mut count: usize = 0;
-    for j in 0..w {
+    for j in 0..rows.w {
         if is_stale(model, marks[j], i, j) {
-            out[count] = argument(model, row, tau, t, ln, i, j);
+            out[count] = argument(rows, row, tau, i, j);
             count += 1;
         }
     }
 }
 
-// The same, `count` being their number. Where each place of the row is a stale cell, which only UNIFAC's can be, they are written
-// without a test for each.
+// The same, `count` being their number. Where each place of the row is a stale cell, which only UNIFAC's can
+// be, they are written without a test for each.
 fn gather_row(
-    model: Model,
-    w: usize,
-    i: usize,
+    rows: Rows,
     row: &[f64],
     tau: &[f64],
-    t: f64,
-    ln: f64,
     marks: &[u8],
+    i: usize,
     count: usize,
     out: &mut [f64],
 )
-    requires { ⌜ (i < w) × (w ≤ mostGroups) × (w * 5 ≤ length (now row)) × (w ≤ length (now tau)) × (w ≤ length (now marks)) × (w ≤ length (now out)) × (count ≡ howMany w (λ j. staleCell model (getD (now marks) j 0) i j)) ⌝ }
-    ensures { λ _. ⌜ Gathered w (λ j. staleCell model (getD (now (marks .entry)) j 0) i j) (rowArgument model (now (row .entry)) (now (tau .entry)) t ln i) (now (out .exit)) count ⌝ }
+    requires { ⌜ RowFits (rows .w) i (now row) (now tau) (now out)
+        × (rows .w ≤ length (now marks))
+        × (count ≡ rowCount (rows .model) (rows .w) (now marks) i) ⌝ }
+    ensures { λ _. ⌜ RowGathered rows row tau marks i out count ⌝ }
 {
+    let model = rows.model;
     if has_diagonal(model) {
-        if count == w {
-            return models::unifac::fill_arguments(row, t, ln, w, out);
+        if count == rows.w {
+            return models::unifac::fill_arguments(row, rows.t, rows.ln, rows.w, out);
         }
     }
-    gather(model, w, i, row, tau, t, ln, marks, out)
+    gather(rows, row, tau, marks, i, out)
 }
 
 // Puts what was gathered to the stale cells of row i, one after the other.
-fn put_stale(model: Model, w: usize, i: usize, worked: &[f64], cells: &mut [f64], marks: &mut [u8])
+fn put_stale(model: Model, w: usize, worked: &[f64], i: usize, cells: &mut [f64], marks: &mut [u8])
     requires { ⌜ (w ≤ length (now worked)) × (w ≤ length (now cells)) × (w ≤ length (now marks)) ⌝ }
-    ensures { λ _. ⌜ Refilled w (λ j. staleCell model (getD (now (marks .entry)) j 0) i j) (λ j. at (now (worked .entry)) (howMany j (λ j. staleCell model (getD (now (marks .entry)) j 0) i j))) (now (cells .entry)) (now (marks .entry)) (now (cells .exit)) (now (marks .exit)) (howMany w (λ j. staleCell model (getD (now (marks .entry)) j 0) i j)) ⌝ }
+    ensures { λ _.
+        let stale = staleIn model (now (marks .entry)) i in
+        ⌜ RowTaken model w (packed stale (now (worked .entry))) i cells marks ⌝ }
 {
     let mut count: usize = 0;
     for j in 0..w {
@@ -166,11 +171,11 @@ fn put_stale(model: Model, w: usize, i: usize, worked: &[f64], cells: &mut [f64]
 }
 
 // How many cells of row i are stale.
-fn count_row(model: Model, w: usize, i: usize, marks: &[u8]) -> usize
+fn count_row(model: Model, w: usize, marks: &[u8], i: usize) -> usize
     requires { ⌜ (i < w) × (w ≤ mostGroups) × (w ≤ length (now marks)) ⌝ }
-    ensures { λ r. ⌜ r ≡ howMany w (λ j. staleCell model (getD (now (marks .entry)) j 0) i j) ⌝ }
+    ensures { λ r. ⌜ r ≡ rowCount model w (now (marks .entry)) i ⌝ }
 {
-    let count = count_unmarked(marks, w) as usize;
+    let count = count_unmarked(w, marks) as usize;
     if has_diagonal(model) {
         return count;
     }
@@ -180,63 +185,49 @@ fn count_row(model: Model, w: usize, i: usize, marks: &[u8]) -> usize
     count - 1
 }
 
-// Works out the stale cells of row i, and answers with their number: exp runs over so many places, side by side. A short row goes
-// one by one.
+// Works out the stale cells of row i, and answers with their number: exp runs over so many places, side by
+// side. A short row goes one by one.
 fn refill_row(
-    model: Model,
-    w: usize,
-    i: usize,
+    rows: Rows,
     row: &[f64],
     tau: &[f64],
-    t: f64,
-    ln: f64,
+    i: usize,
     cells: &mut [f64],
     marks: &mut [u8],
 ) -> usize
-    requires { ⌜ (i < w) × (w ≤ mostGroups) × (w * 5 ≤ length (now row)) × (w ≤ length (now tau)) × (w ≤ length (now cells)) × (w ≤ length (now marks)) ⌝ }
-    ensures { λ r. ⌜ Refilled w (λ j. staleCell model (getD (now (marks .entry)) j 0) i j) (rowCell model (now (row .entry)) (now (tau .entry)) t ln i) (now (cells .entry)) (now (marks .entry)) (now (cells .exit)) (now (marks .exit)) r ⌝ }
+    requires { ⌜ RowFits (rows .w) i (now row) (now tau) (now cells) × (rows .w ≤ length (now marks)) ⌝ }
+    ensures { λ r. ⌜ RowRefilled rows row tau i cells marks r ⌝ }
 {
-    if w < 4 {
-        return refill_cells(model, w, i, row, tau, t, ln, cells, marks);
+    let model = rows.model;
+    if rows.w < 4 {
+        return refill_cells(rows, row, tau, i, cells, marks);
     }
-    let count = count_row(model, w, i, marks);
+    let count = count_row(model, rows.w, marks, i);
     if count == 0 {
         return 0;
     }
     let mut worked = [0.0; GROUPS];
-    gather_row(model, w, i, row, tau, t, ln, marks, count, &mut worked[..]);
+    gather_row(rows, row, tau, marks, i, count, &mut worked[..]);
     arithmetic::exp_each(&mut worked[..], count);
-    put_stale(model, w, i, &worked[..], cells, marks);
+    put_stale(model, rows.w, &worked[..], i, cells, marks);
     count
 }
 
 // Works out every stale cell, row by row, and counts them. Row i of `table` and of `tau` starts at i·stride.
-fn refill_rows(
-    model: Model,
-    w: usize,
-    stride: usize,
-    table: &[f64],
-    tau: &[f64],
-    t: f64,
-    ln: f64,
-    cells: &mut [f64],
-    marks: &mut [u8],
-) -> usize
-    requires { ⌜ (w ≤ mostGroups) × ((w - 1) * stride + w * 5 ≤ length (now table)) × ((w - 1) * stride + w ≤ length (now tau)) × (w * w ≤ length (now cells)) × (w * w ≤ length (now marks)) ⌝ }
-    ensures { λ r. ⌜ Refilled (w * w) (λ c. staleCell model (getD (now (marks .entry)) c 0) (c / w) (c % w)) (λ c. rowCell model (from (c / w * stride) (now (table .entry))) (from (c / w * stride) (now (tau .entry))) t ln (c / w) (c % w)) (now (cells .entry)) (now (marks .entry)) (now (cells .exit)) (now (marks .exit)) r ⌝ }
+fn refill_rows(rows: Rows, table: &[f64], tau: &[f64], cells: &mut [f64], marks: &mut [u8]) -> usize
+    requires { ⌜ TableFits (rows .w) (rows .stride) (now table) (now tau) (now cells)
+        × (rows .w * rows .w ≤ length (now marks)) ⌝ }
+    ensures { λ r. ⌜ TableRefilled rows table tau cells marks r ⌝ }
 {
     let mut count: usize = 0;
-    for i in 0..w {
-        let place = i * w;
-        let start = i * stride;
+    for i in 0..rows.w {
+        let place = i * rows.w;
+        let start = i * rows.stride;
         count += refill_row(
-            model,
-            w,
-            i,
+            rows,
             &table[start..],
             &tau[start..],
-            t,
-            ln,
+            i,
             &mut cells[place..],
             &mut marks[place..],
         );
@@ -245,7 +236,7 @@ fn refill_rows(
 }
 
 // How many marks on the diagonal of w rows are other than 1.
-fn count_diagonal(marks: &[u8], w: usize) -> u16
+fn count_diagonal(w: usize, marks: &[u8]) -> u16
     requires { ⌜ (w ≤ mostGroups) × (w * w ≤ length (now marks)) ⌝ }
     ensures { λ r. ⌜ r ≡ howMany w (λ i. unmarked (now (marks .entry)) (i * w + i)) ⌝ }
 {
@@ -261,70 +252,49 @@ fn count_diagonal(marks: &[u8], w: usize) -> u16
 // How many cells are stale: marks other than 1, less those on a diagonal that has no cells.
 fn count_table(model: Model, w: usize, marks: &[u8]) -> usize
     requires { ⌜ (w ≤ mostGroups) × (w * w ≤ length (now marks)) ⌝ }
-    ensures { λ r. ⌜ r ≡ howMany (w * w) (λ c. staleCell model (getD (now (marks .entry)) c 0) (c / w) (c % w)) ⌝ }
+    ensures { λ r. ⌜ r ≡ tableCount model w (now (marks .entry)) ⌝ }
 {
-    let count = count_unmarked(marks, w * w) as usize;
+    let count = count_unmarked(w * w, marks) as usize;
     if has_diagonal(model) {
         return count;
     }
-    count - (count_diagonal(marks, w) as usize)
+    count - (count_diagonal(w, marks) as usize)
 }
 
-// Writes what the exponentials of row i are the exp of, at the diagonal as well, so that the row runs without a test. The slices
-// are those of `argument`.
-fn fill_arguments(
-    model: Model,
-    w: usize,
-    i: usize,
-    row: &[f64],
-    tau: &[f64],
-    t: f64,
-    ln: f64,
-    out: &mut [f64],
-)
-    requires { ⌜ (i < w) × (w ≤ mostGroups) × (w * 5 ≤ length (now row)) × (w ≤ length (now tau)) × (w ≤ length (now out)) ⌝ }
-    ensures { λ _. ⌜ Filled (rowArgument model (now (row .entry)) (now (tau .entry)) t ln i) w (now (out .exit)) ⌝ }
+// Writes what the exponentials of row i are the exp of, at the diagonal as well, so that the row runs without
+// a test. The slices are those of `argument`.
+fn fill_arguments(rows: Rows, row: &[f64], tau: &[f64], i: usize, out: &mut [f64])
+    requires { ⌜ RowFits (rows .w) i (now row) (now tau) (now out) ⌝ }
+    ensures { λ _.
+        let each = argumentIn rows (now (row .entry)) (now (tau .entry)) i in
+        ⌜ Filled each (rows .w) (now (out .exit)) ⌝ }
 {
+    let model = rows.model;
     match model {
-        Model::Wilson => models::exponentials::fill_arguments(row, t, w, i, out),
-        Model::Uniquac => models::exponentials::fill_arguments(row, t, w, i, out),
-        Model::Nrtl => models::nrtl::fill_arguments(row, tau, w, out),
-        Model::Unifac => models::unifac::fill_arguments(row, t, ln, w, out),
+        Model::Wilson => models::exponentials::fill_arguments(row, rows.t, rows.w, i, out),
+        Model::Uniquac => models::exponentials::fill_arguments(row, rows.t, rows.w, i, out),
+        Model::Nrtl => models::nrtl::fill_arguments(row, tau, rows.w, out),
+        Model::Unifac => models::unifac::fill_arguments(row, rows.t, rows.ln, rows.w, out),
     }
 }
 
-// The same for w rows, each at its place in a table by full rows. Row i of `table` and of `tau` starts at i·stride.
-fn fill_table(
-    model: Model,
-    w: usize,
-    stride: usize,
-    table: &[f64],
-    tau: &[f64],
-    t: f64,
-    ln: f64,
-    out: &mut [f64],
-)
-    requires { ⌜ (w ≤ mostGroups) × ((w - 1) * stride + w * 5 ≤ length (now table)) × ((w - 1) * stride + w ≤ length (now tau)) × (w * w ≤ length (now out)) ⌝ }
-    ensures { λ _. ⌜ Filled (λ c. rowArgument model (from (c / w * stride) (now (table .entry))) (from (c / w * stride) (now (tau .entry))) t ln (c / w) (c % w)) (w * w) (now (out .exit)) ⌝ }
+// The same for w rows, each at its place in a table by full rows. Row i of `table` and of `tau` starts at
+// i·stride.
+fn fill_table(rows: Rows, table: &[f64], tau: &[f64], out: &mut [f64])
+    requires { ⌜ TableFits (rows .w) (rows .stride) (now table) (now tau) (now out) ⌝ }
+    ensures { λ _.
+        let each = argumentOf rows (now (table .entry)) (now (tau .entry)) in
+        ⌜ Filled each (rows .w * rows .w) (now (out .exit)) ⌝ }
 {
-    for i in 0..w {
-        let at = i * w;
-        let row = i * stride;
-        fill_arguments(
-            model,
-            w,
-            i,
-            &table[row..],
-            &tau[row..],
-            t,
-            ln,
-            &mut out[at..],
-        );
+    for i in 0..rows.w {
+        let at = i * rows.w;
+        let row = i * rows.stride;
+        fill_arguments(rows, &table[row..], &tau[row..], i, &mut out[at..]);
     }
 }
 
 // Puts the last row of a table by rows of w, but for its own diagonal, on the diagonal of the rows above it.
-fn lay_last(a: &mut [f64], w: usize)
+fn lay_last(w: usize, a: &mut [f64])
     requires { ⌜ (1 ≤ w) × (w ≤ mostGroups) × (w * w ≤ length (now a)) ⌝ }
     ensures { λ _. ⌜ Laid w (now (a .entry)) (now (a .exit)) ⌝ }
 {
@@ -335,7 +305,7 @@ fn lay_last(a: &mut [f64], w: usize)
 }
 
 // Takes it back from there.
-fn lift_last(a: &mut [f64], w: usize)
+fn lift_last(w: usize, a: &mut [f64])
     requires { ⌜ (1 ≤ w) × (w ≤ mostGroups) × (w * w ≤ length (now a)) ⌝ }
     ensures { λ _. ⌜ Lifted w (now (a .entry)) (now (a .exit)) ⌝ }
 {
@@ -345,21 +315,24 @@ fn lift_last(a: &mut [f64], w: usize)
     }
 }
 
-// Each place off the diagonal takes its exp; there are `count`. Meanwhile the last row stands on the diagonal of the others, so that
-// exp runs over so many places in one go, and over no other.
-fn exp_off_diagonal(a: &mut [f64], w: usize, count: usize)
-    requires { ⌜ (1 ≤ w) × (w ≤ mostGroups) × (w * w ≤ length (now a)) × (count ≡ (w - 1) * w) ⌝ }
+// Each place off the diagonal takes its exp; there are `count`. Meanwhile the last row stands on the diagonal
+// of the others, so that exp runs over so many places in one go, and over no other.
+fn exp_off_diagonal(w: usize, count: usize, a: &mut [f64])
+    requires { ⌜ (1 ≤ w)
+        × (w ≤ mostGroups)
+        × (w * w ≤ length (now a))
+        × (count ≡ (w - 1) * w) ⌝ }
     ensures { λ _. ⌜ OffDiagonalTaken w (now (a .entry)) (now (a .exit)) ⌝ }
 {
-    lay_last(a, w);
+    lay_last(w, a);
     arithmetic::exp_each(a, count);
-    lift_last(a, w)
+    lift_last(w, a)
 }
 
 // Takes the stale cells of row i over from its exponentials.
-fn take_stale(model: Model, w: usize, i: usize, worked: &[f64], cells: &mut [f64], marks: &mut [u8])
+fn take_stale(model: Model, w: usize, worked: &[f64], i: usize, cells: &mut [f64], marks: &mut [u8])
     requires { ⌜ (w ≤ length (now worked)) × (w ≤ length (now cells)) × (w ≤ length (now marks)) ⌝ }
-    ensures { λ _. ⌜ Refilled w (λ j. staleCell model (getD (now (marks .entry)) j 0) i j) (at (now (worked .entry))) (now (cells .entry)) (now (marks .entry)) (now (cells .exit)) (now (marks .exit)) (howMany w (λ j. staleCell model (getD (now (marks .entry)) j 0) i j)) ⌝ }
+    ensures { λ _. ⌜ RowTaken model w (at (now (worked .entry))) i cells marks ⌝ }
 {
     for j in 0..w {
         if is_stale(model, marks[j], i, j) {
@@ -371,98 +344,78 @@ fn take_stale(model: Model, w: usize, i: usize, worked: &[f64], cells: &mut [f64
 
 // The same for w rows.
 fn take_rows(model: Model, w: usize, worked: &[f64], cells: &mut [f64], marks: &mut [u8])
-    requires { ⌜ (w ≤ mostGroups) × (w * w ≤ length (now worked)) × (w * w ≤ length (now cells)) × (w * w ≤ length (now marks)) ⌝ }
-    ensures { λ _. ⌜ Refilled (w * w) (λ c. staleCell model (getD (now (marks .entry)) c 0) (c / w) (c % w)) (at (now (worked .entry))) (now (cells .entry)) (now (marks .entry)) (now (cells .exit)) (now (marks .exit)) (howMany (w * w) (λ c. staleCell model (getD (now (marks .entry)) c 0) (c / w) (c % w))) ⌝ }
+    requires { ⌜ (w ≤ mostGroups)
+        × (w * w ≤ length (now worked))
+        × (w * w ≤ length (now cells))
+        × (w * w ≤ length (now marks)) ⌝ }
+    ensures { λ _. ⌜ TableTaken model w (at (now (worked .entry))) cells marks ⌝ }
 {
     for i in 0..w {
         let at = i * w;
         take_stale(
             model,
             w,
-            i,
             &worked[at..],
+            i,
             &mut cells[at..],
             &mut marks[at..],
         );
     }
 }
 
-// Works out all cells of a model without any on the diagonal, all of them stale: every argument first, in the table `out`, then exp
-// of those off the diagonal. `count` is their number, and the answer.
+// Works out all cells of a model without any on the diagonal, all of them stale: every argument first, in the
+// table `out`, then exp of those off the diagonal. `count` is their number, and the answer.
 fn refill_table(
-    model: Model,
-    w: usize,
-    stride: usize,
+    rows: Rows,
     table: &[f64],
     tau: &[f64],
-    t: f64,
-    ln: f64,
     count: usize,
     out: &mut [f64],
     cells: &mut [f64],
     marks: &mut [u8],
 ) -> usize
-    requires { ⌜ (1 ≤ w) × (w ≤ mostGroups) × ((w - 1) * stride + w * 5 ≤ length (now table)) × ((w - 1) * stride + w ≤ length (now tau)) × (count ≡ (w - 1) * w) × (byModel model false false false true ≡ false) × (w * w ≤ length (now out)) × (w * w ≤ length (now cells)) × (w * w ≤ length (now marks)) × (count ≡ howMany (w * w) (λ c. staleCell model (getD (now marks) c 0) (c / w) (c % w))) ⌝ }
-    ensures { λ r. ⌜ Refilled (w * w) (λ c. staleCell model (getD (now (marks .entry)) c 0) (c / w) (c % w)) (λ c. rowCell model (from (c / w * stride) (now (table .entry))) (from (c / w * stride) (now (tau .entry))) t ln (c / w) (c % w)) (now (cells .entry)) (now (marks .entry)) (now (cells .exit)) (now (marks .exit)) r ⌝ }
+    requires { ⌜ AllStale rows (now marks) count
+        × TableFits (rows .w) (rows .stride) (now table) (now tau) (now out)
+        × (rows .w * rows .w ≤ length (now cells))
+        × (rows .w * rows .w ≤ length (now marks)) ⌝ }
+    ensures { λ r. ⌜ TableRefilled rows table tau cells marks r ⌝ }
 {
-    fill_table(model, w, stride, table, tau, t, ln, out);
-    exp_off_diagonal(out, w, count);
-    take_rows(model, w, out, cells, marks);
+    let model = rows.model;
+    fill_table(rows, table, tau, out);
+    exp_off_diagonal(rows.w, count, out);
+    take_rows(model, rows.w, out, cells, marks);
     count
 }
 
 // The same. Up to four rows take a small table.
 fn refill_whole(
-    model: Model,
-    w: usize,
-    stride: usize,
+    rows: Rows,
     table: &[f64],
     tau: &[f64],
-    t: f64,
-    ln: f64,
     count: usize,
     cells: &mut [f64],
     marks: &mut [u8],
 ) -> usize
-    requires { ⌜ (1 ≤ w) × (w ≤ 12) × ((w - 1) * stride + w * 5 ≤ length (now table)) × ((w - 1) * stride + w ≤ length (now tau)) × (count ≡ (w - 1) * w) × (byModel model false false false true ≡ false) × (w * w ≤ length (now cells)) × (w * w ≤ length (now marks)) × (count ≡ howMany (w * w) (λ c. staleCell model (getD (now marks) c 0) (c / w) (c % w))) ⌝ }
-    ensures { λ r. ⌜ Refilled (w * w) (λ c. staleCell model (getD (now (marks .entry)) c 0) (c / w) (c % w)) (λ c. rowCell model (from (c / w * stride) (now (table .entry))) (from (c / w * stride) (now (tau .entry))) t ln (c / w) (c % w)) (now (cells .entry)) (now (marks .entry)) (now (cells .exit)) (now (marks .exit)) r ⌝ }
+    requires { ⌜ AllStale rows (now marks) count
+        × TableFits (rows .w) (rows .stride) (now table) (now tau) (now cells)
+        × (rows .w * rows .w ≤ length (now marks)) ⌝ }
+    ensures { λ r. ⌜ TableRefilled rows table tau cells marks r ⌝ }
 {
-    if w < 5 {
+    if rows.w < 5 {
         let mut few = [0.0; 16];
-        return refill_table(
-            model,
-            w,
-            stride,
-            table,
-            tau,
-            t,
-            ln,
-            count,
-            &mut few[..],
-            cells,
-            marks,
-        );
+        return refill_table(rows, table, tau, count, &mut few[..], cells, marks);
     }
     let mut worked = [0.0; PAIRS];
-    refill_table(
-        model,
-        w,
-        stride,
-        table,
-        tau,
-        t,
-        ln,
-        count,
-        &mut worked[..],
-        cells,
-        marks,
-    )
+    refill_table(rows, table, tau, count, &mut worked[..], cells, marks)
 }
 
-// Whether `count` stale cells are all cells there are, in a model of at most 12 rows with none on the diagonal.
+// Whether `count` stale cells are all cells there are, in a model of at most 12 rows with none on the
+// diagonal.
 fn is_whole(model: Model, w: usize, count: usize) -> bool
     requires { ⌜ (1 ≤ w) × (w ≤ mostGroups) ⌝ }
-    ensures { λ r. ⌜ (r ≡ true → (w ≤ 12) × (count ≡ (w - 1) * w) × (byModel model false false false true ≡ false)) ⌝ }
+    ensures { λ r. ⌜ (r ≡ true → (w ≤ mostComponents)
+        × (count ≡ (w - 1) * w)
+        × (hasDiagonal model ≡ false)) ⌝ }
 {
     if has_diagonal(model) {
         return false;
@@ -473,30 +426,23 @@ fn is_whole(model: Model, w: usize, count: usize) -> bool
     count == (w - 1) * w
 }
 
-// Works out every stale cell, and answers with their number: no row is gone through where no cell is stale, a table of E or G that is
-// stale as a whole goes in one run, and any other row by row. Fewer than four rows aren't counted beforehand.
-pub fn refill(
-    model: Model,
-    w: usize,
-    stride: usize,
-    table: &[f64],
-    tau: &[f64],
-    t: f64,
-    ln: f64,
-    cells: &mut [f64],
-    marks: &mut [u8],
-) -> usize
-    requires { ⌜ (w ≤ mostGroups) × ((w - 1) * stride + w * 5 ≤ length (now table)) × ((w - 1) * stride + w ≤ length (now tau)) × (w * w ≤ length (now cells)) × (w * w ≤ length (now marks)) ⌝ }
-    ensures { λ r. ⌜ Refilled (w * w) (λ c. staleCell model (getD (now (marks .entry)) c 0) (c / w) (c % w)) (λ c. rowCell model (from (c / w * stride) (now (table .entry))) (from (c / w * stride) (now (tau .entry))) t ln (c / w) (c % w)) (now (cells .entry)) (now (marks .entry)) (now (cells .exit)) (now (marks .exit)) r ⌝ }
+// Works out every stale cell, and answers with their number: no row is gone through where no cell is stale, a
+// table of E or G that is stale as a whole goes in one run, and any other row by row. Fewer than four rows
+// aren't counted beforehand.
+pub fn refill(rows: Rows, table: &[f64], tau: &[f64], cells: &mut [f64], marks: &mut [u8]) -> usize
+    requires { ⌜ TableFits (rows .w) (rows .stride) (now table) (now tau) (now cells)
+        × (rows .w * rows .w ≤ length (now marks)) ⌝ }
+    ensures { λ r. ⌜ TableRefilled rows table tau cells marks r ⌝ }
 {
-    if 3 < w {
-        let count = count_table(model, w, marks);
+    let model = rows.model;
+    if 3 < rows.w {
+        let count = count_table(model, rows.w, marks);
         if count == 0 {
             return 0;
         }
-        if is_whole(model, w, count) {
-            return refill_whole(model, w, stride, table, tau, t, ln, count, cells, marks);
+        if is_whole(model, rows.w, count) {
+            return refill_whole(rows, table, tau, count, cells, marks);
         }
     }
-    refill_rows(model, w, stride, table, tau, t, ln, cells, marks)
+    refill_rows(rows, table, tau, cells, marks)
 }

@@ -27,7 +27,7 @@ use Rattle.mixture.specs.Layout.{dataIn, cellAt}
 use Rattle.models.specs.Model.{modelOf}
 use Rattle.mixture.specs.Calls.{exponential, valueBy, staleAt, worked, answered, afterQuery}
 use Rattle.mixture.specs.Faults.{readyFault, queryFault}
-use Rattle.mixture.specs.steps.Refills.{staleCell, Ranged, Solved, Answered}
+use Rattle.mixture.specs.steps.Refills.{staleCell, staleOf, Ranged, Solved, Answered}
 use Rattle.mixture.proofs.ListLaws.{written-same, howMany-same}
 use Rattle.mixture.proofs.history.RangeLaws.{first-is}
 use Rattle.mixture.proofs.CallLaws.{refused, done, Passed, ready-passed}
@@ -65,7 +65,7 @@ module _ (m : Memory) (h : Head) (q : Quantity) {c : List Float} {l : List ℕ} 
       w = width (held (dataIn m h))
 
       p : ℕ → Bool
-      p c = staleCell (modelOf (h .model)) (getD (m .marks) c 0) (c / w) (c % w)
+      p = staleOf (modelOf (h .model)) w (m .marks)
 
       f : ℕ → Float
       f c = exponential (held (dataIn m h)) (h .t) (c / w) (c % w)

@@ -5,7 +5,7 @@ use mathlib.Core.List.{List}
 use Prim.Native.Nat.{ℕ, zero, suc, _+_, _*_, _-_, _/_, _%_, _<_, _≤_}
 use native.Mathlib.Nat.{mod-lt, div-lt-iff-lt-mul, mul-assoc, mul-le-mul}
 use native.Mathlib.Omega.{arith}
-use lib.ListN.{length, getD}
+use lib.ListN.{length}
 use lib.Ieee.{Float}
 use Rattle.arithmetic.specs.Logarithm.{logOf}
 use Rattle.arithmetic.specs.Parameters.{tdAt}
@@ -25,9 +25,11 @@ use Rattle.models.proofs.UniquacLaws.{uniquac-same}
 use Rattle.models.proofs.NrtlLaws.{nonrandomness-same, nonrandomness-row, nrtl-same}
 use Rattle.models.proofs.ParameterLaws.{five-from}
 use Rattle.models.proofs.UnifacLaws.{psi-same, psi-at}
+use Rattle.models.specs.declared.model.Model.{Model}
 use Rattle.models.specs.declared.model.Model.the-variants.{Wilson, Uniquac, Nrtl, Unifac}
 use Rattle.mixture.specs.Memory.{leastValues, leastCells, leastMarks}
-use Rattle.mixture.specs.steps.Refills.{rowCell, staleCell, Refilled, Solved}
+use Rattle.mixture.specs.steps.Refills.{rowCell, cellOf, staleOf, TableFits, Refilled, Solved}
+use Rattle.mixture.specs.declared.refill.Rows.{Rows}
 use Rattle.mixture.proofs.RefillLaws.{last-row, refilled-as}
 
 -- ---- room
@@ -47,10 +49,13 @@ few-room {n} few v c m =
     record { few = few; square = mul-le-mul few few; last = last-row n; values = omega arith; cells = omega arith; marks = omega arith }
 
 -- the table of energies as a refill asks for it, with its cells and marks
-pub energies-lent : {n lv lc lm : ℕ} → Room n lv lc lm → (n ≤ 32) × ((n - 1) * n + n * 5 ≤ lv) × ((n - 1) * n + n ≤ lv) × (n * n ≤ lc) × (n * n ≤ lm)
-energies-lent r = (omega arith, omega arith, omega arith, omega arith, omega arith)
+pub energies-lent : {n : ℕ} (v c : List Float) {lm : ℕ} → Room n (length v) (length c) lm → TableFits n n v v c × (n * n ≤ lm)
+energies-lent v c r = (record { few = omega arith; fives = omega arith; taus = omega arith; room = omega arith }, omega arith)
 
 -- ---- equal entries
+
+abbrev rowsOf : Model → ℕ → ℕ → Float → Float → Rows
+rowsOf k w stride T L = record { model = k; w = w; stride = stride; t = T; ln = L }
 
 -- the row and column of a place
 place-in : (w c : ℕ) → c < w * w → (c / w < w) × (c % w < w)
@@ -71,7 +76,7 @@ module _ (n : ℕ) (v : List Float) (T L : Float) (x : ℕ → Float) (q : Quant
   row-energy h i j b d = energy-row n v T i j (omega (arith, row-end n n i b)) b d
 
   pub wilson-solved : {cells c : List Float} {marks m : List ℕ} {r : ℕ} {a : Float} → n * n + n ≤ length v
-      → Refilled (n * n) (λ c. staleCell Wilson (getD marks c 0) (c / n) (c % n)) (λ c. rowCell Wilson (from (c / n * n) v) (from (c / n * n) v) T L (c / n) (c % n)) cells marks c m r
+      → Refilled (n * n) (staleOf Wilson n marks) (cellOf (rowsOf Wilson n n T L) v v) cells marks c m r
       → a ≡ wilson n (at (from (n * n) v)) (grid n c) x q
       → Solved Wilson n (energy (energies n v) T) (λ E. wilson n (volumes n v) E x q) cells marks c m (record { value = a; count = r })
   unfolding rowCell volumes
@@ -82,7 +87,7 @@ module _ (n : ℕ) (v : List Float) (T L : Float) (x : ℕ → Float) (q : Quant
       }
 
   pub uniquac-solved : {cells c : List Float} {marks m : List ℕ} {r : ℕ} {a : Float} → n * n + n + n ≤ length v
-      → Refilled (n * n) (λ c. staleCell Uniquac (getD marks c 0) (c / n) (c % n)) (λ c. rowCell Uniquac (from (c / n * n) v) (from (c / n * n) v) T L (c / n) (c % n)) cells marks c m r
+      → Refilled (n * n) (staleOf Uniquac n marks) (cellOf (rowsOf Uniquac n n T L) v v) cells marks c m r
       → a ≡ uniquac n (at (from (n * n) v)) (at (from (n * n + n) v)) (grid n c) x q
       → Solved Uniquac n (energy (energies n v) T) (λ E. uniquac n (rs n v) (qs n v) E x q) cells marks c m (record { value = a; count = r })
   unfolding rowCell rs qs
@@ -107,8 +112,8 @@ module _ (n : ℕ) (v : List Float) (T L : Float) (x : ℕ → Float) (q : Quant
         nonrandomness-row n (from (n * n * 5) v) tl i j (omega (arith, from-length (n * n * 5) v, row-end n n i b)) (omega (arith, row-end n n i b)) d
         ∙ nonrandomness-same _ _ _ _ i j (from-at v (n * n * 5) (i * n + j) (omega (arith, cell-lt n n i j b d))) (tau-entry i j b d)
 
-    pub nrtl-solved : {cells c : List Float} {marks m : List ℕ} {r : ℕ} {a : Float} → Refilled (n * n) (λ c. staleCell Nrtl (getD marks c 0) (c / n) (c % n))
-        (λ c. rowCell Nrtl (from (c / n * n) (from (n * n * 5) v)) (from (c / n * n) tl) T L (c / n) (c % n)) cells marks c m r
+    pub nrtl-solved : {cells c : List Float} {marks m : List ℕ} {r : ℕ} {a : Float} → Refilled (n * n) (staleOf Nrtl n marks)
+        (cellOf (rowsOf Nrtl n n T L) (from (n * n * 5) v) tl) cells marks c m r
         → a ≡ nrtl n (grid n tl) (grid n c) x q
         → Solved Nrtl n (nonrandomness (alphas n v) (λ i j. tdAt (taus n v i j) T)) (λ G. nrtl n (λ i j. tdAt (taus n v i j) T) G x q) cells marks c m (record { value = a; count = r })
     unfolding rowCell
@@ -132,8 +137,8 @@ module _ (ng : ℕ) (v : List Float) (T : Float) (L : Float) (h : ng + ng + ng *
       (five-from (from (ng + ng) v) (i * (ng * 5)) (j * 5) (omega (arith, from-length (ng + ng) v, row-end ng ng i b))
       ∙ (five-from v (ng + ng) (i * (ng * 5) + j * 5) (omega (arith, row-end ng ng i b)) ∙ ap (fiveAt v) place))) refl
 
-  pub unifac-solved : {cells c : List Float} {marks m : List ℕ} {r : ℕ} {a : Float} → Refilled (ng * ng) (λ c. staleCell Unifac (getD marks c 0) (c / ng) (c % ng))
-      (λ c. rowCell Unifac (from (c / ng * (ng * 5)) (from (ng + ng) v)) (from (c / ng * (ng * 5)) (from (ng + ng) v)) T L (c / ng) (c % ng)) cells marks c m r
+  pub unifac-solved : {cells c : List Float} {marks m : List ℕ} {r : ℕ} {a : Float} → Refilled (ng * ng) (staleOf Unifac ng marks)
+      (cellOf (rowsOf Unifac ng (ng * 5) T L) (from (ng + ng) v) (from (ng + ng) v)) cells marks c m r
       → a ≡ f (grid ng c)
       → Solved Unifac ng (groupEnergy (λ m k. tdAt (groupAs ng v m k) T) T) f cells marks c m (record { value = a; count = r })
   unifac-solved all e =

@@ -23,9 +23,9 @@ use Rattle.models.specs.Values.{fiveAt}
 use Rattle.models.proofs.ExponentialLaws.{part-more}
 use Rattle.models.specs.declared.model.Model.{Model}
 use Rattle.models.specs.declared.model.Model.the-variants.{Wilson, Uniquac, Nrtl, Unifac}
-use Rattle.models.specs.Model.{byModel}
 use Rattle.mixture.specs.Lists.{howMany}
-use Rattle.mixture.specs.steps.Refills.{rowCell, rowArgument, staleCell, Refilled, Gathered, Moved, Laid, Lifted, OffDiagonalTaken}
+use Rattle.mixture.specs.declared.refill.Rows.{Rows}
+use Rattle.mixture.specs.steps.Refills.{rowCell, rowArgument, staleCell, hasDiagonal, argumentIn, argumentOf, cellOf, staleOf, Refilled, Gathered, Moved, Laid, Lifted, OffDiagonalTaken}
 use Rattle.mixture.proofs.ListLaws.{never, written-as, howMany-le}
 use Rattle.mixture.proofs.refill.FreshLaws.{many-none, many-more, many-skip, many-all, all-of}
 use Rattle.mixture.proofs.RefillLaws.{among, among-in, among-below}
@@ -41,7 +41,7 @@ row-exp Unifac row tau T L i j = refl
 -- ---- a table all of whose cells are worked out: the diagonal's exponentials aren't, since it has no cells
 
 -- a stale cell is off a diagonal that has no cells
-off-diagonal : (k : Model) (mark i j : ℕ) → byModel k false false false true ≡ false → staleCell k mark i j ≡ true → i ≡ j → ⊥
+off-diagonal : (k : Model) (mark i j : ℕ) → hasDiagonal k ≡ false → staleCell k mark i j ≡ true → i ≡ j → ⊥
 unfolding staleCell
 off-diagonal Wilson mark i j d t e = never (sym (rw (eq-eqb i j e) at t))
 off-diagonal Uniquac mark i j d t e = never (sym (rw (eq-eqb i j e) at t))
@@ -119,30 +119,30 @@ exp-off w {l} {a} {b} {m} {n} e h down each up =
 
 -- ---- the table of arguments
 
-module _ (k : Model) (w stride : ℕ) (table tau : List Float) (T L : Float) where
+module _ (g : Rows) (table tau : List Float) where
   -- row i comes back in the middle
-  pub table-more : (i : ℕ) (g ys rest : List Float) → i * w ≤ length g → w ≤ length ys → Filled (rowArgument k (from (i * stride) table) (from (i * stride) tau) T L i) w ys
-      → Filled (λ c. rowArgument k (from (c / w * stride) table) (from (c / w * stride) tau) T L (c / w) (c % w)) (i * w) g
-      → Filled (λ c. rowArgument k (from (c / w * stride) table) (from (c / w * stride) tau) T L (c / w) (c % w)) ((i + 1) * w) (take (i * w) g ++ (ys ++ rest))
-  table-more i g ys rest h y row all =
-      rw (row-next w i)
-      (part-more _ (i * w) w g ys rest h y all (λ j b. row .each j b ∙ sym (rw (cell-row w i j b, cell-column w i j b))))
+  pub table-more : (i : ℕ) (l ys rest : List Float) → i * g .w ≤ length l → g .w ≤ length ys
+      → Filled (argumentIn g (from (i * g .stride) table) (from (i * g .stride) tau) i) (g .w) ys
+      → Filled (argumentOf g table tau) (i * g .w) l → Filled (argumentOf g table tau) ((i + 1) * g .w) (take (i * g .w) l ++ (ys ++ rest))
+  table-more i l ys rest h y row all =
+      rw (row-next (g .w) i)
+      (part-more _ (i * g .w) (g .w) l ys rest h y all (λ j b. row .each j b ∙ sym (rw (cell-row (g .w) i j b, cell-column (g .w) i j b))))
 
   -- exp of each off the diagonal is the exponential of its stale cell
-  pub table-cells : (marks : List ℕ) {l m : List Float} → byModel k false false false true ≡ false
-      → Filled (λ c. rowArgument k (from (c / w * stride) table) (from (c / w * stride) tau) T L (c / w) (c % w)) (w * w) l
-      → OffDiagonalTaken w l m → (c : ℕ) → c < w * w → staleCell k (getD marks c 0) (c / w) (c % w) ≡ true
-      → at m c ≡ rowCell k (from (c / w * stride) table) (from (c / w * stride) tau) T L (c / w) (c % w)
+  pub table-cells : (marks : List ℕ) {l m : List Float} → hasDiagonal (g .model) ≡ false
+      → Filled (argumentOf g table tau) (g .w * g .w) l → OffDiagonalTaken (g .w) l m
+      → (c : ℕ) → c < g .w * g .w → staleOf (g .model) (g .w) marks c ≡ true → at m c ≡ cellOf g table tau c
   table-cells marks {l} {m} d args taken c b t =
+      let w = g .w in
       let some : 0 < w = wide c b in
       let place : c / w * w + c % w ≡ c = div-add-mod' c w in
-      let here = taken .each (c / w) (c % w) (div-lt-iff-lt-mul {k = w} {x = c} {y = w} some .1 b) (mod-lt c some) (off-diagonal k (getD marks c 0) (c / w) (c % w) d t) in
-      subst (λ (z : ℕ). at m z ≡ expOf (at l z)) place here ∙ ap expOf (args .each c b) ∙ row-exp k _ _ T L (c / w) (c % w)
+      let here = taken .each (c / w) (c % w) (div-lt-iff-lt-mul {k = w} {x = c} {y = w} some .1 b) (mod-lt c some) (off-diagonal (g .model) (getD marks c 0) (c / w) (c % w) d t) in
+      subst (λ (z : ℕ). at m z ≡ expOf (at l z)) place here ∙ ap expOf (args .each c b) ∙ row-exp (g .model) _ _ (g .t) (g .ln) (c / w) (c % w)
     where
-      wide : (c : ℕ) → c < w * w → 0 < w
-      wide c b = elim (le-or w 0) [ inl z ↦ let e : w ≡ 0 = omega arith in absurd (none e b) | inr z ↦ z ]
+      wide : (c : ℕ) → c < g .w * g .w → 0 < g .w
+      wide c b = elim (le-or (g .w) 0) [ inl z ↦ let e : g .w ≡ 0 = omega arith in absurd (none e b) | inr z ↦ z ]
         where
-          none : w ≡ 0 → c < w * w → ⊥
+          none : g .w ≡ 0 → c < g .w * g .w → ⊥
           none e b = let b′ = rw e at b in omega arith
 
 -- ---- counting: before a place that passes there are fewer
@@ -230,7 +230,7 @@ gathered-all n p f {l} e q all = record {
 }
 
 -- the model whose diagonal has cells is UNIFAC, whose arguments these are
-pub unifac-arguments : (k : Model) (row tau : List Float) (T L : Float) (i : ℕ) {w : ℕ} {l : List Float} → byModel k false false false true ≡ true
+pub unifac-arguments : (k : Model) (row tau : List Float) (T L : Float) (i : ℕ) {w : ℕ} {l : List Float} → hasDiagonal k ≡ true
     → Filled (λ j. neg (tdBy (fiveAt row (j * 5)) T L) ⊘ T) w l → Filled (rowArgument k row tau T L i) w l
 unfolding rowArgument
 unifac-arguments Wilson row tau T L i d all = never (sym d)

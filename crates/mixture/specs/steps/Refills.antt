@@ -1,17 +1,17 @@
 -- A query's inner steps: the stale cells of some places worked out, through parts that start at a row.
 use mathlib.Core.Path.{_≡_}
-use mathlib.Core.Bool.{Bool, true, not, _&&_}
+use mathlib.Core.Bool.{Bool, true, false, not, _&&_}
 use mathlib.Core.List.{List}
 use Prim.Native.Nat.{ℕ, _+_, _*_, _-_, _/_, _%_, _<_, _≤_}
 use lib.Dec.{ltb, eqb}
-use lib.ListN.{getD}
+use lib.ListN.{length, getD}
 use lib.Ieee.{Float, neg}
 use Rattle.arithmetic.specs.Exponential.{expOf}
 use Rattle.arithmetic.specs.Floats.{_⊖_, _⊗_, _⊘_}
 use Rattle.arithmetic.specs.Parameters.{tdBy}
 use denote.Ref.{RefT, now}
 use denote.Triple.Both.{Both}
-use Rattle.arithmetic.specs.Tables.{Table, at, grid}
+use Rattle.arithmetic.specs.Tables.{Table, Vector, at, from, grid}
 use Rattle.models.specs.declared.answers.Quantity.{Quantity}
 use Rattle.models.specs.Exponentials.{energy, nonrandomness}
 use Rattle.models.specs.Values.{start, fiveAt}
@@ -19,9 +19,11 @@ use Rattle.models.specs.steps.Unifac.{psiBy}
 use Rattle.mixture.specs.declared.head.Head.{Head}
 use Rattle.models.specs.declared.model.Model.{Model}
 use Rattle.mixture.specs.declared.query.Worked.{Worked}
+use Rattle.mixture.specs.declared.refill.Rows.{Rows}
 use Rattle.mixture.specs.Lists.{written, howMany}
 use Rattle.mixture.specs.Holdings.{held}
 use Rattle.mixture.specs.Cells.{width}
+use Rattle.models.specs.Limits.{mostComponents, mostGroups}
 use Rattle.models.specs.Model.{byModel}
 use Rattle.mixture.specs.Memory.{Memory}
 use Rattle.mixture.specs.Layout.{dataIn}
@@ -46,6 +48,10 @@ hasCell k i j = byModel k (not (eqb i j)) (not (eqb i j)) (not (eqb i j)) true
 -- and its mark makes it stale
 unfoldable pub staleCell : Model → ℕ → ℕ → ℕ → Bool
 staleCell k mark i j = hasCell k i j && not (eqb mark 1)
+
+-- the diagonal has cells
+abbrev pub hasDiagonal : Model → Bool
+hasDiagonal k = byModel k false false false true
 
 -- the mark at c is other than 1
 abbrev pub unmarked : List ℕ → ℕ → Bool
@@ -79,13 +85,106 @@ Lifted w l l′ = Moved (λ i. (w - 1) * w + i) (λ i. i * w + i) (w - 1) l l′
 pub record OffDiagonalTaken (w : ℕ) (l l′ : List Float) : Type 0 where
   pub each : (i j : ℕ) → i < w → j < w → (i ≡ j → ⊥) → grid w l′ i j ≡ expOf (grid w l i j)
 
+-- ---- a row, through parts that start at it, and a table by w rows, of whose inputs row i starts at i·stride
+
+-- what its cells hold, and are the exp of
+abbrev pub cellIn : Rows → List Float → List Float → ℕ → ℕ → Float
+cellIn g row tau i j = rowCell (g .model) row tau (g .t) (g .ln) i j
+
+abbrev pub cellOf : Rows → List Float → List Float → ℕ → Float
+cellOf g table tau c =
+    cellIn g (from (c / g .w * g .stride) table) (from (c / g .w * g .stride) tau) (c / g .w) (c % g .w)
+
+abbrev pub argumentIn : Rows → List Float → List Float → ℕ → ℕ → Float
+argumentIn g row tau i j = rowArgument (g .model) row tau (g .t) (g .ln) i j
+
+abbrev pub argumentOf : Rows → List Float → List Float → ℕ → Float
+argumentOf g table tau c =
+    argumentIn g (from (c / g .w * g .stride) table) (from (c / g .w * g .stride) tau) (c / g .w) (c % g .w)
+
+-- its stale cells, and their number
+abbrev pub staleIn : Model → List ℕ → ℕ → ℕ → Bool
+staleIn k marks i j = staleCell k (getD marks j 0) i j
+
+abbrev pub staleOf : Model → ℕ → List ℕ → ℕ → Bool
+staleOf k w marks c = staleCell k (getD marks c 0) (c / w) (c % w)
+
+abbrev pub rowCount : Model → ℕ → List ℕ → ℕ → ℕ
+rowCount k w marks i = howMany w (staleIn k marks i)
+
+abbrev pub tableCount : Model → ℕ → List ℕ → ℕ
+tableCount k w marks = howMany (w * w) (staleOf k w marks)
+
+-- what stands in l for place j, one after the other for those that pass
+abbrev pub packed : (ℕ → Bool) → List Float → ℕ → Float
+packed p l j = at l (howMany j p)
+
+-- the inputs of row i, which is one of w, and a slice of so many places
+pub record RowFits (w i : ℕ) (row tau out : List Float) : Type 0 where
+  pub inside : i < w
+  pub few : w ≤ mostGroups
+  pub fives : w * 5 ≤ length row
+  pub taus : w ≤ length tau
+  pub room : w ≤ length out
+
+-- the inputs of w rows, and a slice of w·w places
+pub record TableFits (w stride : ℕ) (table tau out : List Float) : Type 0 where
+  pub few : w ≤ mostGroups
+  pub fives : (w - 1) * stride + w * 5 ≤ length table
+  pub taus : (w - 1) * stride + w ≤ length tau
+  pub room : w * w ≤ length out
+
+-- all cells of a model's few rows are stale, none of them on the diagonal, and r is their number
+pub record AllStale (g : Rows) (marks : List ℕ) (r : ℕ) : Type 0 where
+  pub some : 1 ≤ g .w
+  pub few : g .w ≤ mostComponents
+  pub apart : hasDiagonal (g .model) ≡ false
+  pub whole : r ≡ (g .w - 1) * g .w
+  pub counted : r ≡ tableCount (g .model) (g .w) marks
+
+-- ---- of slices before and after a call
+
+-- floats that are read, floats and marks that are written
+abbrev Lent : Type 0 → Type 0
+Lent A = Both (RefT (List Float)) A
+
+abbrev Floats : Type 0
+Floats = Both (RefT (List Float)) (RefT (List Float))
+
+abbrev Marks : Type 0
+Marks = Both (RefT (List ℕ)) (RefT (List ℕ))
+
+abbrev pub Refills : ℕ → (ℕ → Bool) → Vector → Floats → Marks → ℕ → Type 0
+Refills n p f cells marks r = Refilled n p f (now (cells .entry)) (now (marks .entry)) (now (cells .exit)) (now (marks .exit)) r
+
+abbrev pub RowRefilled : {A B : Type 0} → Rows → Lent A → Lent B → ℕ → Floats → Marks → ℕ → Type 0
+RowRefilled g row tau i cells marks r =
+    Refills (g .w) (staleIn (g .model) (now (marks .entry)) i) (cellIn g (now (row .entry)) (now (tau .entry)) i) cells marks r
+
+abbrev pub TableRefilled : {A B : Type 0} → Rows → Lent A → Lent B → Floats → Marks → ℕ → Type 0
+TableRefilled g table tau cells marks r =
+    Refills (g .w * g .w) (staleOf (g .model) (g .w) (now (marks .entry))) (cellOf g (now (table .entry)) (now (tau .entry))) cells marks r
+
+-- from a slice, and nothing is counted
+abbrev pub RowTaken : Model → ℕ → Vector → ℕ → Floats → Marks → Type 0
+RowTaken k w f i cells marks =
+    Refills w (staleIn k (now (marks .entry)) i) f cells marks (rowCount k w (now (marks .entry)) i)
+
+abbrev pub TableTaken : Model → ℕ → Vector → Floats → Marks → Type 0
+TableTaken k w f cells marks =
+    Refills (w * w) (staleOf k w (now (marks .entry))) f cells marks (tableCount k w (now (marks .entry)))
+
+abbrev pub RowGathered : {A B C D : Type 0} → Rows → Lent A → Lent B → Both (RefT (List ℕ)) C → ℕ → Both D (RefT (List Float)) → ℕ → Type 0
+RowGathered g row tau marks i out r =
+    Gathered (g .w) (staleIn (g .model) (now (marks .entry)) i) (argumentIn g (now (row .entry)) (now (tau .entry)) i) (now (out .exit)) r
+
 -- the cells of a model with w rows, worked out by E, and the value f of the table that they make with the others
 pub record Solved (k : Model) (w : ℕ) (E : Table) (f : Table → Float) (cells : List Float) (marks : List ℕ) (cells′ : List Float) (marks′ : List ℕ) (r : Worked) : Type 0 where
-  pub refilled : Refilled (w * w) (λ c. staleCell k (getD marks c 0) (c / w) (c % w)) (λ c. E (c / w) (c % w)) cells marks cells′ marks′ (r .count)
+  pub refilled : Refilled (w * w) (staleOf k w marks) (λ c. E (c / w) (c % w)) cells marks cells′ marks′ (r .count)
   pub solved : r .value ≡ f (grid w cells′)
 
 -- the same, of slices before and after a call
-abbrev pub Solves : Model → ℕ → Table → (Table → Float) → Both (RefT (List Float)) (RefT (List Float)) → Both (RefT (List ℕ)) (RefT (List ℕ)) → Worked → Type 0
+abbrev pub Solves : Model → ℕ → Table → (Table → Float) → Floats → Marks → Worked → Type 0
 Solves k w E f cells marks r = Solved k w E f (now (cells .entry)) (now (marks .entry)) (now (cells .exit)) (now (marks .exit)) r
 
 -- what UNIFAC's head has shown where it is in range

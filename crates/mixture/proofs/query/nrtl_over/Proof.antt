@@ -26,10 +26,12 @@ refill-requires c κs =
     let filled = c .before .before .before .before .before .before in
     let s = entry filled in
     let r = room s in (
-      omega (arith, r),
-      omega (arith, r, from-length (s .args .n * s .args .n * 5) (now (s .args .values))),
-      omega (arith, r, filled .fill-taus .kept, s .pre .1),
-      omega (arith, r),
+      record {
+        few = omega (arith, r);
+        fives = omega (arith, r, from-length (s .args .n * s .args .n * 5) (now (s .args .values)));
+        taus = omega (arith, r, filled .fill-taus .kept, s .pre .1);
+        room = omega (arith, r);
+      },
       omega (arith, r),
     )
 

@@ -31,7 +31,7 @@ refill-requires c κs =
     let s = c .before .before .before .before .before .before .before in
     let r = room s in
     let l = from-length (s .args .ng + s .args .ng) (now (s .args .values)) in
-    (r .3, omega (arith, r, l), omega (arith, r, l), omega (arith, r), omega (arith, r))
+    (record { few = r .3; fives = omega (arith, r, l); taus = omega (arith, r, l); room = omega (arith, r) }, omega (arith, r))
 
 value-over-requires : tie.Need-value-over-requires
 unfolding countsAt

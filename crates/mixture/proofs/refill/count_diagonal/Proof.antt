@@ -14,10 +14,10 @@ use Rattle.mixture.proofs.refill.count_diagonal.Statement.{statement}
 use Rattle.mixture.proofs.refill.count_diagonal.Tie as tie
 
 abbrev Inv-loop : tie.InvT-loop
-Inv-loop marks w count₀ i₀ count i = (i ≤ w) × (count ≡ howMany i (λ i. unmarked marks (i * w + i)))
+Inv-loop w marks count₀ i₀ count i = (i ≤ w) × (count ≡ howMany i (λ i. unmarked marks (i * w + i)))
 
 abbrev μ-loop : tie.MeasureT-loop
-μ-loop marks w count₀ i₀ count i = w - i
+μ-loop w marks count₀ i₀ count i = w - i
 
 -- place i of row i is below 1,024 and within the marks
 within : (c : tie.In-loop Inv-loop μ-loop) → let a = c .before .before .args in let i = c .before .loop .i in (i * a .w + i < length (now (a .marks))) × (i * a .w + i < 1024)

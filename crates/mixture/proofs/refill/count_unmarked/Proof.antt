@@ -10,10 +10,10 @@ use Rattle.mixture.proofs.refill.count_unmarked.Statement.{statement}
 use Rattle.mixture.proofs.refill.count_unmarked.Tie as tie
 
 abbrev Inv-loop : tie.InvT-loop
-Inv-loop marks n count₀ c₀ count c = (c ≤ n) × (count ≡ howMany c (unmarked marks))
+Inv-loop n marks count₀ c₀ count c = (c ≤ n) × (count ≡ howMany c (unmarked marks))
 
 abbrev μ-loop : tie.MeasureT-loop
-μ-loop marks n count₀ c₀ count c = n - c
+μ-loop n marks count₀ c₀ count c = n - c
 
 loop-again : tie.Need-loop-again Inv-loop μ-loop
 loop-again c =

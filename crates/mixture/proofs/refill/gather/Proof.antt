@@ -4,18 +4,18 @@ use mathlib.Core.Logic.{⊎-elim}
 use Prim.Native.Nat.{_-_, _≤_}
 use native.Mathlib.Omega.{arith}
 use borrow.Author.Needs.{needs}
-use lib.ListN.{length, getD}
-use Rattle.mixture.specs.steps.Refills.{rowArgument, staleCell}
+use lib.ListN.{length}
+use Rattle.mixture.specs.steps.Refills.{argumentIn, staleIn}
 use Rattle.mixture.proofs.refill.GatherLaws.{Gathering, gathering-none, gathering-more, gathering-skip, gathered-done, gathered-count}
 use Rattle.mixture.proofs.refill.gather.Statement.{statement}
 use Rattle.mixture.proofs.refill.gather.Tie as tie
 
 abbrev Inv-loop : tie.InvT-loop
-Inv-loop model w i row tau t ln marks out₀ count₀ j₀ out count j =
-    (j ≤ w) × Gathering (length out₀) j (λ k. staleCell model (getD marks k 0) i k) (rowArgument model row tau t ln i) out count
+Inv-loop rows row tau marks i out₀ model count₀ j₀ j-end out count j =
+    (j ≤ rows .w) × Gathering (length out₀) j (staleIn (rows .model) marks i) (argumentIn rows row tau i) out count
 
 abbrev μ-loop : tie.MeasureT-loop
-μ-loop model w i row tau t ln marks out₀ count₀ j₀ out count j = w - j
+μ-loop rows row tau marks i out₀ model count₀ j₀ j-end out count j = rows .w - j
 
 loop-again : tie.Need-loop-again Inv-loop μ-loop
 loop-again c =

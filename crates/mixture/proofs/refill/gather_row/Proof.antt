@@ -8,10 +8,10 @@ use Rattle.mixture.proofs.refill.gather_row.Tie as tie
 returns : tie.Need-returns
 returns c =
     let fill = c .before .before in
-    let told = fill .before .before .before in
+    let told = fill .before .before .before .before in
     let s = told .before .before .before .before .before .before in
-    gathered-all _ _ _ (s .pre .6) (fill .before .before .if2 .taken)
-    (unifac-arguments (s .args .model) _ _ _ _ _ (sym (told .before .has-diagonal .ensures) ∙ told .if1 .taken) (fill .fill-arguments .ensures))
+    gathered-all _ _ _ (s .pre .2) (fill .before .before .if2 .taken)
+    (unifac-arguments (s .args .rows .model) _ _ _ _ _ (sym (told .before .has-diagonal .ensures) ∙ told .if1 .taken) (fill .fill-arguments .ensures))
 
 pub gather-row-spec : {M : Type 1} → statement M
 gather-row-spec =
@@ -25,4 +25,4 @@ gather-row-spec =
     (λ c. search needs)
     (λ c.
     let got = c .before .before in
-    gathered-count (got .before .before .before .before .before .before .before .before .pre .6) (got .gather .ensures)))
+    gathered-count (got .before .before .before .before .before .before .before .before .pre .2) (got .gather .ensures)))

@@ -5,20 +5,18 @@ use Prim.Native.Nat.{_-_, _≤_}
 use native.Mathlib.Omega.{arith}
 use borrow.Author.Needs.{needs}
 use denote.Ref.{now}
-use lib.ListN.{getD}
 use Rattle.arithmetic.specs.Tables.{at}
-use Rattle.mixture.specs.Lists.{howMany}
-use Rattle.mixture.specs.steps.Refills.{staleCell}
+use Rattle.mixture.specs.steps.Refills.{staleIn, packed}
 use Rattle.mixture.proofs.RefillLaws.{Refilling, refilling, refilled-none, refilled-end, row-more, row-skip}
 use Rattle.mixture.proofs.refill.put_stale.Statement.{statement}
 use Rattle.mixture.proofs.refill.put_stale.Tie as tie
 
 abbrev Inv-loop : tie.InvT-loop
-Inv-loop model w i worked cells₀ marks₀ count₀ j₀ cells marks count j =
-    (j ≤ w) × Refilling j (λ k. staleCell model (getD marks₀ k 0) i k) (λ k. at worked (howMany k (λ k. staleCell model (getD marks₀ k 0) i k))) cells₀ marks₀ cells marks count
+Inv-loop model w worked i cells₀ marks₀ count₀ j₀ cells marks count j =
+    (j ≤ w) × Refilling j (staleIn model marks₀ i) (packed (staleIn model marks₀ i) worked) cells₀ marks₀ cells marks count
 
 abbrev μ-loop : tie.MeasureT-loop
-μ-loop model w i worked cells₀ marks₀ count₀ j₀ cells marks count j = w - j
+μ-loop model w worked i cells₀ marks₀ count₀ j₀ cells marks count j = w - j
 
 loop-again : tie.Need-loop-again Inv-loop μ-loop
 loop-again c =

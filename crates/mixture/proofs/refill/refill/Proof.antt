@@ -11,15 +11,16 @@ refill-whole-requires : tie.Need-refill-whole-requires
 refill-whole-requires c κs =
     let whole = c .before .before .before in
     let long = whole .before .before .before .before in
-    let p = long .before .before .before .before .before .pre in
+    let p = long .before .before .before .before .before .before .pre in
     let told = whole .is-whole .ensures (c .before .before .if3 .taken) in
-    (omega (arith, long .if1 .taken), told .0, p .1, p .2, told .1, told .2, p .3, p .4, whole .before .before .count-table .ensures)
+    let all = whole .before .before .count-table .ensures in
+    (record { some = omega (arith, long .if1 .taken); few = told .0; apart = told .2; whole = told .1; counted = all }, p .0, p .1)
 
 pub refill-spec : {M : Type 1} → statement M
 refill-spec =
     tie.close
     (tie.spec
-    (λ c κs. let p = c .before .before .before .before .before .before .pre in (p .0, p .4))
+    (λ c κs. let p = c .before .before .before .before .before .before .before .pre in (p .0 .few, p .1))
     (λ c. search needs)
     (λ c. refilled-fresh _ _ _ _ _ (none-of _ _ (sym (c .before .count-table .ensures) ∙ c .if2 .taken)))
     (λ c κs. search needs)

@@ -5,18 +5,17 @@ use Prim.Native.Nat.{_-_, _≤_}
 use native.Mathlib.Nat.{le-antisymm}
 use native.Mathlib.Omega.{arith}
 use borrow.Author.Needs.{needs}
-use lib.ListN.{getD}
-use Rattle.mixture.specs.steps.Refills.{rowCell, staleCell}
+use Rattle.mixture.specs.steps.Refills.{cellIn, staleIn}
 use Rattle.mixture.proofs.RefillLaws.{Refilling, refilling, refilled-none, row-more, row-skip}
 use Rattle.mixture.proofs.refill.refill_cells.Statement.{statement}
 use Rattle.mixture.proofs.refill.refill_cells.Tie as tie
 
 abbrev Inv-loop : tie.InvT-loop
-Inv-loop model w i row tau t ln cells₀ marks₀ count₀ j₀ cells marks count j =
-    (j ≤ w) × Refilling j (λ k. staleCell model (getD marks₀ k 0) i k) (rowCell model row tau t ln i) cells₀ marks₀ cells marks count
+Inv-loop rows row tau i cells₀ marks₀ model count₀ j₀ j-end cells marks count j =
+    (j ≤ rows .w) × Refilling j (staleIn (rows .model) marks₀ i) (cellIn rows row tau i) cells₀ marks₀ cells marks count
 
 abbrev μ-loop : tie.MeasureT-loop
-μ-loop model w i row tau t ln cells₀ marks₀ count₀ j₀ cells marks count j = w - j
+μ-loop rows row tau i cells₀ marks₀ model count₀ j₀ j-end cells marks count j = rows .w - j
 
 loop-again : tie.Need-loop-again Inv-loop μ-loop
 loop-again c =

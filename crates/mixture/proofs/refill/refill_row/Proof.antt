@@ -12,18 +12,18 @@ use Rattle.mixture.proofs.refill.refill_row.Tie as tie
 exp-each-requires : tie.Need-exp-each-requires
 exp-each-requires c κs =
     let got = c .before .before in
-    let s = got .before .before .before .before .before .before .before .before .before .before .before in
-    omega (arith, gathered-few (got .gather-row .ensures), s .pre .1, got .gather-row .kept)
+    let s = got .before .before .before .before .before .before .before .before .before .before .before .before in
+    omega (arith, gathered-few (got .gather-row .ensures), s .pre .0 .few, got .gather-row .kept)
 
 returns-3 : tie.Need-returns-3
 returns-3 c =
     let put = c .before .before .before .before in
     let each = put .before .before .before .before .before in
     let got = each .before .before .before in
-    let s = got .before .before .before .before .before .before .before .before .before .before .before in
+    let s = got .before .before .before .before .before .before .before .before .before .before .before .before in
     refilled-count (got .before .before .before .before .count-row .ensures)
     (refilled-where _ _ _ _ _ _
-    (gathered-exp (omega (arith, gathered-few (got .gather-row .ensures), s .pre .1, got .gather-row .kept)) (got .gather-row .ensures) (λ j. row-exp _ _ _ _ _ _ j) (each .exp-each .ensures))
+    (gathered-exp (omega (arith, gathered-few (got .gather-row .ensures), s .pre .0 .few, got .gather-row .kept)) (got .gather-row .ensures) (λ j. row-exp _ _ _ _ _ _ j) (each .exp-each .ensures))
     (put .put-stale .ensures))
 
 pub refill-row-spec : {M : Type 1} → statement M

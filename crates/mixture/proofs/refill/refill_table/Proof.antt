@@ -13,9 +13,9 @@ returns c =
     let fill = taken .before .before .before .before in
     let s = fill .before .before .before .before .before .before .before in
     let a = s .args in
-    refilled-count (s .pre .9)
+    refilled-count (s .pre .0 .counted)
     (refilled-where _ _ _ _ _ _
-    (table-cells (a .model) (a .w) (a .stride) (now (a .table)) (now (a .tau)) (a .t) (a .ln) (now (a .marks)) (s .pre .5) (fill .fill-table .ensures) (taken .exp-off-diagonal .ensures))
+    (table-cells (a .rows) (now (a .table)) (now (a .tau)) (now (a .marks)) (s .pre .0 .apart) (fill .fill-table .ensures) (taken .exp-off-diagonal .ensures))
     (take .take-rows .ensures))
 
 pub refill-table-spec : {M : Type 1} → statement M

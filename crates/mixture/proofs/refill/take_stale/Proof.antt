@@ -4,20 +4,19 @@ use mathlib.Core.Logic.{⊎-elim}
 use Prim.Native.Nat.{_-_, _≤_}
 use native.Mathlib.Omega.{arith}
 use borrow.Author.Needs.{needs}
-use lib.ListN.{getD}
 use Rattle.arithmetic.specs.Tables.{at}
 use Rattle.mixture.specs.Lists.{howMany}
-use Rattle.mixture.specs.steps.Refills.{staleCell}
+use Rattle.mixture.specs.steps.Refills.{staleIn}
 use Rattle.mixture.proofs.RefillLaws.{Refilling, refilling, refilling-count, refilled-none, refilled-end, row-more, row-skip}
 use Rattle.mixture.proofs.refill.take_stale.Statement.{statement}
 use Rattle.mixture.proofs.refill.take_stale.Tie as tie
 
 abbrev Inv-loop : tie.InvT-loop
-Inv-loop model w i worked cells₀ marks₀ j₀ cells marks j =
-    (j ≤ w) × Refilling j (λ k. staleCell model (getD marks₀ k 0) i k) (at worked) cells₀ marks₀ cells marks (howMany j (λ k. staleCell model (getD marks₀ k 0) i k))
+Inv-loop model w worked i cells₀ marks₀ j₀ cells marks j =
+    (j ≤ w) × Refilling j (staleIn model marks₀ i) (at worked) cells₀ marks₀ cells marks (howMany j (staleIn model marks₀ i))
 
 abbrev μ-loop : tie.MeasureT-loop
-μ-loop model w i worked cells₀ marks₀ j₀ cells marks j = w - j
+μ-loop model w worked i cells₀ marks₀ j₀ cells marks j = w - j
 
 loop-again : tie.Need-loop-again Inv-loop μ-loop
 loop-again c =
