@@ -1,21 +1,19 @@
-// A query: works out every stale cell, marks it fresh, and answers with the value and the number of cells worked.
+// A query: works out every stale cell, marks it fresh, and answers with the value and the number of cells
+// worked.
 ghost use mathlib.Core.Path.{_≡_};
 ghost use Prim.Native.Nat.{_*_, _≤_};
 ghost use lib.ListN.{length};
-ghost use Rattle.arithmetic.specs.Parameters.{tdAt};
 ghost use Rattle.arithmetic.specs.Tables.{at, from};
-ghost use Rattle.models.specs.Limits.{mostComponents};
-ghost use Rattle.models.specs.Faults.{indexFault};
 ghost use Rattle.models.specs.Exponentials.{energy, nonrandomness, groupEnergy};
-ghost use Rattle.models.specs.Values.{energies, volumes, rs, qs, taus, alphas, lists, countsAt, groupRs, groupQs, groupAs};
+ghost use Rattle.models.specs.Values.{energies, volumes, rs, qs, alphas, lists, countsAt, groupRs, groupQs};
 ghost use Rattle.models.specs.Wilson.{wilson as W·wilson};
 ghost use Rattle.models.specs.Uniquac.{uniquac as U·uniquac};
 ghost use Rattle.models.specs.Nrtl.{nrtl as N·nrtl};
 ghost use Rattle.models.specs.Unifac.{unifac as F·unifac};
-ghost use Rattle.mixture.specs.Memory.{Memory, OfLengths, memory, after, leastValues, leastCells, leastMarks, before, later, left};
+ghost use Rattle.mixture.specs.Memory.{memory, after, before, later, left};
 ghost use Rattle.mixture.specs.Calls.{afterQuery};
 ghost use Rattle.mixture.specs.Faults.{queryFault};
-ghost use Rattle.mixture.specs.steps.Refills.{Ranged, Solves, Answered};
+ghost use Rattle.mixture.specs.steps.Refills.{tausAt, groupsAt, Asked, Ranged, Solves, Answered};
 use crate::answers::Answer;
 use crate::answers::Reply;
 use crate::faults::query_fault;
@@ -45,10 +43,11 @@ fn wilson(
     cells: &mut [f64],
     marks: &mut [u8],
 ) -> Worked
-    requires { ⌜ (n ≤ mostComponents) × (indexFault n q ≡ 0) × (leastValues ≤ length (now values)) × (leastCells ≤ length (now cells)) × (leastMarks ≤ length (now marks)) ⌝ }
+    requires { ⌜ Asked n q (now values) (now cells) (now marks) ⌝ }
     ensures { λ r.
         let v = now (values .entry) in
-        ⌜ Solves Model.Wilson n (energy (energies n v) t) (λ E. W·wilson n (volumes n v) E (at x) q) cells marks r ⌝ }
+        ⌜ Solves Model.Wilson n (energy (energies n v) t)
+        (λ E. W·wilson n (volumes n v) E (at x) q) cells marks r ⌝ }
 {
     let rows = Rows {
         model: Model::Wilson,
@@ -73,8 +72,11 @@ fn uniquac(
     cells: &mut [f64],
     marks: &mut [u8],
 ) -> Worked
-    requires { ⌜ (n ≤ mostComponents) × (indexFault n q ≡ 0) × (leastValues ≤ length (now values)) × (leastCells ≤ length (now cells)) × (leastMarks ≤ length (now marks)) ⌝ }
-    ensures { λ r. ⌜ Solves Model.Uniquac n (energy (energies n (now (values .entry))) t) (λ E. U·uniquac n (rs n (now (values .entry))) (qs n (now (values .entry))) E (at x) q) cells marks r ⌝ }
+    requires { ⌜ Asked n q (now values) (now cells) (now marks) ⌝ }
+    ensures { λ r.
+        let v = now (values .entry) in
+        ⌜ Solves Model.Uniquac n (energy (energies n v) t)
+        (λ E. U·uniquac n (rs n v) (qs n v) E (at x) q) cells marks r ⌝ }
 {
     let rows = Rows {
         model: Model::Uniquac,
@@ -97,7 +99,8 @@ fn uniquac(
     Worked { value, count }
 }
 
-// NRTL's value and count, with a table that τ at T is written to: no cell keeps it, and it is worked out once for both.
+// NRTL's value and count, with a table that τ at T is written to: no cell keeps it, and it is worked out once
+// for both.
 fn nrtl_over(
     n: usize,
     t: f64,
@@ -108,8 +111,13 @@ fn nrtl_over(
     cells: &mut [f64],
     marks: &mut [u8],
 ) -> Worked
-    requires { ⌜ (n ≤ mostComponents) × (n * n ≤ length (now tau)) × (indexFault n q ≡ 0) × (leastValues ≤ length (now values)) × (leastCells ≤ length (now cells)) × (leastMarks ≤ length (now marks)) × (n ≤ length (now x)) ⌝ }
-    ensures { λ r. ⌜ Solves Model.Nrtl n (nonrandomness (alphas n (now (values .entry))) (λ i j. tdAt (taus n (now (values .entry)) i j) t)) (λ G. N·nrtl n (λ i j. tdAt (taus n (now (values .entry)) i j) t) G (at (now (x .entry))) q) cells marks r ⌝ }
+    requires { ⌜ Asked n q (now values) (now cells) (now marks)
+        × (n ≤ length (now x))
+        × (n * n ≤ length (now tau)) ⌝ }
+    ensures { λ r.
+        let v = now (values .entry) in
+        ⌜ Solves Model.Nrtl n (nonrandomness (alphas n v) (tausAt n v t))
+        (λ G. N·nrtl n (tausAt n v t) G (at (now (x .entry))) q) cells marks r ⌝ }
 {
     models::nrtl::fill_taus(n, values, t, tau);
     let place = n * n * 5;
@@ -135,8 +143,11 @@ fn nrtl(
     cells: &mut [f64],
     marks: &mut [u8],
 ) -> Worked
-    requires { ⌜ (n ≤ mostComponents) × (indexFault n q ≡ 0) × (leastValues ≤ length (now values)) × (leastCells ≤ length (now cells)) × (leastMarks ≤ length (now marks)) ⌝ }
-    ensures { λ r. ⌜ Solves Model.Nrtl n (nonrandomness (alphas n (now (values .entry))) (λ i j. tdAt (taus n (now (values .entry)) i j) t)) (λ G. N·nrtl n (λ i j. tdAt (taus n (now (values .entry)) i j) t) G (at x) q) cells marks r ⌝ }
+    requires { ⌜ Asked n q (now values) (now cells) (now marks) ⌝ }
+    ensures { λ r.
+        let v = now (values .entry) in
+        ⌜ Solves Model.Nrtl n (nonrandomness (alphas n v) (tausAt n v t))
+        (λ G. N·nrtl n (tausAt n v t) G (at x) q) cells marks r ⌝ }
 {
     if n < 5 {
         let mut few = [0.0; 16];
@@ -159,8 +170,12 @@ fn unifac(
     cells: &mut [f64],
     marks: &mut [u8],
 ) -> Worked
-    requires { ⌜ (Ranged n ng lens groups) × (indexFault n q ≡ 0) × (leastValues ≤ length (now values)) × (leastCells ≤ length (now cells)) × (leastMarks ≤ length (now marks)) ⌝ }
-    ensures { λ r. ⌜ Solves Model.Unifac ng (groupEnergy (λ m k. tdAt (groupAs ng (now (values .entry)) m k) t) t) (λ Ψ. F·unifac n ng (lists lens groups (from (countsAt ng) (now (values .entry)))) (groupRs ng (now (values .entry))) (groupQs ng (now (values .entry))) Ψ (at x) q) cells marks r ⌝ }
+    requires { ⌜ Ranged n ng lens groups × Asked n q (now values) (now cells) (now marks) ⌝ }
+    ensures { λ r.
+        let v = now (values .entry) in
+        let c = lists lens groups (from (countsAt ng) v) in
+        ⌜ Solves Model.Unifac ng (groupEnergy (groupsAt ng v t) t)
+        (λ Ψ. F·unifac n ng c (groupRs ng v) (groupQs ng v) Ψ (at x) q) cells marks r ⌝ }
 {
     let ln = arithmetic::log(t);
     let place = ng + ng;
@@ -209,7 +224,8 @@ fn solve(values: &[f64], cells: &mut [f64], marks: &mut [u8], head: Head, q: Qua
 
 // What a query does to cells and marks, and its answer.
 fn answered(values: &[f64], cells: &mut [f64], marks: &mut [u8], head: Head, q: Quantity) -> Answer
-    ensures { λ r. ⌜ after (later values cells marks) head r ≡ afterQuery (before values cells marks) head q ⌝ }
+    ensures { λ r.
+        ⌜ after (later values cells marks) head r ≡ afterQuery (before values cells marks) head q ⌝ }
 {
     let fault = query_fault(values.len(), cells.len(), marks.len(), head, q);
     if fault != 0 {
@@ -219,9 +235,10 @@ fn answered(values: &[f64], cells: &mut [f64], marks: &mut [u8], head: Head, q: 
     Answer::Value(worked.value, worked.count)
 }
 
-// Works out every stale cell and answers with the value and their number. Both branches are the same on purpose (any test would
-// do): `answered` is called in two places, so that the compiler keeps it apart and puts this function into its callers. It is
-// handed a copy of the head, so that the head itself needn't be put together in memory before it goes back.
+// Works out every stale cell and answers with the value and their number. Both branches are the same on
+// purpose (any test would do): `answered` is called in two places, so that the compiler keeps it apart and
+// puts this function into its callers. It is handed a copy of the head, so that the head itself needn't be
+// put together in memory before it goes back.
 pub fn query(values: &[f64], cells: &mut [f64], marks: &mut [u8], head: Head, q: Quantity) -> Reply
     ensures { λ r. ⌜ left (later values cells marks) r ≡ afterQuery (before values cells marks) head q ⌝ }
 {

@@ -6,12 +6,11 @@ use Prim.Native.Nat.{ℕ, _*_, _/_, _%_}
 use lib.Dec.{ltb, eqb}
 use lib.ListN.{getD}
 use lib.Ieee.{Float}
-use Rattle.arithmetic.specs.Parameters.{tdAt}
 use Rattle.arithmetic.specs.Tables.{at, from}
 use Rattle.models.specs.declared.answers.Quantity.{Quantity}
 use Rattle.models.specs.Faults.{indexFault}
 use Rattle.models.specs.Exponentials.{energy, nonrandomness, groupEnergy}
-use Rattle.models.specs.Values.{energies, volumes, rs, qs, taus, alphas, lists, countsAt, groupRs, groupQs, groupAs}
+use Rattle.models.specs.Values.{energies, volumes, rs, qs, alphas, lists, countsAt, groupRs, groupQs}
 use Rattle.models.specs.Wilson.{wilson}
 use Rattle.models.specs.Uniquac.{uniquac}
 use Rattle.models.specs.Nrtl.{nrtl}
@@ -27,7 +26,7 @@ use Rattle.mixture.specs.Layout.{dataIn, cellAt}
 use Rattle.models.specs.Model.{modelOf}
 use Rattle.mixture.specs.Calls.{exponential, valueBy, staleAt, worked, answered, afterQuery}
 use Rattle.mixture.specs.Faults.{readyFault, queryFault}
-use Rattle.mixture.specs.steps.Refills.{staleCell, staleOf, Ranged, Solved, Answered}
+use Rattle.mixture.specs.steps.Refills.{staleCell, staleOf, tausAt, groupsAt, Asked, Ranged, Solved, Answered}
 use Rattle.mixture.proofs.ListLaws.{written-same, howMany-same}
 use Rattle.mixture.proofs.history.RangeLaws.{first-is}
 use Rattle.mixture.proofs.CallLaws.{refused, done, Passed, ready-passed}
@@ -35,9 +34,12 @@ use Rattle.mixture.proofs.RefillLaws.{among, among-in}
 
 -- ---- a query that passes
 
-pub query-passed : (m : Memory) (h : Head) (q : Quantity) → queryFault m h q ≡ 0 → Passed m h × (indexFault (h .n) q ≡ 0)
+pub query-passed : (m : Memory) (h : Head) (q : Quantity) → queryFault m h q ≡ 0 → Passed m h × Asked (h .n) q (m .values) (m .cells) (m .marks)
 unfolding queryFault
-query-passed m h q e = let f = first-is (readyFault m h) _ e in (ready-passed m h (f .0), f .1)
+query-passed m h q e =
+    let f = first-is (readyFault m h) _ e in
+    let p = ready-passed m h (f .0) in
+    (p, record { few = p .range .few; index = f .1; values = p .long .values; cells = p .long .cells; marks = p .long .marks })
 
 pub head-ranged : (m : Memory) (h : Head) → Passed m h → modelOf (h .model) ≡ Unifac → Ranged (h .n) (h .ng) (h .lens) (h .groups)
 head-ranged m h p e =
@@ -86,14 +88,14 @@ module _ (m : Memory) (h : Head) (q : Quantity) {c : List Float} {l : List ℕ} 
   uniquac-answered e s = answered-by (rw e s)
 
   pub nrtl-answered : modelOf (h .model) ≡ Nrtl
-      → Solved Nrtl (h .n) (nonrandomness (alphas (h .n) (m .values)) (λ i j. tdAt (taus (h .n) (m .values) i j) (h .t)))
-      (λ G. nrtl (h .n) (λ i j. tdAt (taus (h .n) (m .values) i j) (h .t)) G (at (h .x)) q) (m .cells) (m .marks) c l r
+      → Solved Nrtl (h .n) (nonrandomness (alphas (h .n) (m .values)) (tausAt (h .n) (m .values) (h .t)))
+      (λ G. nrtl (h .n) (tausAt (h .n) (m .values) (h .t)) G (at (h .x)) q) (m .cells) (m .marks) c l r
       → Answered m h q c l r
   unfolding width exponential valueBy entries tdEntries
   nrtl-answered e s = answered-by (rw e s)
 
   pub unifac-answered : modelOf (h .model) ≡ Unifac
-      → Solved Unifac (h .ng) (groupEnergy (λ i k. tdAt (groupAs (h .ng) (m .values) i k) (h .t)) (h .t))
+      → Solved Unifac (h .ng) (groupEnergy (groupsAt (h .ng) (m .values) (h .t)) (h .t))
       (λ Ψ. unifac (h .n) (h .ng) (lists (h .lens) (h .groups) (from (countsAt (h .ng)) (m .values))) (groupRs (h .ng) (m .values)) (groupQs (h .ng) (m .values)) Ψ (at (h .x)) q) (m .cells) (m .marks) c l r
       → Answered m h q c l r
   unfolding width exponential valueBy tdEntries sizes

@@ -27,8 +27,7 @@ use Rattle.models.proofs.ParameterLaws.{five-from}
 use Rattle.models.proofs.UnifacLaws.{psi-same, psi-at}
 use Rattle.models.specs.declared.model.Model.{Model}
 use Rattle.models.specs.declared.model.Model.the-variants.{Wilson, Uniquac, Nrtl, Unifac}
-use Rattle.mixture.specs.Memory.{leastValues, leastCells, leastMarks}
-use Rattle.mixture.specs.steps.Refills.{rowCell, cellOf, staleOf, TableFits, Refilled, Solved}
+use Rattle.mixture.specs.steps.Refills.{rowCell, cellOf, staleOf, tausAt, groupsAt, Asked, TableFits, Refilled, Solved}
 use Rattle.mixture.specs.declared.refill.Rows.{Rows}
 use Rattle.mixture.proofs.RefillLaws.{last-row, refilled-as}
 
@@ -43,10 +42,9 @@ pub record Room (n lv lc lm : ℕ) : Type 0 where
   pub cells : 1024 ≤ lc
   pub marks : 1024 ≤ lm
 
-pub few-room : {n lv lc lm : ℕ} → n ≤ 12 → leastValues ≤ lv → leastCells ≤ lc → leastMarks ≤ lm → Room n lv lc lm
-unfolding leastValues leastCells leastMarks
-few-room {n} few v c m =
-    record { few = few; square = mul-le-mul few few; last = last-row n; values = omega arith; cells = omega arith; marks = omega arith }
+pub asked-room : {n : ℕ} {q : Quantity} {v c : List Float} {m : List ℕ} → Asked n q v c m → Room n (length v) (length c) (length m)
+asked-room {n} a =
+    record { few = a .few; square = mul-le-mul (a .few) (a .few); last = last-row n; values = a .values; cells = a .cells; marks = a .marks }
 
 -- the table of energies as a refill asks for it, with its cells and marks
 pub energies-lent : {n : ℕ} (v c : List Float) {lm : ℕ} → Room n (length v) (length c) lm → TableFits n n v v c × (n * n ≤ lm)
@@ -106,7 +104,7 @@ module _ (n : ℕ) (v : List Float) (T L : Float) (x : ℕ → Float) (q : Quant
     unfolding taus tdGrid
     tau-entry i j b d = ts .each (i * n + j) (cell-lt n n i j b d)
 
-    row-g : (i j : ℕ) → i < n → j < n → nonrandomness (λ _. at (from (i * n) (from (n * n * 5) v))) (λ _. at (from (i * n) tl)) i j ≡ nonrandomness (alphas n v) (λ i j. tdAt (taus n v i j) T) i j
+    row-g : (i j : ℕ) → i < n → j < n → nonrandomness (λ _. at (from (i * n) (from (n * n * 5) v))) (λ _. at (from (i * n) tl)) i j ≡ nonrandomness (alphas n v) (tausAt n v T) i j
     unfolding alphas
     row-g i j b d =
         nonrandomness-row n (from (n * n * 5) v) tl i j (omega (arith, from-length (n * n * 5) v, row-end n n i b)) (omega (arith, row-end n n i b)) d
@@ -115,18 +113,18 @@ module _ (n : ℕ) (v : List Float) (T L : Float) (x : ℕ → Float) (q : Quant
     pub nrtl-solved : {cells c : List Float} {marks m : List ℕ} {r : ℕ} {a : Float} → Refilled (n * n) (staleOf Nrtl n marks)
         (cellOf (rowsOf Nrtl n n T L) (from (n * n * 5) v) tl) cells marks c m r
         → a ≡ nrtl n (grid n tl) (grid n c) x q
-        → Solved Nrtl n (nonrandomness (alphas n v) (λ i j. tdAt (taus n v i j) T)) (λ G. nrtl n (λ i j. tdAt (taus n v i j) T) G x q) cells marks c m (record { value = a; count = r })
+        → Solved Nrtl n (nonrandomness (alphas n v) (tausAt n v T)) (λ G. nrtl n (tausAt n v T) G x q) cells marks c m (record { value = a; count = r })
     unfolding rowCell
     nrtl-solved all e =
         record {
-          refilled = refilled-by n (λ i j. nonrandomness (λ _. at (from (i * n) (from (n * n * 5) v))) (λ _. at (from (i * n) tl)) i j) (nonrandomness (alphas n v) (λ i j. tdAt (taus n v i j) T)) row-g all;
+          refilled = refilled-by n (λ i j. nonrandomness (λ _. at (from (i * n) (from (n * n * 5) v))) (λ _. at (from (i * n) tl)) i j) (nonrandomness (alphas n v) (tausAt n v T)) row-g all;
           solved = e ∙ nrtl-same n _ _ _ _ x x (λ i j b d ne. tau-entry i j b d) (λ i j b d ne. refl) (λ i b. refl) q z;
         }
 
 -- ---- UNIFAC
 
 module _ (ng : ℕ) (v : List Float) (T : Float) (L : Float) (h : ng + ng + ng * ng * 5 ≤ length v) (ln : L ≡ logOf T) (f : (ℕ → ℕ → Float) → Float) where
-  row-psi : (i j : ℕ) → i < ng → j < ng → rowCell Unifac (from (i * (ng * 5)) (from (ng + ng) v)) (from (i * (ng * 5)) (from (ng + ng) v)) T L i j ≡ groupEnergy (λ m k. tdAt (groupAs ng v m k) T) T i j
+  row-psi : (i j : ℕ) → i < ng → j < ng → rowCell Unifac (from (i * (ng * 5)) (from (ng + ng) v)) (from (i * (ng * 5)) (from (ng + ng) v)) T L i j ≡ groupEnergy (groupsAt ng v T) T i j
   unfolding rowCell groupAs
   row-psi i j b d =
       let e : i * (ng * 5) ≡ i * ng * 5 = sym (mul-assoc i ng 5) in
@@ -140,9 +138,9 @@ module _ (ng : ℕ) (v : List Float) (T : Float) (L : Float) (h : ng + ng + ng *
   pub unifac-solved : {cells c : List Float} {marks m : List ℕ} {r : ℕ} {a : Float} → Refilled (ng * ng) (staleOf Unifac ng marks)
       (cellOf (rowsOf Unifac ng (ng * 5) T L) (from (ng + ng) v) (from (ng + ng) v)) cells marks c m r
       → a ≡ f (grid ng c)
-      → Solved Unifac ng (groupEnergy (λ m k. tdAt (groupAs ng v m k) T) T) f cells marks c m (record { value = a; count = r })
+      → Solved Unifac ng (groupEnergy (groupsAt ng v T) T) f cells marks c m (record { value = a; count = r })
   unifac-solved all e =
       record {
-        refilled = refilled-by ng (λ i j. rowCell Unifac (from (i * (ng * 5)) (from (ng + ng) v)) (from (i * (ng * 5)) (from (ng + ng) v)) T L i j) (groupEnergy (λ m k. tdAt (groupAs ng v m k) T) T) row-psi all;
+        refilled = refilled-by ng (λ i j. rowCell Unifac (from (i * (ng * 5)) (from (ng + ng) v)) (from (i * (ng * 5)) (from (ng + ng) v)) T L i j) (groupEnergy (groupsAt ng v T) T) row-psi all;
         solved = e;
       }

@@ -8,13 +8,14 @@ use lib.ListN.{length, getD}
 use lib.Ieee.{Float, neg}
 use Rattle.arithmetic.specs.Exponential.{expOf}
 use Rattle.arithmetic.specs.Floats.{_⊖_, _⊗_, _⊘_}
-use Rattle.arithmetic.specs.Parameters.{tdBy}
+use Rattle.arithmetic.specs.Parameters.{tdAt, tdBy}
 use denote.Ref.{RefT, now}
 use denote.Triple.Both.{Both}
 use Rattle.arithmetic.specs.Tables.{Table, Vector, at, from, grid}
 use Rattle.models.specs.declared.answers.Quantity.{Quantity}
 use Rattle.models.specs.Exponentials.{energy, nonrandomness}
-use Rattle.models.specs.Values.{start, fiveAt}
+use Rattle.models.specs.Faults.{indexFault}
+use Rattle.models.specs.Values.{start, fiveAt, taus, groupAs}
 use Rattle.models.specs.steps.Unifac.{psiBy}
 use Rattle.mixture.specs.declared.head.Head.{Head}
 use Rattle.models.specs.declared.model.Model.{Model}
@@ -25,7 +26,7 @@ use Rattle.mixture.specs.Holdings.{held}
 use Rattle.mixture.specs.Cells.{width}
 use Rattle.models.specs.Limits.{mostComponents, mostGroups}
 use Rattle.models.specs.Model.{byModel}
-use Rattle.mixture.specs.Memory.{Memory}
+use Rattle.mixture.specs.Memory.{Memory, leastValues, leastCells, leastMarks}
 use Rattle.mixture.specs.Layout.{dataIn}
 use Rattle.mixture.specs.Calls.{valueBy, staleAt, worked}
 
@@ -186,6 +187,21 @@ pub record Solved (k : Model) (w : ℕ) (E : Table) (f : Table → Float) (cells
 -- the same, of slices before and after a call
 abbrev pub Solves : Model → ℕ → Table → (Table → Float) → Floats → Marks → Worked → Type 0
 Solves k w E f cells marks r = Solved k w E f (now (cells .entry)) (now (marks .entry)) (now (cells .exit)) (now (marks .exit)) r
+
+-- τ and the interactions of groups at T, of values v
+abbrev pub tausAt : ℕ → List Float → Float → Table
+tausAt n v T i j = tdAt (taus n v i j) T
+
+abbrev pub groupsAt : ℕ → List Float → Float → Table
+groupsAt ng v T m k = tdAt (groupAs ng v m k) T
+
+-- what a query that passes has shown: few components, an index among them, and slices of the least lengths
+pub record Asked (n : ℕ) (q : Quantity) (v c : List Float) (m : List ℕ) : Type 0 where
+  pub few : n ≤ mostComponents
+  pub index : indexFault n q ≡ 0
+  pub values : leastValues ≤ length v
+  pub cells : leastCells ≤ length c
+  pub marks : leastMarks ≤ length m
 
 -- what UNIFAC's head has shown where it is in range
 pub record Ranged (n ng : ℕ) (lens groups : List ℕ) : Type 0 where

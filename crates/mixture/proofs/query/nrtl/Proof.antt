@@ -11,12 +11,12 @@ nrtl-over-requires c κs =
     let start = c .before .before .before .before .before .before .before .before in
     let p = start .pre in
     let few : start .args .n ≤ 4 = omega (arith, c .before .before .before .before .if1 .taken) in
-    (p .0, mul-le-mul few few, p .1, p .2, p .3, p .4, omega (arith, p .0))
+    (p, omega (arith, p .few), mul-le-mul few few)
 
 nrtl-over-requires-2 : tie.Need-nrtl-over-requires-2
 nrtl-over-requires-2 c κs =
     let p = c .before .before .before .before .before .before .before .before .pre in
-    (p .0, mul-le-mul (p .0) (p .0), p .1, p .2, p .3, p .4, omega (arith, p .0))
+    (p, omega (arith, p .few), mul-le-mul (p .few) (p .few))
 
 pub nrtl-spec : {M : Type 1} → statement M
 nrtl-spec =

@@ -6,7 +6,7 @@ use lib.ListN.{length}
 use Prim.Native.Nat.{_*_}
 use Rattle.arithmetic.proofs.TableLaws.{from-length}
 use Rattle.models.specs.Values.{nrtlSize}
-use Rattle.mixture.proofs.query.SolvedLaws.{Room, few-room, nrtl-solved}
+use Rattle.mixture.proofs.query.SolvedLaws.{Room, asked-room, nrtl-solved}
 use Rattle.mixture.proofs.query.nrtl_over.Statement.{statement}
 use Rattle.mixture.proofs.query.nrtl_over.Tie as tie
 
@@ -15,11 +15,11 @@ abbrev entry : tie.After-fill-taus → tie.Start
 entry c = c .before .before .before .before .before .before .before
 
 room : (s : tie.Start) → Room (s .args .n) (length (now (s .args .values))) (length (now (s .args .cells))) (length (now (s .args .marks)))
-room s = few-room (s .pre .0) (s .pre .3) (s .pre .4) (s .pre .5)
+room s = asked-room (s .pre .0)
 
 fill-taus-requires : tie.Need-fill-taus-requires
 unfolding nrtlSize
-fill-taus-requires c κs = let s = c .before .before .before .before .before .before in (s .pre .0, omega (arith, room s), s .pre .1)
+fill-taus-requires c κs = let s = c .before .before .before .before .before .before in (s .pre .0 .few, omega (arith, room s), s .pre .2)
 
 refill-requires : tie.Need-refill-requires
 refill-requires c κs =
@@ -29,7 +29,7 @@ refill-requires c κs =
       record {
         few = omega (arith, r);
         fives = omega (arith, r, from-length (s .args .n * s .args .n * 5) (now (s .args .values)));
-        taus = omega (arith, r, filled .fill-taus .kept, s .pre .1);
+        taus = omega (arith, r, filled .fill-taus .kept, s .pre .2);
         room = omega (arith, r);
       },
       omega (arith, r),
@@ -40,14 +40,14 @@ value-over-requires c κs =
     let worked = c .before .before .before .before .before .before in
     let filled = worked .before .before .before .before .before .before .before in
     let p = entry filled .pre in
-    (p .0, omega (arith, filled .fill-taus .kept, p .1), omega (arith, worked .refill .kept, room (entry filled)), p .6, p .2)
+    (p .0 .few, omega (arith, filled .fill-taus .kept, p .2), omega (arith, worked .refill .kept, room (entry filled)), p .1, p .0 .index)
 
 returns : tie.Need-returns
 returns c =
     let worked = c .before .before .before .before .before .before .before in
     let filled = worked .before .before .before .before .before .before .before in
     let s = entry filled in
-    nrtl-solved (s .args .n) (now (s .args .values)) (s .args .t) _ _ _ (s .pre .2) (omega (arith, room s)) (omega (arith, filled .fill-taus .kept, s .pre .1))
+    nrtl-solved (s .args .n) (now (s .args .values)) (s .args .t) _ _ _ (s .pre .0 .index) (omega (arith, room s)) (omega (arith, filled .fill-taus .kept, s .pre .2))
     (filled .fill-taus .ensures) (worked .refill .ensures) (c .value-over .ensures)
 
 pub nrtl-over-spec : {M : Type 1} → statement M

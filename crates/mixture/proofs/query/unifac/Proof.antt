@@ -8,7 +8,6 @@ use denote.Ref.{now}
 use lib.ListN.{length}
 use Rattle.arithmetic.proofs.TableLaws.{row-end, from-length}
 use Rattle.models.specs.Values.{countsAt}
-use Rattle.mixture.specs.Memory.{leastValues, leastCells, leastMarks}
 use Rattle.mixture.proofs.query.SolvedLaws.{unifac-solved}
 use Rattle.mixture.proofs.query.unifac.Statement.{statement}
 use Rattle.mixture.proofs.query.unifac.Tie as tie
@@ -20,11 +19,11 @@ entry c = c .before .before .before .before .before .before .before .before
 room : (s : tie.Start) → let ng = s .args .ng in
     (ng * ng ≤ 1024) × (ng * (ng * 5) ≡ ng * ng * 5) × ((ng - 1) * (ng * 5) + ng * 5 ≤ ng * (ng * 5)) × (ng ≤ 32)
     × (5328 ≤ length (now (s .args .values))) × (1024 ≤ length (now (s .args .cells))) × (1024 ≤ length (now (s .args .marks)))
-unfolding leastValues leastCells leastMarks
 room s =
     let ng = s .args .ng in
     let r = s .pre .0 in
-    (mul-le-mul (r .fewGroups) (r .fewGroups), sym (mul-assoc _ _ 5), row-end ng (ng * 5) (ng - 1) (omega (arith, r .someGroups)), r .fewGroups, omega (arith, s .pre .2), omega (arith, s .pre .3), omega (arith, s .pre .4))
+    let a = s .pre .1 in
+    (mul-le-mul (r .fewGroups) (r .fewGroups), sym (mul-assoc _ _ 5), row-end ng (ng * 5) (ng - 1) (omega (arith, r .someGroups)), r .fewGroups, a .values, a .cells, a .marks)
 
 refill-requires : tie.Need-refill-requires
 refill-requires c κs =
@@ -50,7 +49,7 @@ value-over-requires c κs =
       },
       omega (arith, worked .refill .kept, r),
       omega (arith, p .few),
-      s .pre .1,
+      s .pre .1 .index,
     )
 
 returns : tie.Need-returns

@@ -5,7 +5,7 @@ use denote.Ref.{now}
 use lib.ListN.{length}
 use Prim.Native.Nat.{_+_, _*_}
 use Rattle.arithmetic.proofs.TableLaws.{from-length}
-use Rattle.mixture.proofs.query.SolvedLaws.{Room, few-room, energies-lent, uniquac-solved}
+use Rattle.mixture.proofs.query.SolvedLaws.{Room, asked-room, energies-lent, uniquac-solved}
 use Rattle.mixture.proofs.query.uniquac.Statement.{statement}
 use Rattle.mixture.proofs.query.uniquac.Tie as tie
 
@@ -13,7 +13,7 @@ abbrev entry : tie.After-slice-known4 → tie.Start
 entry c = c .before .before .before .before .before .before .before .before .before .before
 
 room : (s : tie.Start) → Room (s .args .n) (length (now (s .args .values))) (length (now (s .args .cells))) (length (now (s .args .marks)))
-room s = few-room (s .pre .0) (s .pre .2) (s .pre .3) (s .pre .4)
+room s = asked-room (s .pre)
 
 refill-requires : tie.Need-refill-requires
 refill-requires c κs = energies-lent _ _ (room (c .before .before .before .before .before))
@@ -29,14 +29,14 @@ value-over-requires c κs =
       omega (arith, r, from-length (n * n + n) (now (s .args .values))),
       omega (arith, r, call .before .before .before .before .refill .kept),
       omega (arith, r),
-      s .pre .1,
+      s .pre .index,
     )
 
 returns : tie.Need-returns
 returns c =
     let call = c .before .before .before .before .before in
     let s = entry call in
-    uniquac-solved (s .args .n) (now (s .args .values)) (s .args .t) _ _ _ (s .pre .1) (omega (arith, room s)) (call .before .before .before .before .refill .ensures) (c .value-over .ensures)
+    uniquac-solved (s .args .n) (now (s .args .values)) (s .args .t) _ _ _ (s .pre .index) (omega (arith, room s)) (call .before .before .before .before .refill .ensures) (c .value-over .ensures)
 
 pub uniquac-spec : {M : Type 1} → statement M
 uniquac-spec =
