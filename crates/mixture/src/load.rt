@@ -26,9 +26,11 @@ use models::model::by_model;
 use models::model::has_diagonal;
 
 // The given values in the first places.
-fn copy(values: &mut [f64], given: &[f64])
+fn copy(given: &[f64], values: &mut [f64])
     requires { ⌜ length (now given) ≤ length (now values) ⌝ }
-    ensures { λ _. ⌜ now (values .exit) ≡ now (given .entry) ++ drop (length (now (given .entry))) (now (values .entry)) ⌝ }
+    ensures { λ _.
+        let new = now (given .entry) in
+        ⌜ now (values .exit) ≡ new ++ drop (length new) (now (values .entry)) ⌝ }
 {
     for k in 0..given.len() {
         values[k] = given[k];
@@ -36,9 +38,12 @@ fn copy(values: &mut [f64], given: &[f64])
 }
 
 // Writes 0 to the marks of all the model's cells.
-fn stale_cells(marks: &mut [u8], model: Model, n: usize, ng: usize)
-    requires { ⌜ (1 ≤ byModel model n n n ng) × (byModel model n n n ng ≤ mostGroups) × (leastMarks ≤ length (now marks)) ⌝ }
-    ensures { λ _. ⌜ ((d : ModelData) → (d .model ≡ model) × (d .n ≡ n) × (d .ng ≡ ng) → now (marks .exit) ≡ written (cellAt (held d)) (λ c. 0) (now (marks .entry))) ⌝ }
+fn stale_cells(model: Model, n: usize, ng: usize, marks: &mut [u8])
+    requires { ⌜ (1 ≤ byModel model n n n ng)
+        × (byModel model n n n ng ≤ mostGroups)
+        × (leastMarks ≤ length (now marks)) ⌝ }
+    ensures { λ _. ⌜ ((d : ModelData) → (d .model ≡ model) × (d .n ≡ n) × (d .ng ≡ ng)
+        → now (marks .exit) ≡ written (cellAt (held d)) (λ c. 0) (now (marks .entry))) ⌝ }
 {
     let w = by_model(model, n, n, n, ng);
     let diagonal = has_diagonal(model);
@@ -53,8 +58,16 @@ fn stale_cells(marks: &mut [u8], model: Model, n: usize, ng: usize)
 
 // The head of a load that is accepted, with 0 in its unset and unused fields.
 fn loaded_head(model: Model, n: usize, ng: usize, lens: &[u8], groups: &[u8]) -> Head
-    requires { ⌜ (model ≡ Unifac → (length (now lens) ≤ mostComponents) × (length (now groups) ≤ mostPlaces)) ⌝ }
-    ensures { λ r. ⌜ ((v : List Float) → r ≡ loadedHead (record { model = model; n = n; ng = ng; lens = now (lens .entry); groups = now (groups .entry); values = v })) ⌝ }
+    requires { ⌜ (model ≡ Unifac → (length (now lens) ≤ mostComponents)
+        × (length (now groups) ≤ mostPlaces)) ⌝ }
+    ensures { λ r. ⌜ ((v : List Float) → r ≡ loadedHead (record {
+      model = model;
+      n = n;
+      ng = ng;
+      lens = now (lens .entry);
+      groups = now (groups .entry);
+      values = v;
+    })) ⌝ }
 {
     match model {
         Model::Wilson => bare_head(1, n),
@@ -94,8 +107,8 @@ pub fn load(
             answer: Answer::Refused(fault),
         };
     }
-    copy(values, given);
-    stale_cells(marks, model, n, ng);
+    copy(given, values);
+    stale_cells(model, n, ng, marks);
     Reply {
         head: loaded_head(model, n, ng, lens, groups),
         answer: Answer::Done,

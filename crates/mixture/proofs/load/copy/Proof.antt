@@ -12,10 +12,10 @@ use Rattle.mixture.proofs.load.copy.Statement.{statement}
 use Rattle.mixture.proofs.load.copy.Tie as tie
 
 abbrev Inv-loop : tie.InvT-loop
-Inv-loop values₀ given k₀ k-end values k = (k ≤ length given) × (length values ≡ length values₀) × (values ≡ take k given ++ drop k values₀)
+Inv-loop given values₀ k₀ k-end values k = (k ≤ length given) × (length values ≡ length values₀) × (values ≡ take k given ++ drop k values₀)
 
 abbrev μ-loop : tie.MeasureT-loop
-μ-loop values₀ given k₀ k-end values k = length given - k
+μ-loop given values₀ k₀ k-end values k = length given - k
 
 loop-again : tie.Need-loop-again Inv-loop μ-loop
 loop-again c =
