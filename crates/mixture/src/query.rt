@@ -237,20 +237,20 @@ fn answered(values: &[f64], cells: &mut [f64], marks: &mut [u8], head: Head, q: 
 
 // Works out every stale cell and answers with the value and their number. Both branches are the same on
 // purpose (any test would do): `answered` is called in two places, so that the compiler keeps it apart and
-// puts this function into its callers. It is handed a copy of the head, so that the head itself needn't be
-// put together in memory before it goes back.
+// puts this function into its callers. It is handed the head itself and a copy goes back, so that a caller
+// that asks again and again needn't put the head together in memory for each query.
 pub fn query(values: &[f64], cells: &mut [f64], marks: &mut [u8], head: Head, q: Quantity) -> Reply
     ensures { λ r. ⌜ left (later values cells marks) r ≡ afterQuery (before values cells marks) head q ⌝ }
 {
-    let copy = head;
+    let back = head;
     if head.has_t {
         return Reply {
-            head: head,
-            answer: answered(values, cells, marks, copy, q),
+            head: back,
+            answer: answered(values, cells, marks, head, q),
         };
     }
     Reply {
-        head: head,
-        answer: answered(values, cells, marks, copy, q),
+        head: back,
+        answer: answered(values, cells, marks, head, q),
     }
 }
