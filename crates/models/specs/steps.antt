@@ -1,3 +1,4 @@
+pub mod Columns
 pub mod Uniquac
 pub mod GroupLists
 pub mod Unifac

@@ -25,11 +25,13 @@ pub fn energy(row: &[f64], t: f64, i: usize, j: usize) -> f64
     arithmetic::exp(argument(row, t, i, j))
 }
 
-// Writes what E_ij is the exp of for each j below n, through the part of a table that starts at row i. The diagonal gets
-// one as well, so that the row runs without a test; it counts in no sum.
+// Writes what E_ij is the exp of for each j below n, through the part of a table that starts at row i. The
+// diagonal gets one as well, so that the row runs without a test; it counts in no sum.
 pub fn fill_arguments(row: &[f64], t: f64, n: usize, i: usize, out: &mut [f64])
     requires { ⌜ (n ≤ length (now row)) × (n ≤ length (now out)) × (i < n) ⌝ }
-    ensures { λ _. ⌜ Filled (λ j. neg (at (now (row .entry)) j ⊖ at (now (row .entry)) i) ⊘ t) n (now (out .exit)) ⌝ }
+    ensures { λ _.
+        let a = at (now (row .entry)) in
+        ⌜ Filled (λ j. neg (a j ⊖ a i) ⊘ t) n (now (out .exit)) ⌝ }
 {
     let own = row[i];
     for j in 0..n {
@@ -37,10 +39,12 @@ pub fn fill_arguments(row: &[f64], t: f64, n: usize, i: usize, out: &mut [f64])
     }
 }
 
-// Writes the table of a model whose values begin with its energies: every argument first, then exp of them all at once.
+// Writes the table of a model whose values begin with its energies: every argument first, then exp of them
+// all at once.
 pub fn fill_energies(values: &[f64], t: f64, n: usize, out: &mut [f64])
     requires { ⌜ (n ≤ mostComponents) × (n * n ≤ length (now values)) × (n * n ≤ length (now out)) ⌝ }
-    ensures { λ _. ⌜ Filled (flat n (E·energy (energies n (now (values .entry))) t)) (n * n) (now (out .exit)) ⌝ }
+    ensures { λ _.
+        ⌜ Filled (flat n (E·energy (energies n (now (values .entry))) t)) (n * n) (now (out .exit)) ⌝ }
 {
     for i in 0..n {
         let at = i * n;

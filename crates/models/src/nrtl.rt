@@ -6,13 +6,14 @@ ghost use lib.Ieee.{neg};
 ghost use Rattle.arithmetic.specs.Exponential.{expOf};
 ghost use Rattle.arithmetic.specs.Parameters.{tdAt};
 ghost use Rattle.arithmetic.specs.Floats.{_⊕_, _⊖_, _⊗_, _⊘_, +0};
-ghost use Rattle.arithmetic.specs.Tables.{at, grid, Filled, upTo};
+ghost use Rattle.arithmetic.specs.Tables.{at, grid, Filled};
 ghost use Rattle.models.specs.Limits.{mostComponents};
 ghost use Rattle.models.specs.Faults.{indexFault};
 ghost use Rattle.models.specs.Columns.{unitAt, unitDiagonal, columnSum};
 ghost use Rattle.models.specs.Nrtl.{tauAt, numerator, nrtl, nrtlAt};
 ghost use Rattle.models.specs.Plain.{nrtlPlain};
 ghost use Rattle.models.specs.Values.{fiveAt, nrtlSize, taus, alphas};
+ghost use Rattle.models.specs.steps.Columns.{Added};
 ghost use Rattle.models.specs.Nrtl.{tau as Nrtl·tau};
 ghost use Rattle.arithmetic.specs.Sums.{sum};
 use crate::answers::Answer;
@@ -24,7 +25,8 @@ use crate::model::Model;
 use crate::model::plain;
 use crate::parameters;
 
-// How many values n components have: τ by rows, five each, α. Past 12, which `shape_fault` refuses, it answers 0.
+// How many values n components have: τ by rows, five each, α. Past 12, which `shape_fault` refuses, it
+// answers 0.
 pub fn size(n: usize) -> usize
     ensures { λ r. ⌜ (n ≤ mostComponents → r ≡ nrtlSize n) ⌝ }
 {
@@ -56,10 +58,13 @@ pub fn exponential(alpha: f64, tau: f64) -> f64
     arithmetic::exp(argument(alpha, tau))
 }
 
-// Writes what the first count entries of G are the exp of, those of the diagonal as well, which count in no sum.
+// Writes what the first count entries of G are the exp of, those of the diagonal as well, which count in no
+// sum.
 pub fn fill_arguments(alpha: &[f64], tau: &[f64], count: usize, out: &mut [f64])
     requires { ⌜ (count ≤ length (now alpha)) × (count ≤ length (now tau)) × (count ≤ length (now out)) ⌝ }
-    ensures { λ _. ⌜ Filled (λ k. neg (at (now (alpha .entry)) k) ⊗ at (now (tau .entry)) k) count (now (out .exit)) ⌝ }
+    ensures { λ _.
+        let α = at (now (alpha .entry)) in
+        ⌜ Filled (λ k. neg (α k) ⊗ at (now (tau .entry)) k) count (now (out .exit)) ⌝ }
 {
     for k in 0..count {
         out[k] = -alpha[k] * tau[k];
@@ -69,7 +74,9 @@ pub fn fill_arguments(alpha: &[f64], tau: &[f64], count: usize, out: &mut [f64])
 // Writes the first count entries of G: every argument first, then exp of them all at once.
 fn fill_exponentials(alpha: &[f64], tau: &[f64], count: usize, out: &mut [f64])
     requires { ⌜ (count ≤ length (now alpha)) × (count ≤ length (now tau)) × (count ≤ length (now out)) ⌝ }
-    ensures { λ _. ⌜ Filled (λ k. expOf (neg (at (now (alpha .entry)) k) ⊗ at (now (tau .entry)) k)) count (now (out .exit)) ⌝ }
+    ensures { λ _.
+        let α = at (now (alpha .entry)) in
+        ⌜ Filled (λ k. expOf (neg (α k) ⊗ at (now (tau .entry)) k)) count (now (out .exit)) ⌝ }
 {
     fill_arguments(alpha, tau, count, out);
     arithmetic::exp_each(out, count);
@@ -78,28 +85,42 @@ fn fill_exponentials(alpha: &[f64], tau: &[f64], count: usize, out: &mut [f64])
 // Adds x·g[j]·tau[j] to sums[j] for each j below n.
 fn add_products(sums: &mut [f64], x: f64, g: &[f64], tau: &[f64], n: usize)
     requires { ⌜ (n ≤ length (now sums)) × (n ≤ length (now g)) × (n ≤ length (now tau)) ⌝ }
-    ensures { λ _. ⌜ Filled (upTo n (λ j. at (now (sums .entry)) j ⊕ x ⊗ at (now (g .entry)) j ⊗ at (now (tau .entry)) j) (at (now (sums .entry)))) (length (now (sums .entry))) (now (sums .exit)) ⌝ }
+    ensures { λ _. ⌜ Added n (λ j. x ⊗ at (now (g .entry)) j ⊗ at (now (tau .entry)) j) sums ⌝ }
 {
     for j in 0..n {
         sums[j] = sums[j] + x * g[j] * tau[j];
     }
 }
 
-// Adds x·G_ij·τ_ij to sums[j] for each j below n; g and tau are row i of their tables. The row runs without a test for the
-// diagonal, then place i, where G is 1 and τ is 0, is put right.
+// Adds x·G_ij·τ_ij to sums[j] for each j below n; g and tau are row i of their tables. The row runs without a
+// test for the diagonal, then place i, where G is 1 and τ is 0, is put right.
 fn add_terms(sums: &mut [f64], x: f64, g: &[f64], tau: &[f64], n: usize, i: usize)
     requires { ⌜ (n ≤ length (now sums)) × (n ≤ length (now g)) × (n ≤ length (now tau)) × (i < n) ⌝ }
-    ensures { λ _. ⌜ Filled (upTo n (λ j. at (now (sums .entry)) j ⊕ x ⊗ unitAt i (at (now (g .entry))) j ⊗ tauAt i (at (now (tau .entry))) j) (at (now (sums .entry)))) (length (now (sums .entry))) (now (sums .exit)) ⌝ }
+    ensures { λ _.
+        let G = unitAt i (at (now (g .entry))) in
+        let τ = tauAt i (at (now (tau .entry))) in
+        ⌜ Added n (λ j. x ⊗ G j ⊗ τ j) sums ⌝ }
 {
     let own = sums[i] + x * 1.0 * 0.0;
     add_products(sums, x, g, tau, n);
     sums[i] = own;
 }
 
-// For each j the numerator Σ_m x_m G_mj τ_mj in u and the denominator Σ_m x_m G_mj in d; both have zeros at first.
+// For each j the numerator Σ_m x_m G_mj τ_mj in u and the denominator Σ_m x_m G_mj in d; both have zeros at
+// first.
 fn column_sums(n: usize, tau: &[f64], g: &[f64], x: &[f64], u: &mut [f64], d: &mut [f64])
-    requires { ⌜ (n * n ≤ length (now tau)) × (n * n ≤ length (now g)) × (n ≤ length (now x)) × (n ≤ length (now u)) × (n ≤ length (now d)) × Filled (λ _. +0) n (now u) × Filled (λ _. +0) n (now d) ⌝ }
-    ensures { λ _. ⌜ Filled (numerator n (grid n (now (tau .entry))) (grid n (now (g .entry))) (at (now (x .entry)))) n (now (u .exit)) × Filled (columnSum n (unitDiagonal (grid n (now (g .entry)))) (at (now (x .entry)))) n (now (d .exit)) ⌝ }
+    requires { ⌜ (n * n ≤ length (now tau))
+        × (n * n ≤ length (now g))
+        × (n ≤ length (now x))
+        × (n ≤ length (now u))
+        × (n ≤ length (now d))
+        × Filled (λ _. +0) n (now u)
+        × Filled (λ _. +0) n (now d) ⌝ }
+    ensures { λ _.
+        let G = grid n (now (g .entry)) in
+        let X = at (now (x .entry)) in
+        ⌜ Filled (numerator n (grid n (now (tau .entry))) G X) n (now (u .exit))
+        × Filled (columnSum n (unitDiagonal G) X) n (now (d .exit)) ⌝ }
 {
     for i in 0..n {
         let start = i * n;
@@ -111,8 +132,18 @@ fn column_sums(n: usize, tau: &[f64], g: &[f64], x: &[f64], u: &mut [f64], d: &m
 // The second sum of ln γ_i; tau and g are row i of their tables, u the numerators and d the
 // denominators. The terms run without a test for the diagonal, then its own is put right.
 fn second(n: usize, tau: &[f64], g: &[f64], u: &[f64], d: &[f64], x: &[f64], i: usize) -> f64
-    requires { ⌜ (n ≤ length (now tau)) × (n ≤ length (now g)) × (n ≤ length (now u)) × (n ≤ length (now d)) × (n ≤ length (now x)) × (i < n) × (n ≤ mostComponents) ⌝ }
-    ensures { λ r. ⌜ r ≡ sum n (λ j. at (now (x .entry)) j ⊗ unitAt i (at (now (g .entry))) j ⊘ at (now (d .entry)) j ⊗ (tauAt i (at (now (tau .entry))) j ⊖ at (now (u .entry)) j ⊘ at (now (d .entry)) j)) ⌝ }
+    requires { ⌜ (n ≤ length (now tau))
+        × (n ≤ length (now g))
+        × (n ≤ length (now u))
+        × (n ≤ length (now d))
+        × (n ≤ length (now x))
+        × (i < n)
+        × (n ≤ mostComponents) ⌝ }
+    ensures { λ r.
+        let G = unitAt i (at (now (g .entry))) in
+        let τ = tauAt i (at (now (tau .entry))) in
+        let D = at (now (d .entry)) in
+        ⌜ r ≡ sum n (λ j. at (now (x .entry)) j ⊗ G j ⊘ D j ⊗ (τ j ⊖ at (now (u .entry)) j ⊘ D j)) ⌝ }
 {
     let mut terms = [0.0; COMPONENTS];
     for j in 0..n {
@@ -124,8 +155,19 @@ fn second(n: usize, tau: &[f64], g: &[f64], u: &[f64], d: &[f64], x: &[f64], i: 
 
 // ln γ_i, u being the numerators and d the denominators.
 fn ln_gamma(n: usize, tau: &[f64], g: &[f64], u: &[f64], d: &[f64], x: &[f64], i: usize) -> f64
-    requires { ⌜ (n ≤ mostComponents) × (i < n) × (n * n ≤ length (now tau)) × (n * n ≤ length (now g)) × (n ≤ length (now u)) × (n ≤ length (now d)) × (n ≤ length (now x)) ⌝ }
-    ensures { λ r. ⌜ r ≡ at (now (u .entry)) i ⊘ at (now (d .entry)) i ⊕ sum n (λ j. at (now (x .entry)) j ⊗ unitDiagonal (grid n (now (g .entry))) i j ⊘ at (now (d .entry)) j ⊗ (Nrtl·tau (grid n (now (tau .entry))) i j ⊖ at (now (u .entry)) j ⊘ at (now (d .entry)) j)) ⌝ }
+    requires { ⌜ (n ≤ mostComponents)
+        × (i < n)
+        × (n * n ≤ length (now tau))
+        × (n * n ≤ length (now g))
+        × (n ≤ length (now u))
+        × (n ≤ length (now d))
+        × (n ≤ length (now x)) ⌝ }
+    ensures { λ r.
+        let G = unitDiagonal (grid n (now (g .entry))) in
+        let τ = Nrtl·tau (grid n (now (tau .entry))) in
+        let U = at (now (u .entry)) in
+        let D = at (now (d .entry)) in
+        ⌜ r ≡ U i ⊘ D i ⊕ sum n (λ j. at (now (x .entry)) j ⊗ G i j ⊘ D j ⊗ (τ i j ⊖ U j ⊘ D j)) ⌝ }
 {
     let start = i * n;
     u[i] / d[i] + second(n, &tau[start..], &g[start..], u, d, x, i)
@@ -134,7 +176,8 @@ fn ln_gamma(n: usize, tau: &[f64], g: &[f64], u: &[f64], d: &[f64], x: &[f64], i
 // The excess energy, u being the numerators and d the denominators.
 fn excess_by(n: usize, u: &[f64], d: &[f64], x: &[f64]) -> f64
     requires { ⌜ (n ≤ length (now u)) × (n ≤ length (now d)) × (n ≤ length (now x)) ⌝ }
-    ensures { λ r. ⌜ r ≡ sum n (λ i. at (now (x .entry)) i ⊗ at (now (u .entry)) i ⊘ at (now (d .entry)) i) ⌝ }
+    ensures { λ r.
+        ⌜ r ≡ sum n (λ i. at (now (x .entry)) i ⊗ at (now (u .entry)) i ⊘ at (now (d .entry)) i) ⌝ }
 {
     let mut s = 0.0;
     for i in 0..n {
@@ -146,8 +189,13 @@ fn excess_by(n: usize, u: &[f64], d: &[f64], x: &[f64]) -> f64
 // The value over a table of τ at T and one of exponentials, both by rows of n; what stands on their
 // diagonals doesn't count.
 pub fn value_over(n: usize, tau: &[f64], g: &[f64], x: &[f64], q: Quantity) -> f64
-    requires { ⌜ (n ≤ mostComponents) × (n * n ≤ length (now tau)) × (n * n ≤ length (now g)) × (n ≤ length (now x)) × (indexFault n q ≡ 0) ⌝ }
-    ensures { λ r. ⌜ r ≡ nrtl n (grid n (now (tau .entry))) (grid n (now (g .entry))) (at (now (x .entry))) q ⌝ }
+    requires { ⌜ (n ≤ mostComponents)
+        × (n * n ≤ length (now tau))
+        × (n * n ≤ length (now g))
+        × (n ≤ length (now x))
+        × (indexFault n q ≡ 0) ⌝ }
+    ensures { λ r.
+        ⌜ r ≡ nrtl n (grid n (now (tau .entry))) (grid n (now (g .entry))) (at (now (x .entry))) q ⌝ }
 {
     let mut u = [0.0; COMPONENTS];
     let mut d = [0.0; COMPONENTS];
@@ -161,8 +209,13 @@ pub fn value_over(n: usize, tau: &[f64], g: &[f64], x: &[f64], q: Quantity) -> f
 
 // The quantity at T, from the values.
 pub fn value_at(n: usize, values: &[f64], t: f64, x: &[f64], q: Quantity) -> f64
-    requires { ⌜ (n ≤ mostComponents) × (nrtlSize n ≤ length (now values)) × (n ≤ length (now x)) × (indexFault n q ≡ 0) ⌝ }
-    ensures { λ r. ⌜ r ≡ nrtlAt n (taus n (now (values .entry))) (alphas n (now (values .entry))) t (at (now (x .entry))) q ⌝ }
+    requires { ⌜ (n ≤ mostComponents)
+        × (nrtlSize n ≤ length (now values))
+        × (n ≤ length (now x))
+        × (indexFault n q ≡ 0) ⌝ }
+    ensures { λ r.
+        let v = now (values .entry) in
+        ⌜ r ≡ nrtlAt n (taus n v) (alphas n v) t (at (now (x .entry))) q ⌝ }
 {
     let mut tau = [0.0; PAIRS];
     fill_taus(n, values, t, &mut tau[..]);

@@ -55,7 +55,8 @@ fn l(r: f64, q: f64) -> f64
 // Σ_j x_j l_j.
 fn l_sum(n: usize, r: &[f64], q: &[f64], x: &[f64]) -> f64
     requires { ⌜ (n ≤ length (now r)) × (n ≤ length (now q)) × (n ≤ length (now x)) ⌝ }
-    ensures { λ v. ⌜ v ≡ sum n (λ j. at (now (x .entry)) j ⊗ U·l (at (now (r .entry))) (at (now (q .entry))) j) ⌝ }
+    ensures { λ v.
+        ⌜ v ≡ sum n (λ j. at (now (x .entry)) j ⊗ U·l (at (now (r .entry))) (at (now (q .entry))) j) ⌝ }
 {
     let mut s = 0.0;
     for j in 0..n {
@@ -66,13 +67,15 @@ fn l_sum(n: usize, r: &[f64], q: &[f64], x: &[f64]) -> f64
 
 // The combinatorial part of ln γ_i, from r_i, q_i, φ_i/x_i, the logs of φ_i/x_i and θ_i/φ_i, and Σ_j x_j l_j.
 fn combinatorial(r: f64, q: f64, segment: f64, ln_segment: f64, ln_area: f64, lx: f64) -> f64
-    ensures { λ v. ⌜ v ≡ «ln_segment» ⊕ half ⊗ U·Z ⊗ q ⊗ «ln_area» ⊕ (half ⊗ U·Z ⊗ (r ⊖ q) ⊖ (r ⊖ one)) ⊖ segment ⊗ lx ⌝ }
+    ensures { λ v.
+        let lᵢ = half ⊗ U·Z ⊗ (r ⊖ q) ⊖ (r ⊖ one) in
+        ⌜ v ≡ «ln_segment» ⊕ half ⊗ U·Z ⊗ q ⊗ «ln_area» ⊕ lᵢ ⊖ segment ⊗ lx ⌝ }
 {
     ln_segment + 0.5 * Z * q * ln_area + l(r, q) - segment * lx
 }
 
-// The residual part of ln γ_i, from q_i, the part of the table that starts at row i, θ, the column sums and the log of the
-// i-th. The quotients run without a test for the diagonal, then its own is put right.
+// The residual part of ln γ_i, from q_i, the part of the table that starts at row i, θ, the column sums and
+// the log of the i-th. The quotients run without a test for the diagonal, then its own is put right.
 fn residual(
     n: usize,
     q: f64,
@@ -82,8 +85,15 @@ fn residual(
     ln_sum: f64,
     i: usize,
 ) -> f64
-    requires { ⌜ (n ≤ length (now row)) × (n ≤ length (now theta)) × (n ≤ length (now sums)) × (i < n) × (n ≤ mostComponents) ⌝ }
-    ensures { λ v. ⌜ v ≡ q ⊗ (one ⊖ «ln_sum» ⊖ sum n (λ j. at (now (theta .entry)) j ⊗ unitAt i (at (now (row .entry))) j ⊘ at (now (sums .entry)) j)) ⌝ }
+    requires { ⌜ (n ≤ length (now row))
+        × (n ≤ length (now theta))
+        × (n ≤ length (now sums))
+        × (i < n)
+        × (n ≤ mostComponents) ⌝ }
+    ensures { λ v.
+        let θ = at (now (theta .entry)) in
+        let S = at (now (sums .entry)) in
+        ⌜ v ≡ q ⊗ (one ⊖ «ln_sum» ⊖ sum n (λ j. θ j ⊗ unitAt i (at (now (row .entry))) j ⊘ S j)) ⌝ }
 {
     let mut terms = [0.0; COMPONENTS];
     for j in 0..n {
@@ -107,8 +117,18 @@ fn ln_gamma(
     sums: &[f64],
     i: usize,
 ) -> f64
-    requires { ⌜ (n ≤ length (now r)) × (n ≤ length (now q)) × (n * n ≤ length (now e)) × (n ≤ length (now x)) × (n ≤ length (now theta)) × (n ≤ length (now sums)) × (i < n) × UniquacShared n (at (now r)) (at (now q)) (grid n (now e)) (at (now x)) rx lx (now theta) (now sums) × (n ≤ mostComponents) ⌝ }
-    ensures { λ v. ⌜ v ≡ lnGamma n (at (now (r .entry))) (at (now (q .entry))) (grid n (now (e .entry))) (at (now (x .entry))) i ⌝ }
+    requires { ⌜ (n ≤ length (now r))
+        × (n ≤ length (now q))
+        × (n * n ≤ length (now e))
+        × (n ≤ length (now x))
+        × (n ≤ length (now theta))
+        × (n ≤ length (now sums))
+        × (i < n)
+        × UniquacShared n (at (now r)) (at (now q)) (grid n (now e)) (at (now x)) rx lx (now theta) (now sums)
+        × (n ≤ mostComponents) ⌝ }
+    ensures { λ v.
+        let E = grid n (now (e .entry)) in
+        ⌜ v ≡ lnGamma n (at (now (r .entry))) (at (now (q .entry))) E (at (now (x .entry))) i ⌝ }
 {
     let phi = x[i] * r[i] / rx;
     let segment = phi / x[i];
@@ -129,8 +149,16 @@ fn fill_ratios(
     segments: &mut [f64],
     areas: &mut [f64],
 )
-    requires { ⌜ (n ≤ length (now r)) × (n ≤ length (now x)) × (n ≤ length (now theta)) × (n ≤ length (now segments)) × (n ≤ length (now areas)) ⌝ }
-    ensures { λ _. ⌜ Filled (λ k. at (now (x .entry)) k ⊗ at (now (r .entry)) k ⊘ rx ⊘ at (now (x .entry)) k) n (now (segments .exit)) × Filled (λ k. at (now (theta .entry)) k ⊘ (at (now (x .entry)) k ⊗ at (now (r .entry)) k ⊘ rx)) n (now (areas .exit)) ⌝ }
+    requires { ⌜ (n ≤ length (now r))
+        × (n ≤ length (now x))
+        × (n ≤ length (now theta))
+        × (n ≤ length (now segments))
+        × (n ≤ length (now areas)) ⌝ }
+    ensures { λ _.
+        let X = at (now (x .entry)) in
+        let R = at (now (r .entry)) in
+        ⌜ Filled (λ k. X k ⊗ R k ⊘ rx ⊘ X k) n (now (segments .exit))
+        × Filled (λ k. at (now (theta .entry)) k ⊘ (X k ⊗ R k ⊘ rx)) n (now (areas .exit)) ⌝ }
 {
     for i in 0..n {
         let phi = x[i] * r[i] / rx;
@@ -162,8 +190,17 @@ fn excess_gibbs(
     theta: &[f64],
     sums: &[f64],
 ) -> f64
-    requires { ⌜ (n ≤ length (now r)) × (n ≤ length (now q)) × (n * n ≤ length (now e)) × (n ≤ length (now x)) × (n ≤ length (now theta)) × (n ≤ length (now sums)) × UniquacShared n (at (now r)) (at (now q)) (grid n (now e)) (at (now x)) rx lx (now theta) (now sums) × (n ≤ mostComponents) ⌝ }
-    ensures { λ v. ⌜ v ≡ excess n (at (now (r .entry))) (at (now (q .entry))) (grid n (now (e .entry))) (at (now (x .entry))) ⌝ }
+    requires { ⌜ (n ≤ length (now r))
+        × (n ≤ length (now q))
+        × (n * n ≤ length (now e))
+        × (n ≤ length (now x))
+        × (n ≤ length (now theta))
+        × (n ≤ length (now sums))
+        × UniquacShared n (at (now r)) (at (now q)) (grid n (now e)) (at (now x)) rx lx (now theta) (now sums)
+        × (n ≤ mostComponents) ⌝ }
+    ensures { λ v.
+        let E = grid n (now (e .entry)) in
+        ⌜ v ≡ excess n (at (now (r .entry))) (at (now (q .entry))) E (at (now (x .entry))) ⌝ }
 {
     let mut segments = [0.0; COMPONENTS];
     // θ_i/φ_i until their logs are taken
@@ -185,8 +222,15 @@ fn excess_gibbs(
 
 // The quantity over a table of exponentials.
 pub fn value_over(n: usize, r: &[f64], q: &[f64], e: &[f64], x: &[f64], k: Quantity) -> f64
-    requires { ⌜ (n ≤ mostComponents) × (n ≤ length (now r)) × (n ≤ length (now q)) × (n * n ≤ length (now e)) × (n ≤ length (now x)) × (indexFault n k ≡ 0) ⌝ }
-    ensures { λ v. ⌜ v ≡ uniquac n (at (now (r .entry))) (at (now (q .entry))) (grid n (now (e .entry))) (at (now (x .entry))) k ⌝ }
+    requires { ⌜ (n ≤ mostComponents)
+        × (n ≤ length (now r))
+        × (n ≤ length (now q))
+        × (n * n ≤ length (now e))
+        × (n ≤ length (now x))
+        × (indexFault n k ≡ 0) ⌝ }
+    ensures { λ v.
+        let E = grid n (now (e .entry)) in
+        ⌜ v ≡ uniquac n (at (now (r .entry))) (at (now (q .entry))) E (at (now (x .entry))) k ⌝ }
 {
     let rx = arithmetic::dot(x, r, n);
     let lx = l_sum(n, r, q, x);
@@ -214,8 +258,13 @@ pub fn value_over(n: usize, r: &[f64], q: &[f64], e: &[f64], x: &[f64], k: Quant
 
 // The quantity at T, from the values.
 pub fn value_at(n: usize, values: &[f64], t: f64, x: &[f64], k: Quantity) -> f64
-    requires { ⌜ (n ≤ mostComponents) × (uniquacSize n ≤ length (now values)) × (n ≤ length (now x)) × (indexFault n k ≡ 0) ⌝ }
-    ensures { λ v. ⌜ v ≡ uniquacAt n (rs n (now (values .entry))) (qs n (now (values .entry))) (energies n (now (values .entry))) t (at (now (x .entry))) k ⌝ }
+    requires { ⌜ (n ≤ mostComponents)
+        × (uniquacSize n ≤ length (now values))
+        × (n ≤ length (now x))
+        × (indexFault n k ≡ 0) ⌝ }
+    ensures { λ v.
+        let vs = now (values .entry) in
+        ⌜ v ≡ uniquacAt n (rs n vs) (qs n vs) (energies n vs) t (at (now (x .entry))) k ⌝ }
 {
     let mut e = [0.0; PAIRS];
     crate::exponentials::fill_energies(values, t, n, &mut e[..]);

@@ -1,4 +1,5 @@
-// Wilson's equation. A table of exponentials stands by full rows of n; what stands on its diagonal doesn't count.
+// Wilson's equation. A table of exponentials stands by full rows of n; what stands on its diagonal doesn't
+// count.
 ghost use mathlib.Core.Path.{_≡_};
 ghost use Prim.Native.Nat.{_*_, _≤_, _<_};
 ghost use lib.ListN.{length};
@@ -29,11 +30,16 @@ pub fn size(n: usize) -> usize
     n * n + n
 }
 
-// Σ_j x_j Λ_ij, from the part of the table that starts at row i. The terms run without a test for the diagonal, then its own
-// is put right.
+// Σ_j x_j Λ_ij, from the part of the table that starts at row i. The terms run without a test for the
+// diagonal, then its own is put right.
 fn row_sum(n: usize, v: &[f64], row: &[f64], x: &[f64], i: usize) -> f64
-    requires { ⌜ (n ≤ length (now v)) × (n ≤ length (now row)) × (n ≤ length (now x)) × (i < n) × (n ≤ mostComponents) ⌝ }
-    ensures { λ r. ⌜ r ≡ rowSum n (at (now (v .entry))) (λ _. at (now (row .entry))) (at (now (x .entry))) i ⌝ }
+    requires { ⌜ (n ≤ length (now v))
+        × (n ≤ length (now row))
+        × (n ≤ length (now x))
+        × (i < n)
+        × (n ≤ mostComponents) ⌝ }
+    ensures { λ r.
+        ⌜ r ≡ rowSum n (at (now (v .entry))) (λ _. at (now (row .entry))) (at (now (x .entry))) i ⌝ }
 {
     let mut terms = [0.0; COMPONENTS];
     let own = v[i];
@@ -46,8 +52,14 @@ fn row_sum(n: usize, v: &[f64], row: &[f64], x: &[f64], i: usize) -> f64
 
 // What all components share: writes the sum of each row.
 fn row_sums(n: usize, v: &[f64], e: &[f64], x: &[f64], sums: &mut [f64])
-    requires { ⌜ (n ≤ mostComponents) × (n ≤ length (now v)) × (n * n ≤ length (now e)) × (n ≤ length (now x)) × (n ≤ length (now sums)) ⌝ }
-    ensures { λ _. ⌜ Filled (rowSum n (at (now (v .entry))) (grid n (now (e .entry))) (at (now (x .entry)))) n (now (sums .exit)) ⌝ }
+    requires { ⌜ (n ≤ mostComponents)
+        × (n ≤ length (now v))
+        × (n * n ≤ length (now e))
+        × (n ≤ length (now x))
+        × (n ≤ length (now sums)) ⌝ }
+    ensures { λ _.
+        let each = rowSum n (at (now (v .entry))) (grid n (now (e .entry))) (at (now (x .entry))) in
+        ⌜ Filled each n (now (sums .exit)) ⌝ }
 {
     for i in 0..n {
         let at = i * n;
@@ -57,7 +69,11 @@ fn row_sums(n: usize, v: &[f64], e: &[f64], x: &[f64], sums: &mut [f64])
 
 // Λ_ij off the diagonal.
 fn lambda(n: usize, v: &[f64], e: &[f64], i: usize, j: usize) -> f64
-    requires { ⌜ (n ≤ mostComponents) × (n ≤ length (now v)) × (n * n ≤ length (now e)) × (i < n) × (j < n) ⌝ }
+    requires { ⌜ (n ≤ mostComponents)
+        × (n ≤ length (now v))
+        × (n * n ≤ length (now e))
+        × (i < n)
+        × (j < n) ⌝ }
     ensures { λ r. ⌜ r ≡ at (now (v .entry)) j ⊘ at (now (v .entry)) i ⊗ grid n (now (e .entry)) i j ⌝ }
 {
     v[j] / v[i] * e[i * n + j]
@@ -65,7 +81,13 @@ fn lambda(n: usize, v: &[f64], e: &[f64], i: usize, j: usize) -> f64
 
 // ln γ_i, from the row sums. The terms run without a test for the diagonal, then its own is put right.
 fn ln_gamma(n: usize, v: &[f64], e: &[f64], x: &[f64], sums: &[f64], i: usize) -> f64
-    requires { ⌜ (n ≤ length (now v)) × (n * n ≤ length (now e)) × (n ≤ length (now x)) × (n ≤ length (now sums)) × (i < n) × (n ≤ mostComponents) × Filled (rowSum n (at (now v)) (grid n (now e)) (at (now x))) n (now sums) ⌝ }
+    requires { ⌜ (n ≤ length (now v))
+        × (n * n ≤ length (now e))
+        × (n ≤ length (now x))
+        × (n ≤ length (now sums))
+        × (i < n)
+        × (n ≤ mostComponents)
+        × Filled (rowSum n (at (now v)) (grid n (now e)) (at (now x))) n (now sums) ⌝ }
     ensures { λ r. ⌜ r ≡ lnGamma n (at (now (v .entry))) (grid n (now (e .entry))) (at (now (x .entry))) i ⌝ }
 {
     let mut terms = [0.0; COMPONENTS];
@@ -91,8 +113,13 @@ fn excess_gibbs(n: usize, x: &[f64], sums: &mut [f64]) -> f64
 
 // The quantity over a table of exponentials.
 pub fn value_over(n: usize, v: &[f64], e: &[f64], x: &[f64], q: Quantity) -> f64
-    requires { ⌜ (n ≤ mostComponents) × (n ≤ length (now v)) × (n * n ≤ length (now e)) × (n ≤ length (now x)) × (indexFault n q ≡ 0) ⌝ }
-    ensures { λ r. ⌜ r ≡ W·wilson n (at (now (v .entry))) (grid n (now (e .entry))) (at (now (x .entry))) q ⌝ }
+    requires { ⌜ (n ≤ mostComponents)
+        × (n ≤ length (now v))
+        × (n * n ≤ length (now e))
+        × (n ≤ length (now x))
+        × (indexFault n q ≡ 0) ⌝ }
+    ensures { λ r.
+        ⌜ r ≡ W·wilson n (at (now (v .entry))) (grid n (now (e .entry))) (at (now (x .entry))) q ⌝ }
 {
     let mut sums = [0.0; COMPONENTS];
     row_sums(n, v, e, x, &mut sums[..]);
@@ -105,8 +132,13 @@ pub fn value_over(n: usize, v: &[f64], e: &[f64], x: &[f64], q: Quantity) -> f64
 
 // The quantity at T, from the values.
 pub fn value_at(n: usize, values: &[f64], t: f64, x: &[f64], q: Quantity) -> f64
-    requires { ⌜ (n ≤ mostComponents) × (wilsonSize n ≤ length (now values)) × (n ≤ length (now x)) × (indexFault n q ≡ 0) ⌝ }
-    ensures { λ r. ⌜ r ≡ wilsonAt n (volumes n (now (values .entry))) (energies n (now (values .entry))) t (at (now (x .entry))) q ⌝ }
+    requires { ⌜ (n ≤ mostComponents)
+        × (wilsonSize n ≤ length (now values))
+        × (n ≤ length (now x))
+        × (indexFault n q ≡ 0) ⌝ }
+    ensures { λ r.
+        let v = now (values .entry) in
+        ⌜ r ≡ wilsonAt n (volumes n v) (energies n v) t (at (now (x .entry))) q ⌝ }
 {
     let mut e = [0.0; PAIRS];
     crate::exponentials::fill_energies(values, t, n, &mut e[..]);
