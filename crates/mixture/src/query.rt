@@ -188,7 +188,7 @@ fn unifac(
         ln: ln,
     };
     let count = refill::refill(rows, table, table, cells, marks);
-    let value = models::unifac::value_over(
+    let value = models::unifac::value_by(
         n,
         ng,
         &lens[..],

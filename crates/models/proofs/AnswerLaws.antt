@@ -10,12 +10,12 @@ use native.Mathlib.Omega.{arith}
 use lib.Dec.{leb, ltb}
 use lib.ListN.{length}
 use lib.Ieee.{Float}
-use borrow.Author.Tests.{ne-eqb, ltb-true, leb-true}
+use borrow.Author.Tests.{eq-eqb, eqb-true, ne-eqb, ltb-true, leb-true}
 use Rattle.arithmetic.specs.Exponential.{expOf}
 use Rattle.models.specs.declared.answers.Quantity.{Quantity}
 use Rattle.models.specs.declared.answers.Quantity.the-variants.{LnGamma, Gamma, ExcessGibbs}
 use Rattle.models.specs.declared.answers.Answer.the-variants.{Value, Refused}
-use Rattle.models.specs.Answers.{numberOf, valuesOf, answer, first, firstTo, quantity}
+use Rattle.models.specs.Answers.{numberOf, valuesOf, answer, first, firstTo, quantity, reads}
 use Rattle.models.specs.Faults.{indexFault, shapeFault}
 
 in-range : (n i : ℕ) → _≡_ {A = ℕ} (cond (ltb i n) 0 7) 0 → i < n
@@ -100,6 +100,23 @@ unfolding quantity
 quantity-same n (LnGamma i) f g a b z p e = p i (index-ln refl z)
 quantity-same n (Gamma i) f g a b z p e = ap expOf (p i (index-gamma refl z))
 quantity-same n ExcessGibbs f g a b z p e = e
+
+-- ln γ and γ go by their component alone
+pub reads-ln : {q : Quantity} {k i : ℕ} → q ≡ LnGamma k → reads q i ≡ true → k ≡ i
+unfolding reads
+reads-ln {k = k} {i} e r = eqb-true k i (rw e at r)
+
+pub reads-gamma : {q : Quantity} {k i : ℕ} → q ≡ Gamma k → reads q i ≡ true → k ≡ i
+unfolding reads
+reads-gamma {k = k} {i} e r = eqb-true k i (rw e at r)
+
+-- the same where ln γ are known to be equal for those components alone that the quantity goes by
+pub quantity-read : (n : ℕ) (q : Quantity) (f g : ℕ → Float) (a b : Float) → indexFault n q ≡ 0 →
+    ((i : ℕ) → i < n → reads q i ≡ true → f i ≡ g i) → (((i : ℕ) → i < n → f i ≡ g i) → a ≡ b) → quantity q f a ≡ quantity q g b
+unfolding quantity reads
+quantity-read n (LnGamma i) f g a b z p e = p i (index-ln refl z) (eq-eqb i i refl)
+quantity-read n (Gamma i) f g a b z p e = ap expOf (p i (index-gamma refl z) (eq-eqb i i refl))
+quantity-read n ExcessGibbs f g a b z p e = e (λ i h. p i h refl)
 
 -- ---- a model's size, which code works out for n within range alone
 

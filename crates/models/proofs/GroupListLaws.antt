@@ -13,16 +13,17 @@ use lib.ListN.{length, getD, set, replicate, length-set}
 use lib.Seq.{getD-set-same, getD-set-other, getD-take, getD-drop}
 use lib.Ieee.{Float, nan, binary64, ofBits, lt}
 use borrow.Author.Tests.{eqb-true, eqb-false}
-use Rattle.arithmetic.specs.Floats.{_⊕_, _⊖_, _⊗_, _⊘_}
-use Rattle.arithmetic.specs.Sums.{fold, sum, total}
+use Rattle.arithmetic.specs.Floats.{_⊘_, +0}
+use Rattle.arithmetic.specs.Sums.{fold, total}
 use Rattle.arithmetic.specs.Tables.{at, from, part, Filled}
-use Rattle.arithmetic.proofs.SumLaws.{fold-more, sum-same}
-use Rattle.arithmetic.proofs.TableLaws.{part-length, part-at, from-length, by-place}
+use Rattle.arithmetic.proofs.SumLaws.{fold-more}
+use Rattle.arithmetic.proofs.TableLaws.{part-length, from-length, by-place}
 use Rattle.models.proofs.ColumnLaws.{zeros}
 use Rattle.models.specs.Faults.{between, allTo, listsFault}
-use Rattle.models.specs.Unifac.{Groups, size, residual, counts, amount, amounts, fraction, pureCount, pureFraction}
-use Rattle.models.specs.Values.{start, countsAt, unifacSize, lists}
-use Rattle.models.specs.steps.GroupLists.{Listed, Sized, Loaded, Named, gathered, added, put}
+use Rattle.models.specs.Unifac as Unifac
+use Rattle.models.specs.Unifac.{Groups, amount, amounts, fraction, pureCount, pureFraction}
+use Rattle.models.specs.Values.{start, countsAt, unifacSize}
+use Rattle.models.specs.steps.GroupLists.{Listed, Paired, Sized, Loaded, Named, own, gathered, added, put}
 
 -- ---- where a list starts
 
@@ -56,6 +57,14 @@ module _ {n ng : ℕ} {lens groups : List ℕ} {counts : List Float} (all : List
     below = λ p c. omega (arith, all .below p (omega (arith, start-up lens (i + 1) n (omega arith))));
   }
 
+  pub listed-upto : (m : ℕ) → m ≤ n → Listed m ng lens groups counts
+  listed-upto m h = record {
+    many = omega (arith, all .many);
+    within = omega (arith, start-up lens m n h, all .within);
+    counted = omega (arith, start-up lens m n h, all .counted);
+    below = λ p c. all .below p (omega (arith, start-up lens m n h));
+  }
+
   pub listed-wider : (m : ℕ) → ng ≤ m → Listed n m lens groups counts
   listed-wider m b = record { many = all .many; within = all .within; counted = all .counted; below = λ p c. omega (arith, all .below p c) }
 
@@ -66,21 +75,21 @@ module _ (i : ℕ) {ng : ℕ} {lens groups : List ℕ} {counts : List Float} {s 
   pub list-group : (p : ℕ) → p < getD lens i 0 → getD groups (s + p) 0 < ng
   list-group p h = all .below (s + p) (omega (arith, start-more lens i here refl))
 
-  -- the list lent as a part
-  list-part : (p : ℕ) → p < getD lens i 0 → getD (part s (s + getD lens i 0) groups) p 0 ≡ getD groups (s + p) 0
+  -- the list lent as parts
+  pub list-part : (p : ℕ) → p < getD lens i 0 → getD (part s (s + getD lens i 0) groups) p 0 ≡ getD groups (s + p) 0
   list-part p h = let b : p < s + getD lens i 0 - s = omega arith in rw (getD-take, getD-drop)
 
-  list-part-length : length (part s (s + getD lens i 0) groups) ≡ getD lens i 0
+  pub list-part-length : length (part s (s + getD lens i 0) groups) ≡ getD lens i 0
   list-part-length = part-length s (s + getD lens i 0) groups (list-ends .0) ∙ omega arith
 
-  pub list-part-group : (p : ℕ) → p < length (part s (s + getD lens i 0) groups) → getD (part s (s + getD lens i 0) groups) p 0 < ng
-  list-part-group p h = let b : p < getD lens i 0 = omega (arith, list-part-length) in rw (list-part p b) (list-group p b)
-
-  pub list-part-named : {F : ℕ → Float} {g : List Float} → Named (length (part s (s + getD lens i 0) groups)) (λ p. getD (part s (s + getD lens i 0) groups) p 0) F g → Named (lists lens groups counts .length i) (lists lens groups counts .group i) F g
-  unfolding lists
-  list-part-named {F} {g} named = record {
-    each = λ p h. let e : getD (part s (s + getD lens i 0) groups) p 0 ≡ getD groups (start lens i + p) 0 = list-part p h ∙ rw here in rw (← e) (named .each p (omega (arith, list-part-length)));
+  pub list-paired : Paired ng (part s (s + getD lens i 0) groups) (part s (s + getD lens i 0) counts)
+  list-paired = record {
+    counted = part-length s (s + getD lens i 0) counts (list-ends .1) ∙ omega (arith, list-part-length);
+    below = λ p h. let b : p < getD lens i 0 = omega (arith, list-part-length) in rw (list-part p b) (list-group p b);
   }
+
+pub paired-wider : {ng : ℕ} {list : List ℕ} {counts : List Float} (m : ℕ) → ng ≤ m → Paired ng list counts → Paired m list counts
+paired-wider m b all = record { counted = all .counted; below = λ p h. omega (arith, all .below p h) }
 
 -- ---- a sum kept for every group at once
 
@@ -143,63 +152,31 @@ module _ (group : ℕ → ℕ) (F : ℕ → Float) where
   pub filled-named : (m ng : ℕ) {g : List Float} → ((p : ℕ) → p < m → group p < ng) → Filled F ng g → Named m group F g
   filled-named m ng below all = record { each = λ p h. all .each (group p) (below p h) }
 
--- ---- what the sums over a list come to, s being where the list starts
-
-module _ (lens groups : List ℕ) (counts : List Float) (i : ℕ) {s : ℕ} (here : s ≡ start lens i) where
-  pub size-is : (S : ℕ → Float) {v : Float} → v ≡ sum (getD lens i 0) (λ p. at counts (s + p) ⊗ S (getD groups (s + p) 0)) → v ≡ size (lists lens groups counts) S i
-  unfolding size lists
-  size-is S e = e ∙ rw here
-
-  pub residual-is : (M P : ℕ → Float) {v : Float} →
-      v ≡ sum (getD lens i 0) (λ p. at counts (s + p) ⊗ (M (getD groups (s + p) 0) ⊖ P (getD groups (s + p) 0))) → v ≡ residual (lists lens groups counts) M (λ j. P) i
-  unfolding residual lists
-  residual-is M P e = e ∙ rw here
-
-  pub added-is : (x : Float) (old : ℕ → Float) {m : ℕ} {num : List Float} →
-      Filled (λ k. gathered (getD lens i 0) (λ p. getD groups (s + p) 0) (λ p s′. s′ ⊕ x ⊗ at counts (s + p)) k (old k)) m num →
-      Filled (λ k. added (lists lens groups counts) x i k (old k)) m num
-  unfolding lists
-  added-is x old all = rw here at all
-
-  pub put-is : (old : ℕ → Float) {m : ℕ} {num : List Float} →
-      Filled (λ k. gathered (getD lens i 0) (λ p. getD groups (s + p) 0) (λ p s′. at counts (s + p)) k (old k)) m num →
-      Filled (λ k. put (lists lens groups counts) i k (old k)) m num
-  unfolding lists
-  put-is old all = rw here at all
-
--- the sum of the part of the counts that is the list
-pub counts-is : (lens : List ℕ) (counts : List Float) (i : ℕ) {s : ℕ} {v : Float} → s ≡ start lens i → s + getD lens i 0 ≤ length counts →
-    v ≡ total (part s (s + getD lens i 0) counts) → v ≡ sum (getD lens i 0) (λ p. at counts (start lens i + p))
-unfolding total
-counts-is lens counts i {s} here ends e =
-    let l : length (part s (s + getD lens i 0) counts) ≡ getD lens i 0 = part-length s (s + getD lens i 0) counts ends ∙ omega arith in
-    e ∙ rw l (sum-same (getD lens i 0) _ _ (λ p h. part-at counts s (s + getD lens i 0) p (omega arith) ∙ rw here))
-
 -- ---- fractions
 
 module _ (c : Groups) (x : ℕ → Float) where
-  pub amount-none : Filled (amount 0 c x) 32 (replicate 32 (ofBits binary64 0))
+  pub amount-none : (m : ℕ) {num : List Float} → Filled (λ _. +0) m num → Filled (amount 0 c x) m num
   unfolding amount fold
-  amount-none = zeros 32
+  amount-none m zeros = record { each = zeros .each }
 
   pub amount-more : (i m : ℕ) {num after : List Float} → length num ≡ m → Filled (amount i c x) m num → Filled (λ k. added c (x i) i k (at num k)) (length num) after → Filled (amount (i + 1) c x) m after
   unfolding amount gathered
   amount-more i m long all turn = record { each = λ k h. fold-more _ _ i (all .each k h) (turn .each k (omega arith)) }
 
-  pub fraction-over : (n ng : ℕ) {w : Float} {num r : List Float} → w ≡ amounts n c x → lt (ofBits binary64 0) w ≡ true → ng ≤ 32 →
-      Filled (amount n c x) 32 num → Filled (λ k. at num k ⊘ w) ng r → Filled (fraction n c x) ng r
+  pub fraction-over : (n ng m : ℕ) {w : Float} {num r : List Float} → w ≡ amounts n c x → lt (ofBits binary64 0) w ≡ true → ng ≤ m →
+      Filled (amount n c x) m num → Filled (λ k. at num k ⊘ w) ng r → Filled (fraction n c x) ng r
   unfolding fraction ofBits
-  fraction-over n ng p t few all over = record { each = λ k h. rw (← p, t) (over .each k h ∙ rw (all .each k (omega arith))) }
+  fraction-over n ng m p t few all over = record { each = λ k h. rw (← p, t) (over .each k h ∙ rw (all .each k (omega arith))) }
 
-  pub fraction-none : (n ng : ℕ) {w : Float} → w ≡ amounts n c x → lt (ofBits binary64 0) w ≡ false → ng ≤ 32 → Filled (fraction n c x) ng (replicate 32 (ofBits binary64 0))
+  pub fraction-none : (n ng : ℕ) {w : Float} {r : List Float} → w ≡ amounts n c x → lt (ofBits binary64 0) w ≡ false → Filled (λ _. +0) ng r → Filled (fraction n c x) ng r
   unfolding fraction ofBits
-  fraction-none n ng p t few = record { each = λ k h. rw (← p, t) (zeros 32 .each k (omega arith)) }
+  fraction-none n ng p t zeros = record { each = λ k h. rw (← p, t) (zeros .each k h) }
 
-pub pure-over : (c : Groups) (i ng : ℕ) {w : Float} {num r : List Float} → w ≡ counts c i → ng ≤ 32 →
-    Filled (λ k. put c i k (at (replicate 32 (ofBits binary64 0)) k)) 32 num → Filled (λ k. at num k ⊘ w) ng r → Filled (pureFraction c i) ng r
-unfolding pureFraction pureCount gathered
-pure-over c i ng p few all over = record {
-  each = λ k h. over .each k h ∙ rw (← p, all .each k (omega arith), zeros 32 .each k (omega arith));
+pub pure-over : (list : List ℕ) (counts : List Float) (ng : ℕ) {w : Float} {num r : List Float} → Paired ng list counts → w ≡ total counts → ng ≤ 32 →
+    Filled (λ k. put (own list counts) 0 k (at (replicate 32 (ofBits binary64 0)) k)) 32 num → Filled (λ k. at num k ⊘ w) ng r → Filled (pureFraction (own list counts) 0) ng r
+unfolding pureFraction pureCount Unifac.counts gathered total
+pure-over list counts ng all p few put over = record {
+  each = λ k h. over .each k h ∙ rw (p, all .counted, put .each k (omega arith), zeros 32 .each k (omega arith));
 }
 
 -- ---- faults

@@ -1,35 +1,37 @@
 -- UNIFAC: what an exponential reads, rows lent as parts, sums worked out once, and equal inputs give equal values.
 use mathlib.Core.Path.{_≡_, refl, ap, _∙_}
-use mathlib.Core.Bool.{cond}
-use mathlib.Core.List.{List}
+use mathlib.Core.Bool.{true, cond}
+use mathlib.Core.List.{List, _++_}
 use Prim.Native.Nat.{ℕ, _+_, _*_, _/_, _%_, _<_, _≤_}
 use native.Mathlib.Nat.{div-add-mod'}
 use native.Mathlib.Omega.{arith}
 use lib.Dec.{eqb}
-use lib.ListN.{length}
-use lib.Ieee.{Float, neg}
+use lib.ListN.{length, getD, take}
+use lib.Seq.{getD-take}
+use lib.Ieee.{Float, nan, neg}
 use Rattle.arithmetic.specs.Floats.{_⊕_, _⊖_, _⊗_, _⊘_, +0, one}
 use Rattle.arithmetic.specs.Exponential.{expOf}
 use Rattle.arithmetic.specs.Logarithm.{logOf}
 use Rattle.arithmetic.specs.Parameters.{tdAt}
-use Rattle.arithmetic.specs.Sums.{fold, sum}
-use Rattle.arithmetic.specs.Tables.{at, grid, from, flat, Filled}
+use Rattle.arithmetic.specs.Sums.{fold, sum, total}
+use Rattle.arithmetic.specs.Tables.{at, grid, from, part, flat, Filled}
 use Rattle.arithmetic.proofs.SumLaws.{fold-same, sum-same}
-use Rattle.arithmetic.proofs.TableLaws.{row-end, filled-as, filled-cell, from-at}
+use Rattle.arithmetic.proofs.TableLaws.{row-end, cell-lt, filled-as, filled-cell, from-at, part-at, by-place, back-before, back-within}
 use Rattle.models.specs.declared.answers.Quantity.{Quantity}
 use Rattle.models.specs.declared.answers.Quantity.the-variants.{LnGamma, Gamma, ExcessGibbs}
 use Rattle.models.specs.declared.unifac.Shared.{Shared}
-use Rattle.models.specs.Answers.{quantity}
+use Rattle.models.specs.Answers.{quantity, reads}
 use Rattle.models.specs.Faults.{indexFault}
 use Rattle.models.specs.Columns.{columnSum}
 use Rattle.models.specs.Exponentials.{groupEnergy}
-use Rattle.models.specs.steps.GroupLists.{Listed, Loaded, Named}
-use Rattle.models.specs.Unifac.{Groups, size, sizeSum, combinatorial, combinatorialBy, counts, amount, amounts, fraction, pureCount, pureFraction, theta, lnGroup, mixed, pure, residual, lnGamma, excess, unifac, unifacAt}
-use Rattle.models.specs.steps.Unifac.{psiBy, Shares, lnFrom}
-use Rattle.models.specs.Values.{fiveAt, countsAt, groupRs, groupQs, groupAs, lists}
-use Rattle.models.proofs.AnswerLaws.{quantity-ln, quantity-gamma, quantity-excess, quantity-same}
+use Rattle.models.specs.steps.GroupLists.{Listed, Loaded, Named, ListedRows, own, gathered, added}
+use Rattle.models.specs.Unifac as Unifac
+use Rattle.models.specs.Unifac.{Groups, size, sizeSum, combinatorial, combinatorialBy, counts, amount, amounts, fraction, pureCount, pureFraction, theta, lnGroup, mixed, pure, residual, lnGamma, excess, unifac, unifacBy, unifacAt}
+use Rattle.models.specs.steps.Unifac.{psiBy, Shares, combinatorialFrom, lnFrom}
+use Rattle.models.specs.Values.{fiveAt, start, countsAt, groupRs, groupQs, groupAs, lists}
+use Rattle.models.proofs.AnswerLaws.{quantity-ln, quantity-gamma, quantity-excess, quantity-same, quantity-read}
 use Rattle.models.proofs.ParameterLaws.{five-from}
-use Rattle.models.proofs.GroupListLaws.{listed-less, list-group}
+use Rattle.models.proofs.GroupListLaws.{listed-less, list-group, list-part, list-part-length, list-paired}
 
 -- ---- an exponential
 
@@ -135,11 +137,16 @@ module _ {ng : ℕ} {c d : Groups} {i : ℕ} (l : SameList ng c d i) where
       fold-same (c .length i) +0 _ _ (λ p a h. rw (l .groups p h, l .counts p h)) ∙ ap (λ (m : ℕ). fold m +0 (λ p s. cond (eqb (d .group i p) k) (d .count i p) s)) (l .lengths) in
       rw (C, counts-same)
 
-  pub residual-same : (M N : ℕ → Float) (P O : ℕ → ℕ → Float) → ((k : ℕ) → k < ng → M k ≡ N k) → ((k : ℕ) → k < ng → P i k ≡ O i k) → residual c M P i ≡ residual d N O i
+  residual-same : (M N : ℕ → Float) (P O : ℕ → ℕ → Float) → ((k : ℕ) → k < ng → M k ≡ N k) → ((p : ℕ) → p < c .length i → P i (c .group i p) ≡ O i (c .group i p)) → residual c M P i ≡ residual d N O i
   unfolding residual
-  residual-same M N P O m p =
-      sum-same (c .length i) _ _ (λ q h. rw (m (c .group i q) (l .below q h), p (c .group i q) (l .below q h), l .groups q h, l .counts q h))
+  residual-same M N P O m e =
+      sum-same (c .length i) _ _ (λ p h. rw (m (c .group i p) (l .below p h), e p h, l .groups p h, l .counts p h))
       ∙ ap (λ (m : ℕ). sum m (λ q. d .count i q ⊗ (N (d .group i q) ⊖ O i (d .group i q)))) (l .lengths)
+
+  -- ln Γ in pure i looks at the list of i, Q and Ψ alone
+  pub pure-one-same : (Q U : ℕ → Float) → ((k : ℕ) → k < ng → Q k ≡ U k) → (Ψ Φ : ℕ → ℕ → Float) → ((m k : ℕ) → m < ng → k < ng → Ψ m k ≡ Φ m k) → (k : ℕ) → k < ng → pure ng c Q Ψ i k ≡ pure ng d U Φ i k
+  unfolding pure
+  pure-one-same Q U same-Q Ψ Φ same-Ψ k b = group-same ng Q U Ψ Φ _ _ k b same-Q same-Ψ (λ m h. theta-same ng Q U _ _ m h same-Q (λ g _. pure-fraction-same g))
 
 module _ (n ng : ℕ) (c d : Groups) (lists : (i : ℕ) → i < n → SameList ng c d i)
     (Q U : ℕ → Float) (same-Q : (k : ℕ) → k < ng → Q k ≡ U k)
@@ -168,86 +175,135 @@ module _ (n ng : ℕ) (c d : Groups) (lists : (i : ℕ) → i < n → SameList n
   unfolding mixed
   mixed-same k b = group-same ng Q U Ψ Φ _ _ k b same-Q same-Ψ (λ m h. theta-same ng Q U _ _ m h same-Q (λ g _. fraction-same g))
 
-  pub pure-same : (i k : ℕ) → i < n → k < ng → pure ng c Q Ψ i k ≡ pure ng d U Φ i k
-  unfolding pure
-  pure-same i k h b = group-same ng Q U Ψ Φ _ _ k b same-Q same-Ψ (λ m b. theta-same ng Q U _ _ m b same-Q (λ g _. pure-fraction-same (lists i h) g))
-
   module _ (R S : ℕ → Float) (same-R : (k : ℕ) → k < ng → R k ≡ S k) where
-    ln-same : (i : ℕ) → i < n → lnGamma n ng c R Q Ψ (pure ng c Q Ψ) x i ≡ lnGamma n ng d S U Φ (pure ng d U Φ) y i
-    unfolding lnGamma combinatorial
-    ln-same i h =
-        rw (
-          size-same (lists i h) R S same-R,
-          size-same (lists i h) Q U same-Q,
-          size-sum-same R S same-R,
-          size-sum-same Q U same-Q,
-          residual-same (lists i h) (mixed n ng c Q Ψ x) (mixed n ng d U Φ y) (pure ng c Q Ψ) (pure ng d U Φ) mixed-same (λ k b. pure-same i k h b),
-        )
+    module _ (P O : ℕ → ℕ → Float) where
+      ln-same : (i : ℕ) → i < n → ((p : ℕ) → p < c .length i → P i (c .group i p) ≡ O i (c .group i p)) → lnGamma n ng c R Q Ψ P x i ≡ lnGamma n ng d S U Φ O y i
+      unfolding lnGamma combinatorial
+      ln-same i h e =
+          rw (
+            size-same (lists i h) R S same-R,
+            size-same (lists i h) Q U same-Q,
+            size-sum-same R S same-R,
+            size-sum-same Q U same-Q,
+            residual-same (lists i h) (mixed n ng c Q Ψ x) (mixed n ng d U Φ y) P O mixed-same e,
+          )
+
+      -- the tables of pure ln Γ agree at the groups that the components which q goes by list
+      pub unifac-by-same : (q : Quantity) → indexFault n q ≡ 0 → ((i : ℕ) → i < n → reads q i ≡ true → (p : ℕ) → p < c .length i → P i (c .group i p) ≡ O i (c .group i p)) →
+          unifacBy n ng c R Q Ψ P x q ≡ unifacBy n ng d S U Φ O y q
+      unfolding unifacBy excess
+      unifac-by-same q z e = quantity-read n q _ _ _ _ z (λ i h r. ln-same i h (e i h r)) (λ all. sum-same n _ _ (λ i h. rw (same-x i h, all i h)))
 
     pub unifac-same : (q : Quantity) → indexFault n q ≡ 0 → unifac n ng c R Q Ψ x q ≡ unifac n ng d S U Φ y q
-    unfolding unifac excess
-    unifac-same q z = quantity-same n q _ _ _ _ z ln-same (sum-same n _ _ (λ i h. rw (same-x i h, ln-same i h)))
+    unfolding unifac
+    unifac-same q z = unifac-by-same (pure ng c Q Ψ) (pure ng d U Φ) q z (λ i h _ p b. pure-one-same (lists i h) Q U same-Q Ψ Φ same-Ψ (c .group i p) (lists i h .below p b))
+
+-- ---- a list lent as parts
+
+module _ (i : ℕ) {ng : ℕ} {lens groups : List ℕ} {counts : List Float} {s : ℕ} (all : Listed (i + 1) ng lens groups counts) (here : s ≡ start lens i) where
+  own-same : SameList ng (own (part s (s + getD lens i 0) groups) (part s (s + getD lens i 0) counts)) (lists lens groups counts) i
+  unfolding lists
+  own-same = record {
+    lengths = list-part-length i all here;
+    groups = λ p h. list-part i all here p (omega (arith, list-part-length i all here)) ∙ rw here;
+    counts = λ p h. part-at counts s (s + getD lens i 0) p (omega (arith, list-part-length i all here)) ∙ rw here;
+    below = list-paired i all here .below;
+  }
+
+  pub size-own : (S : ℕ → Float) {v : Float} → v ≡ size (own (part s (s + getD lens i 0) groups) (part s (s + getD lens i 0) counts)) S 0 → v ≡ size (lists lens groups counts) S i
+  unfolding size
+  size-own S e = e ∙ size-same own-same S S (λ k b. refl)
+
+  pub counts-own : {v : Float} → v ≡ total (part s (s + getD lens i 0) counts) → v ≡ Unifac.counts (lists lens groups counts) i
+  unfolding total Unifac.counts
+  counts-own e = e ∙ ap (λ (m : ℕ). sum m (at (part s (s + getD lens i 0) counts))) (list-paired i all here .counted) ∙ counts-same own-same
+
+  pub added-own : (x : Float) (old : ℕ → Float) {m : ℕ} {num : List Float} → Filled (λ k. added (own (part s (s + getD lens i 0) groups) (part s (s + getD lens i 0) counts)) x 0 k (old k)) m num →
+      Filled (λ k. added (lists lens groups counts) x i k (old k)) m num
+  unfolding gathered
+  added-own x old = filled-as (λ k h. added-same own-same x x k (old k) refl)
+
+  pub pure-own : (Q : ℕ → Float) (Ψ : ℕ → ℕ → Float) {g : List Float} →
+      Named (length (part s (s + getD lens i 0) groups)) (λ p. getD (part s (s + getD lens i 0) groups) p 0) (pure ng (own (part s (s + getD lens i 0) groups) (part s (s + getD lens i 0) counts)) Q Ψ 0) g →
+      Named (lists lens groups counts .length i) (lists lens groups counts .group i) (pure ng (lists lens groups counts) Q Ψ i) g
+  unfolding pure pureFraction pureCount Unifac.counts
+  pure-own Q Ψ {g} named = record {
+    each = λ p h.
+        let b : p < length (part s (s + getD lens i 0) groups) = rw (← own-same .lengths) at h in
+        let e : at g (getD (part s (s + getD lens i 0) groups) p 0) ≡ pure ng (lists lens groups counts) Q Ψ i (getD (part s (s + getD lens i 0) groups) p 0) =
+        named .each p b ∙ pure-one-same own-same Q Q (λ k b. refl) Ψ Ψ (λ m k b c. refl) _ (own-same .below p b) in
+        rw (own-same .groups p b) at e;
+  }
+
+  -- g has ln Γ in the mixture of the groups listed, and row i of the table has that in pure i
+  pub residual-own : (M : ℕ → Float) (g table : List Float) {v : Float} → Named (length (part s (s + getD lens i 0) groups)) (λ p. getD (part s (s + getD lens i 0) groups) p 0) M g → i * ng + ng ≤ length table →
+      v ≡ residual (own (part s (s + getD lens i 0) groups) (part s (s + getD lens i 0) counts)) (at (take ng g)) (λ _. at (from (i * ng) table)) 0 → v ≡ residual (lists lens groups counts) M (grid ng table) i
+  unfolding residual
+  residual-own M g table named room e =
+      e
+      ∙ sum-same (length (part s (s + getD lens i 0) groups)) _ _
+      (λ p h. rw (getD-take ng g (getD (part s (s + getD lens i 0) groups) p 0) nan (own-same .below p h), named .each p h, from-at table (i * ng) (getD (part s (s + getD lens i 0) groups) p 0) (omega (arith, own-same .below p h))))
+      ∙ residual-same own-same M M (grid ng table) (grid ng table) (λ k b. refl) (λ p h. refl)
+
+-- row i comes back in the middle of the table
+pub rows-more : (first i ng : ℕ) (c : Groups) (F : ℕ → ℕ → Float) (g ys rest : List Float) → i * ng ≤ length g → ng ≤ length ys → ((j p : ℕ) → j ≤ i → p < c .length j → c .group j p < ng) →
+    ListedRows first i ng c F g → Named (c .length i) (c .group i) (F i) ys → ListedRows first (i + 1) ng c F (take (i * ng) g ++ (ys ++ rest))
+rows-more first i ng c F g ys rest h l below all row = record {
+  each = λ j a b p q.
+      by-place j i
+      (λ d. back-before (i * ng) g ys rest (j * ng + c .group j p) h (cell-lt i ng j (c .group j p) d (below j p (omega arith) q)) ∙ all .each j a d p q)
+      (λ e. rw (← e) (own p (rw (← e) at q)))
+      (λ d. absurd (omega arith));
+}
+  where
+    own : (p : ℕ) → p < c .length i → at (take (i * ng) g ++ (ys ++ rest)) (i * ng + c .group i p) ≡ F i (c .group i p)
+    own p q = back-within (i * ng) g ys rest (c .group i p) h (omega (arith, below i p (omega arith) q)) ∙ row .each p q
 
 -- ---- ln γ from what the components share
 
-pub shares-from : (n ng : ℕ) (c : Groups) (R Q : ℕ → Float) (x : ℕ → Float) {r q t : List Float} {rs qs : Float} →
-    Filled (size c R) n r → Filled (size c Q) n q → rs ≡ sum n (λ j. x j ⊗ at r j) → qs ≡ sum n (λ j. x j ⊗ at q j) → Filled (theta ng Q (fraction n c x)) ng t →
-    Shares n ng c R Q x (record { r = r; q = q; rs = rs; qs = qs; theta = t })
+pub shares-from : (n : ℕ) (c : Groups) (R Q : ℕ → Float) (x : ℕ → Float) {r q : List Float} {rs qs : Float} →
+    Filled (size c R) n r → Filled (size c Q) n q → rs ≡ sum n (λ j. x j ⊗ at r j) → qs ≡ sum n (λ j. x j ⊗ at q j) →
+    Shares n c R Q x (record { r = r; q = q; rs = rs; qs = qs })
 unfolding sizeSum
-shares-from n ng c R Q x rAll qAll rSum qSum tAll = record {
+shares-from n c R Q x rAll qAll rSum qSum = record {
   rEach = rAll;
   qEach = qAll;
   rSum = rSum ∙ sum-same n _ _ (λ j h. rw (rAll .each j h));
   qSum = qSum ∙ sum-same n _ _ (λ j h. rw (qAll .each j h));
-  thetas = tAll;
 }
 
--- the residual sum reads ln Γ of the groups that i lists alone: g has that in the mixture, p in pure i
-residual-mixed : (c : Groups) (M : ℕ → Float) (P : ℕ → ℕ → Float) (i : ℕ) {g : List Float} → Named (c .length i) (c .group i) M g → residual c (at g) P i ≡ residual c M P i
-unfolding residual
-residual-mixed c M P i all = sum-same (c .length i) _ _ (λ p h. rw (all .each p h))
-
-residual-pure : (c : Groups) (M : ℕ → Float) (P : ℕ → ℕ → Float) (i : ℕ) {g : List Float} → Named (c .length i) (c .group i) (P i) g → residual c M (λ j. at g) i ≡ residual c M P i
-unfolding residual
-residual-pure c M P i all = sum-same (c .length i) _ _ (λ p h. rw (all .each p h))
-
--- what `ln_gamma_by` puts together: g has the pure ln Γ of component i
-pub ln-by : (c : Groups) (M : ℕ → Float) (P : ℕ → ℕ → Float) (i : ℕ) {g : List Float} {u v w : Float} →
-    u ≡ w → v ≡ residual c M (λ j. at g) i → Named (c .length i) (c .group i) (P i) g → u ⊕ v ≡ w ⊕ residual c M P i
-ln-by c M P i p q all = rw (p, q, residual-pure c M P i all)
-
--- what `ln_gamma_by` gives where g has ln Γ in the mixture
-pub ln-from : (s : Shared) (ng : ℕ) (c : Groups) (Q : ℕ → Float) (Ψ : ℕ → ℕ → Float) (i : ℕ) {g : List Float} {v : Float} → Named (c .length i) (c .group i) (lnGroup ng Q Ψ (at (s .theta))) g →
-    v ≡ combinatorialBy (at (s .q) i) (at (s .r) i ⊘ s .rs) (at (s .q) i ⊘ s .qs) ⊕ residual c (at g) (pure ng c Q Ψ) i → v ≡ lnFrom s ng c Q Ψ i
+pub ln-from : (s : Shared) (ng : ℕ) (c : Groups) (Q : ℕ → Float) (Ψ : ℕ → ℕ → Float) (Θ : ℕ → Float) (P : ℕ → ℕ → Float) (i : ℕ) {u v : Float} →
+    u ≡ combinatorialFrom s i → v ≡ residual c (lnGroup ng Q Ψ Θ) P i → u ⊕ v ≡ lnFrom s ng c Q Ψ Θ P i
 unfolding lnFrom
-ln-from s ng c Q Ψ i all p = p ∙ rw (residual-mixed c _ (pure ng c Q Ψ) i all)
+ln-from s ng c Q Ψ Θ P i p q = rw (p, q)
 
-module _ (n ng : ℕ) (c : Groups) (R Q : ℕ → Float) (Ψ : ℕ → ℕ → Float) (x : ℕ → Float) {s : Shared} (all : Shares n ng c R Q x s) (lists : (i : ℕ) → i < n → SameList ng c c i) where
-  ln-shared : (i : ℕ) → i < n → lnFrom s ng c Q Ψ i ≡ lnGamma n ng c R Q Ψ (pure ng c Q Ψ) x i
-  unfolding lnFrom lnGamma combinatorial mixed
+module _ (n ng : ℕ) (c : Groups) (R Q : ℕ → Float) (Ψ P : ℕ → ℕ → Float) (x : ℕ → Float) {s : Shared} {th : List Float}
+    (all : Shares n c R Q x s) (thetas : Filled (theta ng Q (fraction n c x)) ng th) (lists : (i : ℕ) → i < n → SameList ng c c i) where
+  ln-shared : (i : ℕ) → i < n → lnFrom s ng c Q Ψ (at th) P i ≡ lnGamma n ng c R Q Ψ P x i
+  unfolding lnFrom combinatorialFrom lnGamma combinatorial mixed
   ln-shared i h =
       rw (
         all .rEach .each i h,
         all .qEach .each i h,
         all .rSum,
         all .qSum,
-        residual-same (lists i h) _ _ (pure ng c Q Ψ) (pure ng c Q Ψ) (group-from ng Q Ψ _ (all .thetas)) (λ k b. refl),
+        residual-same (lists i h) _ _ P P (group-from ng Q Ψ _ thetas) (λ p b. refl),
       )
 
   unifac-shared : (q : Quantity) → indexFault n q ≡ 0 →
-      quantity q (lnFrom s ng c Q Ψ) (sum n (λ i. x i ⊗ lnFrom s ng c Q Ψ i)) ≡ unifac n ng c R Q Ψ x q
-  unfolding unifac excess
+      quantity q (lnFrom s ng c Q Ψ (at th) P) (sum n (λ i. x i ⊗ lnFrom s ng c Q Ψ (at th) P i)) ≡ unifacBy n ng c R Q Ψ P x q
+  unfolding unifacBy excess
   unifac-shared q z = quantity-same n q _ _ _ _ z ln-shared (sum-same n _ _ (λ i h. rw (ln-shared i h)))
 
   -- what `over` answers for each quantity
-  pub unifac-ln : {q : Quantity} {i : ℕ} {v : Float} → q ≡ LnGamma i → indexFault n q ≡ 0 → v ≡ lnFrom s ng c Q Ψ i → v ≡ unifac n ng c R Q Ψ x q
+  pub unifac-ln : {q : Quantity} {i : ℕ} {v : Float} → q ≡ LnGamma i → indexFault n q ≡ 0 → v ≡ lnFrom s ng c Q Ψ (at th) P i → v ≡ unifacBy n ng c R Q Ψ P x q
   unifac-ln {q} e z p = quantity-ln _ _ e p ∙ unifac-shared q z
 
-  pub unifac-gamma : {q : Quantity} {i : ℕ} {v w : Float} → q ≡ Gamma i → indexFault n q ≡ 0 → w ≡ lnFrom s ng c Q Ψ i → v ≡ expOf w → v ≡ unifac n ng c R Q Ψ x q
+  pub unifac-gamma : {q : Quantity} {i : ℕ} {v w : Float} → q ≡ Gamma i → indexFault n q ≡ 0 → w ≡ lnFrom s ng c Q Ψ (at th) P i → v ≡ expOf w → v ≡ unifacBy n ng c R Q Ψ P x q
   unifac-gamma {q} e z p r = quantity-gamma _ _ e p r ∙ unifac-shared q z
 
-  pub unifac-excess : {q : Quantity} {v : Float} → q ≡ ExcessGibbs → indexFault n q ≡ 0 → v ≡ sum n (λ i. x i ⊗ lnFrom s ng c Q Ψ i) → v ≡ unifac n ng c R Q Ψ x q
-  unifac-excess {q} e z p = quantity-excess (lnFrom s ng c Q Ψ) _ e p ∙ unifac-shared q z
+  pub unifac-excess : {q : Quantity} {v : Float} → q ≡ ExcessGibbs → indexFault n q ≡ 0 → v ≡ sum n (λ i. x i ⊗ lnFrom s ng c Q Ψ (at th) P i) → v ≡ unifacBy n ng c R Q Ψ P x q
+  unifac-excess {q} e z p = quantity-excess (lnFrom s ng c Q Ψ (at th) P) _ e p ∙ unifac-shared q z
 
 -- ---- lists and values in slices
 
@@ -256,15 +312,31 @@ unfolding lists
 listed-same {n} {ng} all i h = same-self ng _ i (list-group i (listed-less all i ng h (omega arith)) refl)
 
 -- what `value_over` hands on: the parts of the values where Q and the counts start
-pub value-from : (n ng : ℕ) (lens groups : List ℕ) (values : List Float) (Ψ : ℕ → ℕ → Float) (x : ℕ → Float) (q : Quantity) {s : ℕ} {v : Float} → Loaded n ng lens groups values → indexFault n q ≡ 0 → s ≡ countsAt ng →
-    v ≡ unifac n ng (lists lens groups (from s values)) (at values) (at (from ng values)) Ψ x q →
-    v ≡ unifac n ng (lists lens groups (from (countsAt ng) values)) (groupRs ng values) (groupQs ng values) Ψ x q
+pub value-from : (n ng : ℕ) (lens groups : List ℕ) (values : List Float) (Ψ P : ℕ → ℕ → Float) (x : ℕ → Float) (q : Quantity) {s : ℕ} {v : Float} → Loaded n ng lens groups values → indexFault n q ≡ 0 → s ≡ countsAt ng →
+    v ≡ unifacBy n ng (lists lens groups (from s values)) (at values) (at (from ng values)) Ψ P x q →
+    v ≡ unifacBy n ng (lists lens groups (from (countsAt ng) values)) (groupRs ng values) (groupQs ng values) Ψ P x q
 unfolding groupRs groupQs countsAt
-value-from n ng lens groups values Ψ x q {s} all z e p =
-    p ∙ ap (λ (s : ℕ). unifac n ng (lists lens groups (from s values)) (at values) (at (from ng values)) Ψ x q) e
-    ∙ unifac-same n ng _ _ (listed-same (all .listed))
+value-from n ng lens groups values Ψ P x q {s} all z e p =
+    p ∙ ap (λ (s : ℕ). unifacBy n ng (lists lens groups (from s values)) (at values) (at (from ng values)) Ψ P x q) e
+    ∙ unifac-by-same n ng _ _ (listed-same (all .listed))
     _ _ (λ k b. from-at values ng k (omega (arith, all .tables)))
-    _ _ (λ m k b c. refl) _ _ (λ i h. refl) _ _ (λ k b. refl) q z
+    _ _ (λ m k b c. refl) _ _ (λ i h. refl) _ _ (λ k b. refl) P P q z (λ i h r p b. refl)
+
+-- a table whose rows that count are those of the pure components
+pub value-pure : (n ng : ℕ) (lens groups : List ℕ) (values table : List Float) (Ψ : ℕ → ℕ → Float) (x : ℕ → Float) (q : Quantity) {s a b : ℕ} {v : Float} → Loaded n ng lens groups values → indexFault n q ≡ 0 → s ≡ countsAt ng →
+    ((i : ℕ) → i < n → reads q i ≡ true → (a ≤ i) × (i < b)) → ListedRows a b ng (lists lens groups (from s values)) (pure ng (lists lens groups (from s values)) (at (from ng values)) Ψ) table →
+    v ≡ unifacBy n ng (lists lens groups (from (countsAt ng) values)) (groupRs ng values) (groupQs ng values) Ψ (grid ng table) x q →
+    v ≡ unifac n ng (lists lens groups (from (countsAt ng) values)) (groupRs ng values) (groupQs ng values) Ψ x q
+unfolding unifac groupQs countsAt
+value-pure n ng lens groups values table Ψ x q {s} {a} {b} all z e span rows p =
+    let own : ListedRows a b ng (lists lens groups (from (countsAt ng) values)) (pure ng (lists lens groups (from (countsAt ng) values)) (at (from ng values)) Ψ) table = rw e at rows in
+    let same = listed-same (all .listed) in
+    p
+    ∙ unifac-by-same n ng _ _ same
+    _ _ (λ k b. refl) _ _ (λ m k b c. refl) _ _ (λ i h. refl) _ _ (λ k b. refl) (grid ng table) _ q z
+    (λ i h r p c.
+    own .each i (span i h r .0) (span i h r .1) p c
+    ∙ pure-one-same (same i h) _ _ (λ k b. from-at values ng k (omega (arith, all .tables))) Ψ Ψ (λ m k b c. refl) _ (same i h .below p c))
 
 -- a table that is filled with the exponentials at T
 pub value-filled : (n ng : ℕ) (lens groups : List ℕ) (values table : List Float) (x : ℕ → Float) (T : Float) (q : Quantity) {v : Float} → Loaded n ng lens groups values → indexFault n q ≡ 0 →

@@ -1,5 +1,5 @@
 -- What is asked of a model, and what a plain call answers: document 01, "Models" and "What each call declines".
-use mathlib.Core.Bool.{cond}
+use mathlib.Core.Bool.{Bool, true, cond}
 use mathlib.Core.List.{List, [], _∷_}
 use Prim.Native.Nat.{ℕ, zero, suc}
 use lib.Dec.{eqb, ltb}
@@ -39,3 +39,9 @@ unfoldable pub quantity : Quantity → Vector → Float → Float
 quantity (LnGamma i) lnGamma excess = lnGamma i
 quantity (Gamma i) lnGamma excess = expOf (lnGamma i)
 quantity ExcessGibbs lnGamma excess = excess
+
+-- the quantity goes by component i: ln γ and γ of i by i alone, the excess energy by all
+unfoldable pub reads : Quantity → ℕ → Bool
+reads (LnGamma k) i = eqb k i
+reads (Gamma k) i = eqb k i
+reads ExcessGibbs i = true

@@ -93,8 +93,12 @@ lnGamma n ng c R Q Ψ P x i = combinatorial n c R Q x i ⊕ residual c (mixed n 
 unfoldable pub excess : ℕ → ℕ → Groups → Vector → Vector → Table → Table → Vector → Float
 excess n ng c R Q Ψ P x = sum n (λ i. x i ⊗ lnGamma n ng c R Q Ψ P x i)
 
+-- over Ψ and a table P of the pure ln Γ
+unfoldable pub unifacBy : ℕ → ℕ → Groups → Vector → Vector → Table → Table → Vector → Quantity → Float
+unifacBy n ng c R Q Ψ P x q = quantity q (lnGamma n ng c R Q Ψ P x) (excess n ng c R Q Ψ P x)
+
 unfoldable pub unifac : ℕ → ℕ → Groups → Vector → Vector → Table → Vector → Quantity → Float
-unifac n ng c R Q Ψ x q = quantity q (lnGamma n ng c R Q Ψ (pure ng c Q Ψ) x) (excess n ng c R Q Ψ (pure ng c Q Ψ) x)
+unifac n ng c R Q Ψ x q = unifacBy n ng c R Q Ψ (pure ng c Q Ψ) x q
 
 -- at T, over the td entries a
 unfoldable pub unifacAt : ℕ → ℕ → Groups → Vector → Vector → (ℕ → ℕ → TdParam) → Float → Vector → Quantity → Float

@@ -1,14 +1,13 @@
 // UNIFAC's group lists: lens has their lengths; groups and counts stand list after list.
 ghost use mathlib.Core.Path.{_≡_};
-ghost use Prim.Native.Nat.{ℕ, _+_, _≤_, _<_};
-ghost use lib.ListN.{length, getD};
-ghost use Rattle.arithmetic.specs.Floats.{_⊘_};
-ghost use Rattle.arithmetic.specs.Sums.{sum};
+ghost use Prim.Native.Nat.{_≤_};
+ghost use lib.ListN.{length};
+ghost use Rattle.arithmetic.specs.Floats.{_⊘_, +0};
 ghost use Rattle.arithmetic.specs.Tables.{at, Filled};
 ghost use Rattle.models.specs.Limits.{mostComponents, mostGroups};
-ghost use Rattle.models.specs.Values.{start, countsAt, lists};
-ghost use Rattle.models.specs.steps.GroupLists.{Listed, added, put};
-ghost use Rattle.models.specs.Unifac.{size as Unifac·size, amount as Unifac·amount, amounts as Unifac·amounts, residual as Unifac·residual};
+ghost use Rattle.models.specs.Values.{start, countsAt};
+ghost use Rattle.models.specs.steps.GroupLists.{Listed, Paired, added, put, ownList, listsOf};
+ghost use Rattle.models.specs.Unifac.{size as Unifac·size, amount, amounts as Unifac·amounts, residual as Unifac·residual};
 ghost use Rattle.models.specs.Unifac.{fraction, pureFraction};
 use crate::limits::COMPONENTS;
 use crate::limits::GROUPS;
@@ -25,157 +24,135 @@ pub fn start_of(lens: &[u8], i: usize) -> usize
     s
 }
 
-// r_i for s = R, q_i for s = Q: the sum of count·s over the list of i.
-fn size(lens: &[u8], groups: &[u8], counts: &[f64], s: &[f64], i: usize) -> f64
-    requires { ⌜ (Listed (i + 1) (length (now s)) (now lens) (now groups) (now counts)) × (i < mostComponents) ⌝ }
-    ensures { λ r. ⌜ r ≡ Unifac·size (lists (now (lens .entry)) (now (groups .entry)) (now (counts .entry))) (at (now (s .entry))) i ⌝ }
+// The size of a component, r for s = R and q for s = Q: the sum of count·s over its list.
+fn size(list: &[u8], counts: &[f64], s: &[f64]) -> f64
+    requires { ⌜ Paired (length (now s)) (now list) (now counts) ⌝ }
+    ensures { λ r. ⌜ r ≡ Unifac·size (ownList list counts) (at (now (s .entry))) 0 ⌝ }
 {
-    let start = start_of(lens, i);
-    let len = lens[i] as usize;
     let mut r_i = 0.0;
-    for p in 0..len {
-        let place = start + p;
-        let g = groups[place] as usize;
-        r_i = r_i + counts[place] * s[g];
+    for p in 0..list.len() {
+        let g = list[p] as usize;
+        r_i = r_i + counts[p] * s[g];
     }
     r_i
 }
 
 // The size of each component.
-pub fn sizes(lens: &[u8], groups: &[u8], counts: &[f64], s: &[f64], n: usize) -> [f64; COMPONENTS]
-    requires { ⌜ (Listed n (length (now s)) (now lens) (now groups) (now counts)) × (n ≤ mostComponents) ⌝ }
-    ensures { λ r. ⌜ Filled (Unifac·size (lists (now (lens .entry)) (now (groups .entry)) (now (counts .entry))) (at (now (s .entry)))) n r ⌝ }
+pub fn sizes(n: usize, lens: &[u8], groups: &[u8], counts: &[f64], s: &[f64]) -> [f64; COMPONENTS]
+    requires { ⌜ Listed n (length (now s)) (now lens) (now groups) (now counts) × (n ≤ mostComponents) ⌝ }
+    ensures { λ r. ⌜ Filled (Unifac·size (listsOf lens groups counts) (at (now (s .entry)))) n r ⌝ }
 {
     let mut sizes = [0.0; COMPONENTS];
+    let mut start = 0;
     for i in 0..n {
-        sizes[i] = size(lens, groups, counts, s, i);
+        let end = start + (lens[i] as usize);
+        sizes[i] = size(&groups[start..end], &counts[start..end], s);
+        start = end;
     }
     sizes
 }
 
-// All counts of component i.
-fn count_sum(lens: &[u8], counts: &[f64], i: usize) -> f64
-    requires { ⌜ (i + 1 ≤ length (now lens)) × (start (now lens) (i + 1) ≤ length (now counts)) × (i < mostComponents) ⌝ }
-    ensures { λ r. ⌜ r ≡ sum (getD (now (lens .entry)) i 0) (λ p. at (now (counts .entry)) (start (now (lens .entry)) i + p)) ⌝ }
+// Adds x·count to the group's number, for each place of a list in turn.
+fn add_counts(list: &[u8], counts: &[f64], x: f64, num: &mut [f64])
+    requires { ⌜ Paired (length (now num)) (now list) (now counts) ⌝ }
+    ensures { λ _. ⌜ Filled (λ k. added (ownList list counts) x 0 k (at (now (num .entry)) k))
+        (length (now (num .entry))) (now (num .exit)) ⌝ }
 {
-    let start = start_of(lens, i);
-    let end = start + (lens[i] as usize);
-    arithmetic::sum(&counts[start..end])
+    for p in 0..list.len() {
+        let g = list[p] as usize;
+        num[g] = num[g] + x * counts[p];
+    }
 }
 
-// The sum over the components of x_i times all its counts.
-fn amounts(lens: &[u8], groups: &[u8], counts: &[f64], x: &[f64], n: usize) -> f64
-    requires { ⌜ (Listed n mostGroups (now lens) (now groups) (now counts)) × (n ≤ mostComponents) × (n ≤ length (now x)) ⌝ }
-    ensures { λ r. ⌜ r ≡ Unifac·amounts n (lists (now (lens .entry)) (now (groups .entry)) (now (counts .entry))) (at (now (x .entry))) ⌝ }
+// Writes the count of each place of a list to its group's number, the last for a group listed twice.
+fn put_counts(list: &[u8], counts: &[f64], num: &mut [f64])
+    requires { ⌜ Paired (length (now num)) (now list) (now counts) ⌝ }
+    ensures { λ _. ⌜ Filled (λ k. put (ownList list counts) 0 k (at (now (num .entry)) k))
+        (length (now (num .entry))) (now (num .exit)) ⌝ }
+{
+    for p in 0..list.len() {
+        let g = list[p] as usize;
+        num[g] = counts[p];
+    }
+}
+
+// Adds x_i·count to each group's number, and gives the sum of x_i times all counts of i.
+fn amounts(n: usize, lens: &[u8], groups: &[u8], counts: &[f64], x: &[f64], num: &mut [f64]) -> f64
+    requires { ⌜ Listed n (length (now num)) (now lens) (now groups) (now counts)
+        × (n ≤ mostComponents)
+        × (n ≤ length (now x))
+        × Filled (λ _. +0) (length (now num)) (now num) ⌝ }
+    ensures { λ r. ⌜ (r ≡ Unifac·amounts n (listsOf lens groups counts) (at (now (x .entry))))
+        × Filled (amount n (listsOf lens groups counts) (at (now (x .entry)))) (length (now (num .entry))) (now (num .exit)) ⌝ }
 {
     let mut s = 0.0;
+    let mut start = 0;
     for i in 0..n {
-        s = s + x[i] * count_sum(lens, counts, i);
+        let end = start + (lens[i] as usize);
+        let count = &counts[start..end];
+        add_counts(&groups[start..end], count, x[i], num);
+        s = s + x[i] * arithmetic::sum(count);
+        start = end;
     }
     s
 }
 
-// Adds x·count to the group's number, for each place of the list of i in turn.
-fn add_counts(lens: &[u8], groups: &[u8], counts: &[f64], x: f64, i: usize, num: &mut [f64])
-    requires { ⌜ (Listed (i + 1) (length (now num)) (now lens) (now groups) (now counts)) × (i < mostComponents) ⌝ }
-    ensures { λ _. ⌜ Filled (λ k. added (lists (now (lens .entry)) (now (groups .entry)) (now (counts .entry))) x i k (at (now (num .entry)) k)) (length (now (num .entry))) (now (num .exit)) ⌝ }
+// Writes the first ng numbers over d.
+fn over(ng: usize, num: &[f64], d: f64, out: &mut [f64])
+    requires { ⌜ (ng ≤ length (now num)) × (ng ≤ length (now out)) ⌝ }
+    ensures { λ _. ⌜ Filled (λ k. at (now (num .entry)) k ⊘ d) ng (now (out .exit)) ⌝ }
 {
-    let start = start_of(lens, i);
-    let len = lens[i] as usize;
-    for p in 0..len {
-        let place = start + p;
-        let g = groups[place] as usize;
-        num[g] = num[g] + x * counts[place];
-    }
-}
-
-// Writes the count of each place of the list of i to its group's number, the last for a group listed twice.
-fn put_counts(lens: &[u8], groups: &[u8], counts: &[f64], i: usize, num: &mut [f64])
-    requires { ⌜ (Listed (i + 1) (length (now num)) (now lens) (now groups) (now counts)) × (i < mostComponents) ⌝ }
-    ensures { λ _. ⌜ Filled (λ k. put (lists (now (lens .entry)) (now (groups .entry)) (now (counts .entry))) i k (at (now (num .entry)) k)) (length (now (num .entry))) (now (num .exit)) ⌝ }
-{
-    let start = start_of(lens, i);
-    let len = lens[i] as usize;
-    for p in 0..len {
-        let place = start + p;
-        let g = groups[place] as usize;
-        num[g] = counts[place];
-    }
-}
-
-// The sum of x_i·count for each group.
-fn amount(lens: &[u8], groups: &[u8], counts: &[f64], x: &[f64], n: usize) -> [f64; GROUPS]
-    requires { ⌜ (Listed n mostGroups (now lens) (now groups) (now counts)) × (n ≤ mostComponents) × (n ≤ length (now x)) ⌝ }
-    ensures { λ r. ⌜ Filled (Unifac·amount n (lists (now (lens .entry)) (now (groups .entry)) (now (counts .entry))) (at (now (x .entry)))) 32 r ⌝ }
-{
-    let mut num = [0.0; GROUPS];
-    for i in 0..n {
-        add_counts(lens, groups, counts, x[i], i, &mut num[..]);
-    }
-    num
-}
-
-// The first ng numbers over d.
-fn over(num: &[f64], d: f64, ng: usize) -> [f64; GROUPS]
-    requires { ⌜ (ng ≤ mostGroups) × (ng ≤ length (now num)) ⌝ }
-    ensures { λ r. ⌜ Filled (λ k. at (now (num .entry)) k ⊘ d) ng r ⌝ }
-{
-    let mut xg = [0.0; GROUPS];
     for g in 0..ng {
-        xg[g] = num[g] / d;
+        out[g] = num[g] / d;
     }
-    xg
 }
 
-// X of each group in the mixture.
+// Writes X of each group in the mixture; xg has zeros at first.
 pub fn group_fractions(
+    n: usize,
+    ng: usize,
     lens: &[u8],
     groups: &[u8],
     counts: &[f64],
     x: &[f64],
-    n: usize,
-    ng: usize,
-) -> [f64; GROUPS]
-    requires { ⌜ (Listed n mostGroups (now lens) (now groups) (now counts)) × (n ≤ mostComponents) × (n ≤ length (now x)) × (ng ≤ mostGroups) ⌝ }
-    ensures { λ r. ⌜ Filled (fraction n (lists (now (lens .entry)) (now (groups .entry)) (now (counts .entry))) (at (now (x .entry)))) ng r ⌝ }
-{
-    let denom = amounts(lens, groups, counts, x, n);
-    if denom > 0.0 {
-        let num = amount(lens, groups, counts, x, n);
-        return over(&num[..], denom, ng);
-    }
-    [0.0; GROUPS]
-}
-
-// X of each group in pure component i.
-pub fn group_fractions_pure(
-    lens: &[u8],
-    groups: &[u8],
-    counts: &[f64],
-    ng: usize,
-    i: usize,
-) -> [f64; GROUPS]
-    requires { ⌜ (Listed (i + 1) mostGroups (now lens) (now groups) (now counts)) × (i < mostComponents) × (ng ≤ mostGroups) ⌝ }
-    ensures { λ r. ⌜ Filled (pureFraction (lists (now (lens .entry)) (now (groups .entry)) (now (counts .entry))) i) ng r ⌝ }
+    xg: &mut [f64],
+)
+    requires { ⌜ Listed n ng (now lens) (now groups) (now counts)
+        × (n ≤ mostComponents)
+        × (n ≤ length (now x))
+        × (ng ≤ mostGroups)
+        × (ng ≤ length (now xg))
+        × Filled (λ _. +0) ng (now xg) ⌝ }
+    ensures { λ _. ⌜ Filled (fraction n (listsOf lens groups counts) (at (now (x .entry)))) ng (now (xg .exit)) ⌝ }
 {
     let mut num = [0.0; GROUPS];
-    put_counts(lens, groups, counts, i, &mut num[..]);
-    let tot = count_sum(lens, counts, i);
-    over(&num[..], tot, ng)
+    let denom = amounts(n, lens, groups, counts, x, &mut num[..]);
+    if denom > 0.0 {
+        over(ng, &num[..], denom, xg);
+    }
 }
 
-// The sum of count·(m - p) over the list of i: m has ln Γ in the mixture, p in pure i.
-pub fn residual(lens: &[u8], groups: &[u8], counts: &[f64], m: &[f64], p: &[f64], i: usize) -> f64
-    requires { ⌜ (Listed (i + 1) (length (now m)) (now lens) (now groups) (now counts)) × (i < mostComponents) × (length (now m) ≤ length (now p)) ⌝ }
-    ensures { λ r. ⌜ r ≡ Unifac·residual (lists (now (lens .entry)) (now (groups .entry)) (now (counts .entry))) (at (now (m .entry))) (λ j. at (now (p .entry))) i ⌝ }
+// Writes X of each group in a pure component.
+pub fn group_fractions_pure(ng: usize, list: &[u8], counts: &[f64], xg: &mut [f64])
+    requires { ⌜ Paired ng (now list) (now counts)
+        × (ng ≤ mostGroups)
+        × (ng ≤ length (now xg)) ⌝ }
+    ensures { λ _. ⌜ Filled (pureFraction (ownList list counts) 0) ng (now (xg .exit)) ⌝ }
 {
-    let start = start_of(lens, i);
-    let len = lens[i] as usize;
+    let mut num = [0.0; GROUPS];
+    put_counts(list, counts, &mut num[..]);
+    over(ng, &num[..], arithmetic::sum(counts), xg);
+}
+
+// The sum of count·(m - p) over a list: m has ln Γ in the mixture, p in the pure component.
+pub fn residual(list: &[u8], counts: &[f64], m: &[f64], p: &[f64]) -> f64
+    requires { ⌜ Paired (length (now m)) (now list) (now counts) × (length (now m) ≤ length (now p)) ⌝ }
+    ensures { λ r. ⌜ r ≡ Unifac·residual (ownList list counts) (at (now (m .entry))) (λ _. at (now (p .entry))) 0 ⌝ }
+{
     let mut resid = 0.0;
-    for k in 0..len {
-        let place = start + k;
-        let g = groups[place] as usize;
-        resid = resid + counts[place] * (m[g] - p[g]);
+    for k in 0..list.len() {
+        let g = list[k] as usize;
+        resid = resid + counts[k] * (m[g] - p[g]);
     }
     resid
 }

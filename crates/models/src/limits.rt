@@ -16,3 +16,6 @@ pub const VALUES: usize = 5328;
 pub const PAIRS: usize = COMPONENTS * COMPONENTS;
 
 pub const TABLE: usize = GROUPS * GROUPS;
+
+// The places of a table of pure ln Γ by n rows of ng.
+pub const PURE: usize = COMPONENTS * GROUPS;

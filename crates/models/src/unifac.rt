@@ -1,26 +1,29 @@
 // UNIFAC: A. Fredenslund, R. L. Jones, J. M. Prausnitz, AIChE J. 21 (1975) 1086.
 ghost use mathlib.Core.Path.{_≡_};
+ghost use mathlib.Core.Bool.{true};
 ghost use Prim.Native.Nat.{ℕ, _+_, _*_, _≤_, _<_};
 ghost use lib.ListN.{length, getD};
 ghost use lib.Ieee.{neg};
-ghost use Rattle.arithmetic.specs.Floats.{_⊕_, _⊖_, _⊗_, _⊘_, one};
+ghost use Rattle.arithmetic.specs.Floats.{_⊕_, _⊖_, _⊗_, _⊘_, +0, one};
 ghost use Rattle.arithmetic.specs.Sums.{sum};
 ghost use Rattle.arithmetic.specs.Parameters.{tdAt, tdBy};
-ghost use Rattle.arithmetic.specs.Tables.{at, grid, flat, from, Filled};
+ghost use Rattle.arithmetic.specs.Tables.{at, grid, flat, Filled};
 ghost use Rattle.models.specs.Limits.{mostComponents, mostGroups};
 ghost use Rattle.models.specs.Faults.{indexFault};
 ghost use Rattle.models.specs.Columns.{columnSum};
 ghost use Rattle.models.specs.Exponentials.{groupEnergy};
-ghost use Rattle.models.specs.steps.GroupLists.{Listed, Loaded, Named};
+ghost use Rattle.models.specs.Answers.{reads};
+ghost use Rattle.models.specs.steps.GroupLists.{Listed, Loaded, Named, Paired, ListedRows, ownList, listsOf, heldLists};
 ghost use Rattle.models.specs.Plain.{unifacPlain};
-ghost use Rattle.models.specs.Unifac.{theta as Unifac·theta, pure as Unifac·pure, fraction, lnGroup, combinatorialBy, residual, unifac, unifacAt};
-ghost use Rattle.models.specs.steps.Unifac.{psiBy, lnFrom, Shares};
-ghost use Rattle.models.specs.Values.{fiveAt, lists, countsAt, groupRs, groupQs, groupAs};
+ghost use Rattle.models.specs.Unifac.{theta as Unifac·theta, pure as Unifac·pure, fraction, lnGroup, combinatorialBy, residual, unifac, unifacBy, unifacAt};
+ghost use Rattle.models.specs.steps.Unifac.{psiBy, Grouped, Shares, combinatorialFrom, lnFrom};
+ghost use Rattle.models.specs.Values.{fiveAt, countsAt, groupRs, groupQs, groupAs};
 use crate::answers::Answer;
 use crate::answers::Quantity;
 use crate::columns;
 use crate::limits::COMPONENTS;
 use crate::limits::GROUPS;
+use crate::limits::PURE;
 use crate::limits::TABLE;
 use crate::model::Model;
 use crate::model::plain;
@@ -74,34 +77,34 @@ fn fill_table(values: &[f64], t: f64, ng: usize, table: &mut [f64])
     arithmetic::exp_each(table, count);
 }
 
-// Θ of each group from the group fractions.
-fn theta(q: &[f64], xg: &[f64], ng: usize) -> [f64; GROUPS]
-    requires { ⌜ (ng ≤ mostGroups) × (ng ≤ length (now q)) × (ng ≤ length (now xg)) ⌝ }
-    ensures { λ r. ⌜ Filled (Unifac·theta ng (at (now (q .entry))) (at (now (xg .entry)))) ng r ⌝ }
+// Writes Θ of each group from the group fractions.
+fn theta(ng: usize, q: &[f64], xg: &[f64], out: &mut [f64])
+    requires { ⌜ (ng ≤ length (now q)) × (ng ≤ length (now xg)) × (ng ≤ length (now out)) ⌝ }
+    ensures { λ _. ⌜ Filled (Unifac·theta ng (at (now (q .entry))) (at (now (xg .entry)))) ng (now (out .exit)) ⌝ }
 {
     let qs = arithmetic::dot(q, xg, ng);
-    let mut theta = [0.0; GROUPS];
     for g in 0..ng {
-        theta[g] = q[g] * xg[g] / qs;
+        out[g] = q[g] * xg[g] / qs;
     }
-    theta
 }
 
-// The sum of Θ_m Ψ_mk for each k, row after row.
-fn column_sums(theta: &[f64], psi: &[f64], ng: usize) -> [f64; GROUPS]
-    requires { ⌜ (ng ≤ mostGroups) × (ng ≤ length (now theta)) × (ng * ng ≤ length (now psi)) ⌝ }
-    ensures { λ r. ⌜ Filled (columnSum ng (grid ng (now (psi .entry))) (at (now (theta .entry)))) ng r ⌝ }
+// The sum of Θ_m Ψ_mk for each k, row after row; sums has zeros at first.
+fn column_sums(ng: usize, theta: &[f64], psi: &[f64], sums: &mut [f64])
+    requires { ⌜ (ng ≤ mostGroups)
+        × (ng ≤ length (now theta))
+        × (ng * ng ≤ length (now psi))
+        × (ng ≤ length (now sums))
+        × Filled (λ _. +0) ng (now sums) ⌝ }
+    ensures { λ _. ⌜ Filled (columnSum ng (grid ng (now (psi .entry))) (at (now (theta .entry)))) ng (now (sums .exit)) ⌝ }
 {
-    let mut sums = [0.0; GROUPS];
     for m in 0..ng {
         let place = m * ng;
-        columns::add_row(&psi[place..], theta[m], ng, &mut sums[..]);
+        columns::add_row(&psi[place..], theta[m], ng, sums);
     }
-    sums
 }
 
 // The sum of Θ_m row_m / denom_m: the quotients first, which don't wait for each other, then their fold.
-fn row_sum(theta: &[f64], row: &[f64], denom: &[f64], ng: usize) -> f64
+fn row_sum(ng: usize, theta: &[f64], row: &[f64], denom: &[f64]) -> f64
     requires { ⌜ (ng ≤ length (now theta)) × (ng ≤ length (now row)) × (ng ≤ length (now denom)) × (ng ≤ mostGroups) ⌝ }
     ensures { λ r. ⌜ r ≡ sum ng (λ m. at (now (theta .entry)) m ⊗ at (now (row .entry)) m ⊘ at (now (denom .entry)) m) ⌝ }
 {
@@ -114,103 +117,149 @@ fn row_sum(theta: &[f64], row: &[f64], denom: &[f64], ng: usize) -> f64
 
 // ln Γ of group k from its Q, the log of its column sum, and all column sums.
 fn group_gamma(
+    ng: usize,
     q: f64,
     log: f64,
     theta: &[f64],
     psi: &[f64],
     denom: &[f64],
-    ng: usize,
     k: usize,
 ) -> f64
-    requires { ⌜ (ng ≤ mostGroups) × (k < ng) × (ng ≤ length (now theta)) × (ng * ng ≤ length (now psi)) × (ng ≤ length (now denom)) ⌝ }
-    ensures { λ r. ⌜ r ≡ q ⊗ (one ⊖ log ⊖ sum ng (λ m. at (now (theta .entry)) m ⊗ grid ng (now (psi .entry)) k m ⊘ at (now (denom .entry)) m)) ⌝ }
+    requires { ⌜ (ng ≤ mostGroups)
+        × (k < ng)
+        × (ng ≤ length (now theta))
+        × (ng * ng ≤ length (now psi))
+        × (ng ≤ length (now denom)) ⌝ }
+    ensures { λ r. ⌜ r ≡ q ⊗ (one ⊖ log
+        ⊖ sum ng (λ m. at (now (theta .entry)) m ⊗ grid ng (now (psi .entry)) k m ⊘ at (now (denom .entry)) m)) ⌝ }
 {
     let place = k * ng;
-    q * (1.0 - log - row_sum(theta, &psi[place..], denom, ng))
+    q * (1.0 - log - row_sum(ng, theta, &psi[place..], denom))
 }
 
-// ln Γ of each group; the column sums that every one divides by, and their logs, are worked out once.
-fn gamma_k(q: &[f64], theta: &[f64], psi: &[f64], ng: usize) -> [f64; GROUPS]
-    requires { ⌜ (ng ≤ mostGroups) × (ng ≤ length (now q)) × (ng ≤ length (now theta)) × (ng * ng ≤ length (now psi)) ⌝ }
-    ensures { λ r. ⌜ Filled (lnGroup ng (at (now (q .entry))) (grid ng (now (psi .entry))) (at (now (theta .entry)))) ng r ⌝ }
+// Writes ln Γ of each group; the column sums that every one divides by, and their logs, are worked out once.
+fn gamma_k(ng: usize, q: &[f64], theta: &[f64], psi: &[f64], out: &mut [f64])
+    requires { ⌜ Grouped ng (now q) (now theta) (now psi) × (ng ≤ length (now out)) ⌝ }
+    ensures { λ _. ⌜ Filled (lnGroup ng (at (now (q .entry))) (grid ng (now (psi .entry))) (at (now (theta .entry)))) ng (now (out .exit)) ⌝ }
 {
-    let denom = column_sums(theta, psi, ng);
+    let mut denom = [0.0; GROUPS];
+    column_sums(ng, theta, psi, &mut denom[..]);
     let mut logs = denom;
     arithmetic::log_each(&mut logs[..], ng);
-    let mut gamma = [0.0; GROUPS];
     for k in 0..ng {
-        gamma[k] = group_gamma(q[k], logs[k], theta, psi, &denom[..], ng, k);
+        out[k] = group_gamma(ng, q[k], logs[k], theta, psi, &denom[..], k);
     }
-    gamma
 }
 
-// ln Γ of the groups named, each at its own place.
-fn gammas_of(named: &[u8], q: &[f64], theta: &[f64], psi: &[f64], ng: usize) -> [f64; GROUPS]
-    requires { ⌜ (ng ≤ mostGroups) × (ng ≤ length (now q)) × (ng ≤ length (now theta)) × (ng * ng ≤ length (now psi)) × ((p : ℕ) → p < length (now named) → getD (now named) p 0 < ng) ⌝ }
-    ensures { λ r. ⌜ Named (length (now (named .entry))) (λ p. getD (now (named .entry)) p 0) (lnGroup ng (at (now (q .entry))) (grid ng (now (psi .entry))) (at (now (theta .entry)))) r ⌝ }
+// Writes ln Γ of the groups that a list names, each at its own place.
+fn gammas_of(ng: usize, list: &[u8], q: &[f64], theta: &[f64], psi: &[f64], out: &mut [f64])
+    requires { ⌜ Grouped ng (now q) (now theta) (now psi)
+        × (ng ≤ length (now out))
+        × ((p : ℕ) → p < length (now list) → getD (now list) p 0 < ng) ⌝ }
+    ensures { λ _. ⌜ Named (length (now (list .entry))) (λ p. getD (now (list .entry)) p 0)
+        (lnGroup ng (at (now (q .entry))) (grid ng (now (psi .entry))) (at (now (theta .entry)))) (now (out .exit)) ⌝ }
 {
-    let denom = column_sums(theta, psi, ng);
-    let mut gamma = [0.0; GROUPS];
-    for p in 0..named.len() {
-        let k = named[p] as usize;
+    let mut denom = [0.0; GROUPS];
+    column_sums(ng, theta, psi, &mut denom[..]);
+    for p in 0..list.len() {
+        let k = list[p] as usize;
         let log = arithmetic::log(denom[k]);
-        gamma[k] = group_gamma(q[k], log, theta, psi, &denom[..], ng, k);
+        out[k] = group_gamma(ng, q[k], log, theta, psi, &denom[..], k);
     }
-    gamma
 }
 
-// ln Γ of the groups that component i lists: the only ones that its ln γ reads.
-fn listed_gammas(
-    lens: &[u8],
-    groups: &[u8],
-    counts: &[f64],
-    q: &[f64],
-    theta: &[f64],
-    psi: &[f64],
-    ng: usize,
-    i: usize,
-) -> [f64; GROUPS]
-    requires { ⌜ (Listed (i + 1) ng (now lens) (now groups) (now counts)) × (i < mostComponents) × (ng ≤ mostGroups) × (ng ≤ length (now q)) × (ng ≤ length (now theta)) × (ng * ng ≤ length (now psi)) ⌝ }
-    ensures { λ r. ⌜ Named (lists (now (lens .entry)) (now (groups .entry)) (now (counts .entry)) .length i) (lists (now (lens .entry)) (now (groups .entry)) (now (counts .entry)) .group i) (lnGroup ng (at (now (q .entry))) (grid ng (now (psi .entry))) (at (now (theta .entry)))) r ⌝ }
-{
-    let start = crate::groups::start_of(lens, i);
-    let end = start + (lens[i] as usize);
-    gammas_of(&groups[start..end], q, theta, psi, ng)
-}
-
-// Θ of each group in the mixture.
+// Writes Θ of each group in the mixture.
 fn theta_mixed(
+    n: usize,
+    ng: usize,
     lens: &[u8],
     groups: &[u8],
     counts: &[f64],
     q: &[f64],
     x: &[f64],
-    n: usize,
-    ng: usize,
-) -> [f64; GROUPS]
-    requires { ⌜ (Listed n ng (now lens) (now groups) (now counts)) × (n ≤ mostComponents) × (ng ≤ mostGroups) × (ng ≤ length (now q)) × (n ≤ length (now x)) ⌝ }
-    ensures { λ r. ⌜ Filled (Unifac·theta ng (at (now (q .entry))) (fraction n (lists (now (lens .entry)) (now (groups .entry)) (now (counts .entry))) (at (now (x .entry))))) ng r ⌝ }
+    out: &mut [f64],
+)
+    requires { ⌜ Listed n ng (now lens) (now groups) (now counts)
+        × (n ≤ mostComponents)
+        × (ng ≤ mostGroups)
+        × (ng ≤ length (now q))
+        × (n ≤ length (now x))
+        × (ng ≤ length (now out)) ⌝ }
+    ensures { λ _. ⌜ Filled (Unifac·theta ng (at (now (q .entry))) (fraction n (listsOf lens groups counts) (at (now (x .entry)))))
+        ng (now (out .exit)) ⌝ }
 {
-    let xg = crate::groups::group_fractions(lens, groups, counts, x, n, ng);
-    theta(q, &xg[..], ng)
+    let mut xg = [0.0; GROUPS];
+    crate::groups::group_fractions(n, ng, lens, groups, counts, x, &mut xg[..]);
+    theta(ng, q, &xg[..], out);
 }
 
-// ln Γ of the groups that component i lists, in pure i.
-fn pure_listed(
+// Writes ln Γ of the groups that a component lists, in the pure component.
+fn pure_listed(ng: usize, list: &[u8], counts: &[f64], q: &[f64], psi: &[f64], row: &mut [f64])
+    requires { ⌜ Paired ng (now list) (now counts)
+        × (ng ≤ mostGroups)
+        × (ng ≤ length (now q))
+        × (ng * ng ≤ length (now psi))
+        × (ng ≤ length (now row)) ⌝ }
+    ensures { λ _. ⌜ Named (length (now (list .entry))) (λ p. getD (now (list .entry)) p 0)
+        (Unifac·pure ng (ownList list counts) (at (now (q .entry))) (grid ng (now (psi .entry))) 0) (now (row .exit)) ⌝ }
+{
+    let mut xg = [0.0; GROUPS];
+    crate::groups::group_fractions_pure(ng, list, counts, &mut xg[..]);
+    let mut theta_p = [0.0; GROUPS];
+    theta(ng, q, &xg[..], &mut theta_p[..]);
+    gammas_of(ng, list, q, &theta_p[..], psi, row);
+}
+
+// The same of component i.
+fn pure_row(
+    ng: usize,
     lens: &[u8],
     groups: &[u8],
     counts: &[f64],
     q: &[f64],
     psi: &[f64],
-    ng: usize,
     i: usize,
-) -> [f64; GROUPS]
-    requires { ⌜ (Listed (i + 1) ng (now lens) (now groups) (now counts)) × (i < mostComponents) × (ng ≤ mostGroups) × (ng ≤ length (now q)) × (ng * ng ≤ length (now psi)) ⌝ }
-    ensures { λ r. ⌜ Named (lists (now (lens .entry)) (now (groups .entry)) (now (counts .entry)) .length i) (lists (now (lens .entry)) (now (groups .entry)) (now (counts .entry)) .group i) (Unifac·pure ng (lists (now (lens .entry)) (now (groups .entry)) (now (counts .entry))) (at (now (q .entry))) (grid ng (now (psi .entry))) i) r ⌝ }
+    row: &mut [f64],
+)
+    requires { ⌜ Listed (i + 1) ng (now lens) (now groups) (now counts)
+        × (i < mostComponents)
+        × (ng ≤ mostGroups)
+        × (ng ≤ length (now q))
+        × (ng * ng ≤ length (now psi))
+        × (ng ≤ length (now row)) ⌝ }
+    ensures { λ _. ⌜ Named (listsOf lens groups counts .length i) (listsOf lens groups counts .group i)
+        (Unifac·pure ng (listsOf lens groups counts) (at (now (q .entry))) (grid ng (now (psi .entry))) i) (now (row .exit)) ⌝ }
 {
-    let xg = crate::groups::group_fractions_pure(lens, groups, counts, ng, i);
-    let theta = theta(q, &xg[..], ng);
-    listed_gammas(lens, groups, counts, q, &theta[..], psi, ng, i)
+    let start = crate::groups::start_of(lens, i);
+    let end = start + (lens[i] as usize);
+    pure_listed(ng, &groups[start..end], &counts[start..end], q, psi, row);
+}
+
+// Writes, by rows of ng, the pure ln Γ of the groups that each component from first to below last lists.
+fn fill_pure(
+    ng: usize,
+    lens: &[u8],
+    groups: &[u8],
+    counts: &[f64],
+    q: &[f64],
+    psi: &[f64],
+    first: usize,
+    last: usize,
+    table: &mut [f64],
+)
+    requires { ⌜ Listed last ng (now lens) (now groups) (now counts)
+        × (last ≤ mostComponents)
+        × (ng ≤ mostGroups)
+        × (ng ≤ length (now q))
+        × (ng * ng ≤ length (now psi))
+        × (last * ng ≤ length (now table)) ⌝ }
+    ensures { λ _. ⌜ ListedRows first last ng (listsOf lens groups counts)
+        (Unifac·pure ng (listsOf lens groups counts) (at (now (q .entry))) (grid ng (now (psi .entry)))) (now (table .exit)) ⌝ }
+{
+    for i in first..last {
+        let place = i * ng;
+        pure_row(ng, lens, groups, counts, q, psi, i, &mut table[place..]);
+    }
 }
 
 // 1 - v + ln v - 5·q·(1 - v/f + ln(v/f))
@@ -220,166 +269,228 @@ fn combinatorial(q: f64, v: f64, f: f64) -> f64
     1.0 - v + arithmetic::log(v) - 5.0 * q * (1.0 - v / f + arithmetic::log(v / f))
 }
 
-// What the components share: their sizes r and q, the sums of these over the fractions, Θ of each group.
+// What the components share: their sizes r and q, and the sums of these over the fractions.
 pub struct Shared {
     pub r: [f64; COMPONENTS],
     pub q: [f64; COMPONENTS],
     pub rs: f64,
     pub qs: f64,
-    pub theta: [f64; GROUPS],
 }
 
 fn share(
+    n: usize,
     lens: &[u8],
     groups: &[u8],
     counts: &[f64],
     r: &[f64],
     q: &[f64],
     x: &[f64],
-    n: usize,
-    ng: usize,
 ) -> Shared
-    requires { ⌜ (Listed n ng (now lens) (now groups) (now counts)) × (n ≤ mostComponents) × (ng ≤ mostGroups) × (ng ≤ length (now r)) × (ng ≤ length (now q)) × (n ≤ length (now x)) ⌝ }
-    ensures { λ s. ⌜ Shares n ng (lists (now (lens .entry)) (now (groups .entry)) (now (counts .entry))) (at (now (r .entry))) (at (now (q .entry))) (at (now (x .entry))) s ⌝ }
+    requires { ⌜ Listed n (length (now r)) (now lens) (now groups) (now counts)
+        × Listed n (length (now q)) (now lens) (now groups) (now counts)
+        × (n ≤ mostComponents)
+        × (n ≤ length (now x)) ⌝ }
+    ensures { λ s. ⌜ Shares n (listsOf lens groups counts) (at (now (r .entry))) (at (now (q .entry))) (at (now (x .entry))) s ⌝ }
 {
-    let r_each = crate::groups::sizes(lens, groups, counts, r, n);
-    let q_each = crate::groups::sizes(lens, groups, counts, q, n);
+    let r_each = crate::groups::sizes(n, lens, groups, counts, r);
+    let q_each = crate::groups::sizes(n, lens, groups, counts, q);
     let rs = arithmetic::dot(x, &r_each[..], n);
     let qs = arithmetic::dot(x, &q_each[..], n);
-    let theta = theta_mixed(lens, groups, counts, q, x, n, ng);
     Shared {
         r: r_each,
         q: q_each,
         rs,
         qs,
-        theta,
     }
 }
 
-// ln γ of component i from its sizes r and q, their sums over the fractions, and ln Γ of its groups in the mixture.
-fn ln_gamma_by(
-    ri: f64,
-    qi: f64,
-    rs: f64,
-    qs: f64,
-    gamma: &[f64],
-    lens: &[u8],
-    groups: &[u8],
-    counts: &[f64],
-    q: &[f64],
-    psi: &[f64],
-    ng: usize,
-    i: usize,
-) -> f64
-    requires { ⌜ (Listed (i + 1) ng (now lens) (now groups) (now counts)) × (i < mostComponents) × (ng ≤ mostGroups) × (ng ≤ length (now q)) × (ng * ng ≤ length (now psi)) × (length (now gamma) ≡ mostGroups) ⌝ }
-    ensures { λ r. ⌜ r ≡ combinatorialBy qi (ri ⊘ rs) (qi ⊘ qs) ⊕ residual (lists (now (lens .entry)) (now (groups .entry)) (now (counts .entry))) (at (now (gamma .entry))) (Unifac·pure ng (lists (now (lens .entry)) (now (groups .entry)) (now (counts .entry))) (at (now (q .entry))) (grid ng (now (psi .entry)))) i ⌝ }
-{
-    let gamma_p = pure_listed(lens, groups, counts, q, psi, ng, i);
-    let resid = crate::groups::residual(lens, groups, counts, gamma, &gamma_p[..], i);
-    combinatorial(qi, ri / rs, qi / qs) + resid
-}
-
-// The same from what the components share.
-fn ln_gamma(
-    s: Shared,
-    lens: &[u8],
-    groups: &[u8],
-    counts: &[f64],
-    q: &[f64],
-    psi: &[f64],
-    ng: usize,
-    i: usize,
-) -> f64
-    requires { ⌜ (Listed (i + 1) ng (now lens) (now groups) (now counts)) × (i < mostComponents) × (ng ≤ mostGroups) × (ng ≤ length (now q)) × (ng * ng ≤ length (now psi)) ⌝ }
-    ensures { λ r. ⌜ r ≡ lnFrom s ng (lists (now (lens .entry)) (now (groups .entry)) (now (counts .entry))) (at (now (q .entry))) (grid ng (now (psi .entry))) i ⌝ }
+// The combinatorial term of component i.
+fn combinatorial_of(s: Shared, i: usize) -> f64
+    requires { ⌜ i < mostComponents ⌝ }
+    ensures { λ r. ⌜ r ≡ combinatorialFrom s i ⌝ }
 {
     let r_each = s.r;
     let q_each = s.q;
-    let theta = s.theta;
-    let gamma = listed_gammas(lens, groups, counts, q, &theta[..], psi, ng, i);
-    ln_gamma_by(
-        r_each[i],
-        q_each[i],
-        s.rs,
-        s.qs,
-        &gamma[..],
-        lens,
-        groups,
-        counts,
-        q,
-        psi,
-        ng,
-        i,
-    )
+    combinatorial(q_each[i], r_each[i] / s.rs, q_each[i] / s.qs)
 }
 
-// The excess energy from what the components share. The loop hands on parts of it, not all of it by value.
+// The residual term of component i over Θ, Ψ and the table of pure ln Γ.
+fn residual_of(
+    ng: usize,
+    lens: &[u8],
+    groups: &[u8],
+    counts: &[f64],
+    q: &[f64],
+    theta: &[f64],
+    psi: &[f64],
+    pure: &[f64],
+    i: usize,
+) -> f64
+    requires { ⌜ Listed (i + 1) ng (now lens) (now groups) (now counts)
+        × (i < mostComponents)
+        × Grouped ng (now q) (now theta) (now psi)
+        × (i * ng + ng ≤ length (now pure)) ⌝ }
+    ensures { λ r. ⌜ r ≡ residual (listsOf lens groups counts)
+        (lnGroup ng (at (now (q .entry))) (grid ng (now (psi .entry))) (at (now (theta .entry)))) (grid ng (now (pure .entry))) i ⌝ }
+{
+    let start = crate::groups::start_of(lens, i);
+    let end = start + (lens[i] as usize);
+    let list = &groups[start..end];
+    let mut gamma = [0.0; GROUPS];
+    gammas_of(ng, list, q, theta, psi, &mut gamma[..]);
+    let place = i * ng;
+    crate::groups::residual(list, &counts[start..end], &gamma[..ng], &pure[place..])
+}
+
+// The excess energy from what the components share.
 fn excess_gibbs(
     s: Shared,
+    n: usize,
+    ng: usize,
     lens: &[u8],
     groups: &[u8],
     counts: &[f64],
     q: &[f64],
+    theta: &[f64],
     psi: &[f64],
+    pure: &[f64],
     x: &[f64],
-    n: usize,
-    ng: usize,
 ) -> f64
-    requires { ⌜ (Listed n ng (now lens) (now groups) (now counts)) × (n ≤ mostComponents) × (ng ≤ mostGroups) × (ng ≤ length (now q)) × (ng * ng ≤ length (now psi)) × (n ≤ length (now x)) ⌝ }
-    ensures { λ r. ⌜ r ≡ sum n (λ i. at (now (x .entry)) i ⊗ lnFrom s ng (lists (now (lens .entry)) (now (groups .entry)) (now (counts .entry))) (at (now (q .entry))) (grid ng (now (psi .entry))) i) ⌝ }
+    requires { ⌜ Listed n ng (now lens) (now groups) (now counts)
+        × (n ≤ mostComponents)
+        × Grouped ng (now q) (now theta) (now psi)
+        × (n * ng ≤ length (now pure))
+        × (n ≤ length (now x)) ⌝ }
+    ensures { λ r. ⌜ r ≡ sum n (λ i. at (now (x .entry)) i ⊗ lnFrom s ng (listsOf lens groups counts) (at (now (q .entry)))
+        (grid ng (now (psi .entry))) (at (now (theta .entry))) (grid ng (now (pure .entry))) i) ⌝ }
 {
-    let r_each = s.r;
-    let q_each = s.q;
-    let theta = s.theta;
-    let gamma = gamma_k(q, &theta[..], psi, ng);
+    let mut gamma = [0.0; GROUPS];
+    gamma_k(ng, q, theta, psi, &mut gamma[..]);
     let mut total = 0.0;
+    let mut start = 0;
     for i in 0..n {
-        total = total
-            + x[i]
-                * ln_gamma_by(
-                    r_each[i],
-                    q_each[i],
-                    s.rs,
-                    s.qs,
-                    &gamma[..],
-                    lens,
-                    groups,
-                    counts,
-                    q,
-                    psi,
-                    ng,
-                    i,
-                );
+        let end = start + (lens[i] as usize);
+        let place = i * ng;
+        let resid = crate::groups::residual(
+            &groups[start..end],
+            &counts[start..end],
+            &gamma[..ng],
+            &pure[place..],
+        );
+        total = total + x[i] * (combinatorial_of(s, i) + resid);
+        start = end;
     }
     total
 }
 
-// The quantity from the sizes R and Q, the counts and a table of exponentials.
+// The quantity from the sizes R and Q, the counts, a table of exponentials and one of pure ln Γ.
 fn over(
+    n: usize,
+    ng: usize,
     lens: &[u8],
     groups: &[u8],
     counts: &[f64],
     r: &[f64],
     q: &[f64],
     psi: &[f64],
+    pure: &[f64],
     x: &[f64],
-    n: usize,
-    ng: usize,
     asked: Quantity,
 ) -> f64
-    requires { ⌜ (Listed n ng (now lens) (now groups) (now counts)) × (n ≤ mostComponents) × (ng ≤ mostGroups) × (ng ≤ length (now r)) × (ng ≤ length (now q)) × (ng * ng ≤ length (now psi)) × (n ≤ length (now x)) × (indexFault n asked ≡ 0) ⌝ }
-    ensures { λ v. ⌜ v ≡ unifac n ng (lists (now (lens .entry)) (now (groups .entry)) (now (counts .entry))) (at (now (r .entry))) (at (now (q .entry))) (grid ng (now (psi .entry))) (at (now (x .entry))) asked ⌝ }
+    requires { ⌜ Listed n ng (now lens) (now groups) (now counts)
+        × (n ≤ mostComponents)
+        × (ng ≤ mostGroups)
+        × (ng ≤ length (now r))
+        × (ng ≤ length (now q))
+        × (ng * ng ≤ length (now psi))
+        × (n * ng ≤ length (now pure))
+        × (n ≤ length (now x))
+        × (indexFault n asked ≡ 0) ⌝ }
+    ensures { λ v. ⌜ v ≡ unifacBy n ng (listsOf lens groups counts) (at (now (r .entry))) (at (now (q .entry)))
+        (grid ng (now (psi .entry))) (grid ng (now (pure .entry))) (at (now (x .entry))) asked ⌝ }
 {
-    let s = share(lens, groups, counts, r, q, x, n, ng);
+    let s = share(n, lens, groups, counts, r, q, x);
+    let mut theta = [0.0; GROUPS];
+    theta_mixed(n, ng, lens, groups, counts, q, x, &mut theta[..]);
     match asked {
-        Quantity::LnGamma(i) => ln_gamma(s, lens, groups, counts, q, psi, ng, i),
-        Quantity::Gamma(i) => arithmetic::exp(ln_gamma(s, lens, groups, counts, q, psi, ng, i)),
-        Quantity::ExcessGibbs => excess_gibbs(s, lens, groups, counts, q, psi, x, n, ng),
+        Quantity::LnGamma(i) => {
+            combinatorial_of(s, i)
+                + residual_of(ng, lens, groups, counts, q, &theta[..], psi, pure, i)
+        }
+        Quantity::Gamma(i) => arithmetic::exp(
+            combinatorial_of(s, i)
+                + residual_of(ng, lens, groups, counts, q, &theta[..], psi, pure, i),
+        ),
+        Quantity::ExcessGibbs => {
+            excess_gibbs(s, n, ng, lens, groups, counts, q, &theta[..], psi, pure, x)
+        }
     }
 }
 
-// The quantity over a table of exponentials by full rows of ng.
+// The quantity over a table of exponentials and one of pure ln Γ, both by full rows of ng; of the latter only the rows of
+// the components that it goes by count.
 pub fn value_over(
+    n: usize,
+    ng: usize,
+    lens: &[u8],
+    groups: &[u8],
+    values: &[f64],
+    psi: &[f64],
+    pure: &[f64],
+    x: &[f64],
+    q: Quantity,
+) -> f64
+    requires { ⌜ Loaded n ng (now lens) (now groups) (now values)
+        × (ng * ng ≤ length (now psi))
+        × (n * ng ≤ length (now pure))
+        × (n ≤ length (now x))
+        × (indexFault n q ≡ 0) ⌝ }
+    ensures { λ r. ⌜ r ≡ unifacBy n ng (heldLists ng lens groups values)
+        (groupRs ng (now (values .entry))) (groupQs ng (now (values .entry)))
+        (grid ng (now (psi .entry))) (grid ng (now (pure .entry))) (at (now (x .entry))) q ⌝ }
+{
+    let place = crate::groups::counts_at(ng);
+    over(
+        n,
+        ng,
+        lens,
+        groups,
+        &values[place..],
+        values,
+        &values[ng..],
+        psi,
+        pure,
+        x,
+        q,
+    )
+}
+
+// The components from first to below last.
+pub struct Span {
+    pub first: usize,
+    pub last: usize,
+}
+
+// Those that a quantity goes by.
+fn span_of(n: usize, q: Quantity) -> Span
+    requires { ⌜ (n ≤ mostComponents) × (indexFault n q ≡ 0) ⌝ }
+    ensures { λ r. ⌜ (r .last ≤ n) × ((i : ℕ) → i < n → reads q i ≡ true → (r .first ≤ i) × (i < r .last)) ⌝ }
+{
+    match q {
+        Quantity::LnGamma(i) => Span {
+            first: i,
+            last: i + 1,
+        },
+        Quantity::Gamma(i) => Span {
+            first: i,
+            last: i + 1,
+        },
+        Quantity::ExcessGibbs => Span { first: 0, last: n },
+    }
+}
+
+// The quantity over a table of exponentials; the pure ln Γ that it goes by are worked out here.
+pub fn value_by(
     n: usize,
     ng: usize,
     lens: &[u8],
@@ -389,22 +500,29 @@ pub fn value_over(
     x: &[f64],
     q: Quantity,
 ) -> f64
-    requires { ⌜ (Loaded n ng (now lens) (now groups) (now values)) × (ng * ng ≤ length (now psi)) × (n ≤ length (now x)) × (indexFault n q ≡ 0) ⌝ }
-    ensures { λ r. ⌜ r ≡ unifac n ng (lists (now (lens .entry)) (now (groups .entry)) (from (countsAt ng) (now (values .entry)))) (groupRs ng (now (values .entry))) (groupQs ng (now (values .entry))) (grid ng (now (psi .entry))) (at (now (x .entry))) q ⌝ }
+    requires { ⌜ Loaded n ng (now lens) (now groups) (now values)
+        × (ng * ng ≤ length (now psi))
+        × (n ≤ length (now x))
+        × (indexFault n q ≡ 0) ⌝ }
+    ensures { λ r. ⌜ r ≡ unifac n ng (heldLists ng lens groups values)
+        (groupRs ng (now (values .entry))) (groupQs ng (now (values .entry)))
+        (grid ng (now (psi .entry))) (at (now (x .entry))) q ⌝ }
 {
     let place = crate::groups::counts_at(ng);
-    over(
+    let span = span_of(n, q);
+    let mut pure = [0.0; PURE];
+    fill_pure(
+        ng,
         lens,
         groups,
         &values[place..],
-        values,
         &values[ng..],
         psi,
-        x,
-        n,
-        ng,
-        q,
-    )
+        span.first,
+        span.last,
+        &mut pure[..],
+    );
+    value_over(n, ng, lens, groups, values, psi, &pure[..], x, q)
 }
 
 // The quantity at T, from the values.
@@ -418,12 +536,14 @@ pub fn value_at(
     x: &[f64],
     q: Quantity,
 ) -> f64
-    requires { ⌜ (Loaded n ng (now lens) (now groups) (now values)) × (n ≤ length (now x)) × (indexFault n q ≡ 0) ⌝ }
-    ensures { λ r. ⌜ r ≡ unifacAt n ng (lists (now (lens .entry)) (now (groups .entry)) (from (countsAt ng) (now (values .entry)))) (groupRs ng (now (values .entry))) (groupQs ng (now (values .entry))) (groupAs ng (now (values .entry))) t (at (now (x .entry))) q ⌝ }
+    requires { ⌜ Loaded n ng (now lens) (now groups) (now values) × (n ≤ length (now x)) × (indexFault n q ≡ 0) ⌝ }
+    ensures { λ r. ⌜ r ≡ unifacAt n ng (heldLists ng lens groups values)
+        (groupRs ng (now (values .entry))) (groupQs ng (now (values .entry))) (groupAs ng (now (values .entry)))
+        t (at (now (x .entry))) q ⌝ }
 {
     let mut table = [0.0; TABLE];
     fill_table(values, t, ng, &mut table[..]);
-    value_over(n, ng, lens, groups, values, &table[..], x, q)
+    value_by(n, ng, lens, groups, values, &table[..], x, q)
 }
 
 // The plain calls: the values are R's, Q's, a by rows, five each, then the counts, list after list.

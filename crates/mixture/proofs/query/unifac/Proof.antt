@@ -32,9 +32,9 @@ refill-requires c κs =
     let l = from-length (s .args .ng + s .args .ng) (now (s .args .values)) in
     (record { few = r .3; fives = omega (arith, r, l); taus = omega (arith, r, l); room = omega (arith, r) }, omega (arith, r))
 
-value-over-requires : tie.Need-value-over-requires
+value-by-requires : tie.Need-value-by-requires
 unfolding countsAt
-value-over-requires c κs =
+value-by-requires c κs =
     let worked = c .before .before .before .before .before .before .before .before in
     let s = entry worked in
     let r = room s in
@@ -56,7 +56,7 @@ returns : tie.Need-returns
 returns c =
     let worked = c .before .before .before .before .before .before .before .before .before in
     let s = entry worked in
-    unifac-solved (s .args .ng) (now (s .args .values)) (s .args .t) _ (omega (arith, room s)) (worked .before .before .before .before .log .ensures) _ (worked .refill .ensures) (c .value-over .ensures)
+    unifac-solved (s .args .ng) (now (s .args .values)) (s .args .t) _ (omega (arith, room s)) (worked .before .before .before .before .log .ensures) _ (worked .refill .ensures) (c .value-by .ensures)
 
 pub unifac-spec : {M : Type 1} → statement M
 unifac-spec =
@@ -73,7 +73,7 @@ unifac-spec =
     (λ c. search needs)
     (λ c. search needs)
     (λ c. search needs)
-    value-over-requires
+    value-by-requires
     (λ c. search needs)
     (λ c. search needs)
     returns)

@@ -1,39 +1,65 @@
--- The sum of x_i times all counts of i, one component after the other.
-use mathlib.Core.Path.{_≡_}
+-- The loop has added the lists of the components passed, for every group and in sum, and start is where the next list begins.
+use mathlib.Core.Path.{_≡_, refl, _∙_}
 use Prim.Native.Nat.{_+_, _-_, _≤_}
+use native.Mathlib.Nat.{le-antisymm}
 use native.Mathlib.Omega.{arith}
-use lib.ListN.{getD}
+use denote.Ref.{now}
 use borrow.Author.Needs.{needs}
-use Rattle.arithmetic.specs.Tables.{at}
+use lib.ListN.{length, getD}
+use Rattle.arithmetic.specs.Tables.{at, Filled}
 use Rattle.arithmetic.specs.Sums.{sum}
 use Rattle.arithmetic.specs.Floats.{_⊗_}
 use Rattle.arithmetic.proofs.SumLaws.{sum-none, sum-more, sum-done}
-use Rattle.models.specs.Values.{start, lists}
+use Rattle.models.specs.Values as Values
+use Rattle.models.specs.Values.{lists}
+use Rattle.models.specs.steps.GroupLists.{Listed}
 use Rattle.models.specs.Unifac as Unifac
-use Rattle.models.proofs.GroupListLaws.{listed-less}
+use Rattle.models.proofs.GroupListLaws.{start-none, start-more, listed-less, list-ends, list-paired, amount-none, amount-more}
+use Rattle.models.proofs.UnifacLaws.{added-own, counts-own}
 use Rattle.models.proofs.groups.amounts.Statement.{statement}
 use Rattle.models.proofs.groups.amounts.Tie as tie
 
 abbrev Inv-loop : tie.InvT-loop
-Inv-loop lens groups counts x n s₀ i₀ s i = (i ≤ n) × (s ≡ sum i (λ i. at x i ⊗ sum (getD lens i 0) (λ p. at counts (start lens i + p))))
+Inv-loop n lens groups counts x num₀ s₀ start₀ i₀ num s start i =
+    (i ≤ n) × (length num ≡ length num₀) × (s ≡ sum i (λ k. at x k ⊗ Unifac.counts (lists lens groups counts) k))
+    × Filled (Unifac.amount i (lists lens groups counts) (at x)) (length num₀) num × (start ≡ Values.start lens i)
 
 abbrev μ-loop : tie.MeasureT-loop
-μ-loop lens groups counts x n s₀ i₀ s i = n - i
+μ-loop n lens groups counts x num₀ s₀ start₀ i₀ num s start i = n - i
 
-loop-holds : tie.Need-loop-holds Inv-loop μ-loop
-loop-holds c = (omega arith, sum-none _)
+abbrev entry : tie.In-loop Inv-loop μ-loop → tie.Start Inv-loop μ-loop
+entry c = c .before .before .before .before .before .before .before
 
-count-sum-requires : tie.Need-count-sum-requires Inv-loop μ-loop
-count-sum-requires c κs =
-    let list = listed-less (c .before .before .before .before .before .before .before .pre .0) (c .before .before .loop .i) 32 (c .before .loop-test .taken) (omega arith) in
-    search needs
+listed : (c : tie.In-loop Inv-loop μ-loop) → let a = entry c .args in Listed (c .before .loop .i + 1) (length (c .before .loop .num)) (now (a .lens)) (now (a .groups)) (now (a .counts))
+listed c = listed-less (entry c .pre .0) (c .before .loop .i) _ (c .loop-test .taken) (omega (arith, c .before .loop .inv .1))
+
+-- the list of i ends within the slices
+ends : (c : tie.In-loop Inv-loop μ-loop) → let a = entry c .args in let end = c .before .loop .start + getD (now (a .lens)) (c .before .loop .i) 0 in
+    (end ≤ length (now (a .groups))) × (end ≤ length (now (a .counts)))
+ends c = list-ends (c .before .loop .i) (listed c) (c .before .loop .inv .4)
+
+add-counts-requires : tie.Need-add-counts-requires Inv-loop μ-loop
+add-counts-requires c κs = list-paired ((c .before .before .before .before .before .before) .loop .i) (listed (c .before .before .before .before .before)) ((c .before .before .before .before .before .before) .loop .inv .4)
 
 loop-again : tie.Need-loop-again Inv-loop μ-loop
-loop-again c = (omega arith, sum-more _ _ (c .before .before .before .loop .inv .1) (rw (c .count-sum .ensures)))
+loop-again c =
+    let turn = (c .before .before .before .before .before .before .before .before .before .before) in
+    let top = turn .before .loop in
+    let inv = top .inv in
+    let added = (c .before .before .before .before) .add-counts in (
+      omega arith,
+      added .kept .1 .1 .1 .0 ∙ inv .1,
+      sum-more _ _ (inv .2) (rw (counts-own (top .i) (listed turn) (inv .4) (c .sum .ensures))),
+      amount-more _ _ (top .i) _ (inv .1) (inv .3) (added-own (top .i) (listed turn) (inv .4) _ _ (added .ensures)),
+      start-more _ _ (inv .4) refl,
+    )
 
 returns : tie.Need-returns Inv-loop μ-loop
-unfolding Unifac.amounts Unifac.counts lists
-returns c = sum-done _ _ _ (c .before .loop .inv .1) (c .before .loop .inv .0) (c .loop-test .left)
+unfolding Unifac.amounts
+returns c =
+    let inv = (c .before) .loop .inv in
+    let all = le-antisymm (inv .0) (c .loop-test .left) in
+    (sum-done _ _ _ (inv .2) (inv .0) (c .loop-test .left), rw (← all) (inv .3))
 
 pub amounts-spec : {M : Type 1} → statement M
 amounts-spec =
@@ -41,11 +67,25 @@ amounts-spec =
     (tie.spec
     Inv-loop
     μ-loop
-    loop-holds
-    (λ c. omega arith)
-    (λ c. omega arith)
-    count-sum-requires
+    (λ c. (omega arith, refl, sum-none _, amount-none _ _ _ ((c .before .before .before .before .before) .pre .3), start-none _))
+    (λ c. omega (arith, (c .before .before .before .before .before .before .before .before) .pre .0 .many))
+    (λ c. omega (arith, c .shared-slice-known5 .given ((c .before .before) .loop .i)))
+    (λ c. omega (arith, ends (c .before), (c .before .before .before .before .before .before .before .before) .good))
+    (λ c. omega (arith, ends (c .before), (c .before .before .before .before .before .before .before .before) .good))
+    (λ c. omega (arith, ends (c .before), (c .before .before .before .before .before .before .before .before) .good))
+    (λ c. omega (arith, ends (c .before), (c .before .before .before .before .before .before .before .before) .good))
+    (λ c. omega (arith, ends (c .before), (c .before .before .before .before .before .before .before .before) .good))
+    (λ c. omega (arith, ends (c .before .before), (c .before .before .before .before .before .before .before .before .before) .good))
+    (λ c. omega (arith, ends (c .before .before), (c .before .before .before .before .before .before .before .before .before) .good))
+    (λ c. omega (arith, ends (c .before .before), (c .before .before .before .before .before .before .before .before .before) .good))
+    (λ c. omega (arith, ends (c .before .before .before), (c .before .before .before .before .before .before .before .before .before .before) .good))
+    (λ c. omega (arith, ends (c .before .before .before .before), (c .before .before .before .before .before .before .before .before .before .before .before) .good))
+    add-counts-requires
+    (λ c. omega (arith, ends (c .before .before .before .before .before .before .before .before), (c .before .before .before .before .before .before .before .before .before .before .before .before .before .before .before) .good))
+    (λ c. omega (arith, ends (c .before .before .before .before .before .before .before .before .before), (c .before .before .before .before .before .before .before .before .before .before .before .before .before .before .before .before) .good))
+    (λ c κs. search needs)
     (λ c. omega arith)
     (λ c. omega arith)
     loop-again
+    (λ c. (c .before) .loop .inv .1)
     returns)

@@ -1,24 +1,30 @@
--- The amounts over their sum where that is above 0, and else zeros.
+-- The amounts over their sum where that is above 0, and else the zeros stay.
+use native.Mathlib.Omega.{arith}
 use borrow.Author.Needs.{needs}
-use Rattle.models.proofs.GroupListLaws.{fraction-over, fraction-none}
+use Rattle.models.proofs.GroupListLaws.{listed-wider, fraction-over, fraction-none}
+use Rattle.models.proofs.ColumnLaws.{zeros}
 use Rattle.models.proofs.groups.group_fractions.Statement.{statement}
 use Rattle.models.proofs.groups.group_fractions.Tie as tie
 
+amounts-requires : tie.Need-amounts-requires
+amounts-requires c κs = let pre = (c .before .before .before .before .before .before) .pre in (listed-wider (pre .0) 32 (pre .3), pre .1, pre .2, zeros 32)
+
 returns : tie.Need-returns
 returns c =
-    let sum = c .before .before .before .before in
-    fraction-over _ _ _ _ (sum .amounts .ensures) (c .before .before .before .if1 .taken) (sum .before .before .before .before .before .pre .3) (c .before .before .amount .ensures) (c .over .ensures)
+    let sum = (c .before .before .before .before .before .before .before) in
+    fraction-over _ _ _ _ 32 (sum .amounts .ensures .0) ((c .before .before .before .before .before) .if1 .taken) ((c .before .before .before .before .before .before .before .before .before .before .before .before .before .before) .pre .3) (sum .amounts .ensures .1) ((c .before .before) .over .ensures)
 
 returns-2 : tie.Need-returns-2
-returns-2 c = fraction-none _ _ _ _ (c .before .amounts .ensures) (c .if1 .left) (c .before .before .before .before .before .before .pre .3)
+returns-2 c = fraction-none _ _ _ _ ((c .before .before) .amounts .ensures .0) (c .if1 .left) ((c .before .before .before .before .before .before .before .before .before) .pre .5)
 
 pub group-fractions-spec : {M : Type 1} → statement M
 group-fractions-spec =
     tie.close
     (tie.spec
-    (λ c κs. search needs)
-    (λ c κs. search needs)
     (λ c. search needs)
-    (λ c κs. search needs)
+    amounts-requires
+    (λ c. search needs)
+    (λ c κs. (omega (arith, (c .before .before .before .before .before .before .before .before .before .before .before) .pre .3, (c .before .before .before .before) .amounts .kept .1 .1 .1 .1 .1 .0), (c .before .before .before .before .before .before .before .before .before .before .before) .pre .4))
+    (λ c. (c .before .before) .over .kept .1 .1 .1 .0)
     returns
     returns-2)

@@ -2,6 +2,7 @@
 use mathlib.Core.Path.{refl}
 use Prim.Native.Nat.{_-_}
 use native.Mathlib.Omega.{arith}
+use lib.ListN.{length}
 use Rattle.arithmetic.specs.Tables.{at}
 use Rattle.arithmetic.specs.Floats.{_⊘_}
 use Rattle.arithmetic.proofs.TableLaws.{Filling, filling-none, filling-more, filling-done}
@@ -9,13 +10,13 @@ use Rattle.models.proofs.groups.over.Statement.{statement}
 use Rattle.models.proofs.groups.over.Tie as tie
 
 abbrev Inv-loop : tie.InvT-loop
-Inv-loop num d ng xg₀ g₀ xg g = Filling (λ k. at num k ⊘ d) ng 32 g xg
+Inv-loop ng num d out₀ g₀ out g = Filling (λ k. at num k ⊘ d) ng (length out₀) g out
 
 abbrev μ-loop : tie.MeasureT-loop
-μ-loop num d ng xg₀ g₀ xg g = ng - g
+μ-loop ng num d out₀ g₀ out g = ng - g
 
 loop-again : tie.Need-loop-again Inv-loop μ-loop
-loop-again c = filling-more (omega arith) (c .before .before .loop .inv) refl
+loop-again c = filling-more (omega arith) ((c .before .before) .loop .inv) refl
 
 pub over-spec : {M : Type 1} → statement M
 over-spec =
@@ -31,4 +32,5 @@ over-spec =
     (λ c. omega arith)
     (λ c. omega arith)
     loop-again
-    (λ c. filling-done (c .loop-test .left) (c .before .loop .inv)))
+    (λ c. (c .before) .loop .inv .long)
+    (λ c. filling-done (c .loop-test .left) ((c .before) .loop .inv)))

@@ -1,43 +1,37 @@
--- The sum of count·(m - p) over a list, whose places lie within the slices and whose groups lie within m and p.
-use mathlib.Core.Path.{_≡_}
-use Prim.Native.Nat.{_+_, _-_, _<_, _≤_}
+-- The sum of count·(m - p) over a list, whose groups lie within m and p.
+use mathlib.Core.Path.{_≡_, refl}
+use Prim.Native.Nat.{_-_, _<_, _≤_}
 use native.Mathlib.Omega.{arith}
 use denote.Ref.{now}
 use lib.ListN.{length, getD}
-use borrow.Author.Needs.{needs}
 use Rattle.arithmetic.specs.Tables.{at}
 use Rattle.arithmetic.specs.Sums.{sum}
 use Rattle.arithmetic.specs.Floats.{_⊖_, _⊗_}
 use Rattle.arithmetic.proofs.SumLaws.{sum-none, sum-more, sum-done}
-use Rattle.models.proofs.GroupListLaws.{list-ends, list-group, residual-is}
+use Rattle.models.specs.Unifac as Unifac
 use Rattle.models.proofs.groups.residual.Statement.{statement}
 use Rattle.models.proofs.groups.residual.Tie as tie
 
 abbrev Inv-loop : tie.InvT-loop
-Inv-loop lens groups counts m p i start len resid₀ k₀ resid k = ((start + len ≤ length groups) × (start + len ≤ length counts)) × (k ≤ len) × (resid ≡ sum k (λ k. at counts (start + k) ⊗ (at m (getD groups (start + k) 0) ⊖ at p (getD groups (start + k) 0))))
+Inv-loop list counts m p resid₀ k₀ k-end resid k = (k ≤ length list) × (k-end ≡ length list) × (resid ≡ sum k (λ k. at counts k ⊗ (at m (getD list k 0) ⊖ at p (getD list k 0))))
 
 abbrev μ-loop : tie.MeasureT-loop
-μ-loop lens groups counts m p i start len resid₀ k₀ resid k = len - k
+μ-loop list counts m p resid₀ k₀ k-end resid k = k-end - k
 
-abbrev entry : tie.In-loop Inv-loop μ-loop → tie.Start Inv-loop μ-loop
-entry c = c .before .before .before .before .before .before .before .before .before
-
--- the group of place k lies within m
-group : (c : tie.In-loop Inv-loop μ-loop) → getD (now (entry c .args .groups)) (c .before .before .before .start-of .result + c .before .loop .k) 0 < length (now (entry c .args .m))
-group c = list-group (entry c .args .i) (entry c .pre .0) (c .before .before .before .start-of .ensures) (c .before .loop .k) (c .loop-test .taken)
-
-loop-holds : tie.Need-loop-holds Inv-loop μ-loop
-loop-holds c =
-    let start = c .before .before .before .before .before .before .before in
-    (list-ends (start .args .i) (start .pre .0) (c .before .start-of .ensures), omega arith, sum-none _)
+-- place k lies within the list and its counts, and its group within m and p
+group : (c : tie.In-loop Inv-loop μ-loop) → let a = c .before .before .args in let k = c .before .loop .k in
+    (k < length (now (a .list))) × (k < length (now (a .counts))) × (getD (now (a .list)) k 0 < length (now (a .m))) × (length (now (a .m)) ≤ length (now (a .p)))
+group c =
+    let pre = c .before .before .pre in
+    let within : c .before .loop .k < length (now (c .before .before .args .list)) = omega (arith, c .loop-test .taken, c .before .loop .inv .1) in
+    (within, omega (arith, within, pre .0 .counted), pre .0 .below _ within, pre .1)
 
 loop-again : tie.Need-loop-again Inv-loop μ-loop
-loop-again c = (c .before .before .before .before .before .loop .inv .0, omega arith, search (sum-more, needs))
+loop-again c = let inv = (c .before .before .before .before .before) .loop .inv in (omega (arith, group (c .before .before .before .before)), inv .1, sum-more _ _ (inv .2) refl)
 
 returns : tie.Need-returns Inv-loop μ-loop
-returns c =
-    residual-is _ _ _ _ (c .before .before .before .start-of .ensures) _ _
-    (sum-done _ _ _ (c .before .loop .inv .2) (c .before .loop .inv .1) (c .loop-test .left))
+unfolding Unifac.residual
+returns c = sum-done _ _ _ ((c .before) .loop .inv .2) ((c .before) .loop .inv .0) (omega (arith, c .loop-test .left, (c .before) .loop .inv .1))
 
 pub residual-spec : {M : Type 1} → statement M
 residual-spec =
@@ -45,20 +39,16 @@ residual-spec =
     (tie.spec
     Inv-loop
     μ-loop
-    (λ c κs. search needs)
-    (λ c. omega arith)
-    (λ c. omega (arith, c .shared-slice-known6 .given (c .before .before .before .before .before .before .before .args .i)))
-    loop-holds
-    (λ c. omega arith)
-    (λ c. omega arith)
+    (λ c. (omega arith, refl, sum-none _))
     (λ c. omega (arith, group (c .before)))
-    (λ c. omega arith)
-    (λ c. omega arith)
+    (λ c. omega (arith, group (c .before)))
+    (λ c. omega (arith, group (c .before)))
+    (λ c. omega (arith, group (c .before .before)))
     (λ c. omega (arith, group (c .before .before)))
     (λ c. omega (arith, group (c .before .before .before)))
     (λ c. omega (arith, group (c .before .before .before)))
     (λ c. omega (arith, group (c .before .before .before .before)))
-    (λ c. omega arith)
-    (λ c. omega arith)
+    (λ c. omega (arith, group (c .before .before .before .before)))
+    (λ c. omega (arith, group (c .before .before .before .before)))
     loop-again
     returns)

@@ -1,53 +1,58 @@
--- ln Γ of one group named after the other, over column sums worked out once.
-use mathlib.Core.Path.{_≡_, refl}
+-- ln Γ of one group listed after the other, over column sums worked out once.
+use mathlib.Core.Path.{_≡_, refl, _∙_}
 use Prim.Native.Nat.{_-_, _<_, _≤_}
 use native.Mathlib.Omega.{arith}
 use denote.Ref.{now}
-use lib.ListN.{length-set, length, getD}
 use borrow.Author.Needs.{needs}
+use lib.ListN.{length-set, length, getD}
 use Rattle.arithmetic.specs.Tables.{at, grid}
+use Rattle.arithmetic.proofs.TableLaws.{filled-less}
 use Rattle.models.specs.steps.GroupLists.{Named}
 use Rattle.models.specs.Unifac.{lnGroup}
+use Rattle.models.proofs.ColumnLaws.{zeros}
 use Rattle.models.proofs.GroupListLaws.{named-none, named-more, named-done}
 use Rattle.models.proofs.UnifacLaws.{group-hoisted}
 use Rattle.models.proofs.unifac.gammas_of.Statement.{statement}
 use Rattle.models.proofs.unifac.gammas_of.Tie as tie
 
 abbrev Inv-loop : tie.InvT-loop
-Inv-loop named q theta psi ng denom gamma₀ p₀ p-end gamma p =
-    (p ≤ length named) × (p-end ≡ length named) × (length gamma ≡ 32) × Named p (λ p. getD named p 0) (lnGroup ng (at q) (grid ng psi) (at theta)) gamma
+Inv-loop ng list q theta psi out₀ denom p₀ p-end out p =
+    (p ≤ length list) × (p-end ≡ length list) × (length denom ≡ 32) × (length out ≡ length out₀)
+    × Named p (λ p. getD list p 0) (lnGroup ng (at q) (grid ng psi) (at theta)) out
 
 abbrev μ-loop : tie.MeasureT-loop
-μ-loop named q theta psi ng denom gamma₀ p₀ p-end gamma p = p-end - p
+μ-loop ng list q theta psi out₀ denom p₀ p-end out p = p-end - p
 
-abbrev entry : tie.In-loop Inv-loop μ-loop → tie.Start Inv-loop μ-loop
-entry c = c .before .before .before .before .before .before .before
+-- place p lies within the list, and its group below ng, which the column sums and the slice written hold
+below : (c : tie.In-loop Inv-loop μ-loop) → let a = c .before .before .before .before .before .before .before .before .before .before .args in let p = c .before .loop .p in
+    (p < length (now (a .list))) × (getD (now (a .list)) p 0 < a .ng) × (a .ng ≤ 32) × (a .ng ≤ length (c .before .loop .out))
+below c =
+    let pre = c .before .before .before .before .before .before .before .before .before .before .pre in
+    let inv = c .before .loop .inv in
+    let within : c .before .loop .p < length (now (c .before .before .before .before .before .before .before .before .before .before .args .list)) = omega (arith, c .loop-test .taken, inv .1) in
+    (within, pre .2 _ within, pre .0 .few, omega (arith, pre .1, inv .3))
 
--- the group named is below ng, and there are as many column sums as 32
-below : (c : tie.In-loop Inv-loop μ-loop) → (getD (now (entry c .args .named)) (c .before .loop .p) 0 < entry c .args .ng) × (entry c .args .ng ≤ 32) × (length (c .before .before .column-sums .result) ≡ 32)
-below c = (entry c .pre .4 _ (omega (arith, c .loop-test .taken, c .before .loop .inv .1)), entry c .pre .0, omega (arith, c .before .before .column-sums .ok))
-
-loop-holds : tie.Need-loop-holds Inv-loop μ-loop
-loop-holds c = (omega arith, refl, refl, named-none _ _ _)
+column-sums-requires : tie.Need-column-sums-requires Inv-loop μ-loop
+column-sums-requires c κs = let pre = (c .before .before .before .before .before .before) .pre in (pre .0 .few, pre .0 .thetas, pre .0 .square, pre .0 .few, filled-less (pre .0 .few) (zeros 32))
 
 group-gamma-requires : tie.Need-group-gamma-requires Inv-loop μ-loop
-group-gamma-requires c κs = let here = below (c .before .before .before .before) in search needs
+group-gamma-requires c κs = let pre = (c .before .before .before .before .before .before .before .before .before .before .before .before .before .before) .pre in (pre .0 .few, below (c .before .before .before .before) .1, pre .0 .thetas, pre .0 .square, omega (arith, pre .0 .few, (c .before .before .before .before .before) .loop .inv .2))
 
 loop-again : tie.Need-loop-again Inv-loop μ-loop
 loop-again c =
-    let turn = c .before .before .before .before .before in
-    let top = turn .before in (
-      omega arith,
-      top .loop .inv .1,
-      simp length-set (top .loop .inv .2),
-      named-more _ _ (top .loop .p) _ refl (omega (arith, below turn, top .loop .inv .2))
-          (group-hoisted _ _ _ _ _
-          (below turn .0) (top .before .column-sums .ensures) (c .before .before .before .log .ensures) (c .group-gamma .ensures))
-          (top .loop .inv .3),
+    let turn = (c .before .before .before .before .before) in
+    let top = turn .before .loop in
+    let inv = top .inv in (
+      omega (arith, below turn),
+      inv .1,
+      inv .2,
+      simp length-set (inv .3),
+      named-more _ _ (top .p) _ refl (omega (arith, below turn))
+          (group-hoisted _ _ _ _ _ (below turn .1) ((c .before .before .before .before .before .before .before .before) .column-sums .ensures) ((c .before .before .before) .log .ensures) (c .group-gamma .ensures)) (inv .4),
     )
 
 returns : tie.Need-returns Inv-loop μ-loop
-returns c = named-done _ _ _ _ (c .before .loop .inv .0) (omega (arith, c .loop-test .left, c .before .loop .inv .1)) (c .before .loop .inv .3)
+returns c = let inv = (c .before) .loop .inv in named-done _ _ _ _ (inv .0) (omega (arith, c .loop-test .left, inv .1)) (inv .4)
 
 pub gammas-of-spec : {M : Type 1} → statement M
 gammas-of-spec =
@@ -55,20 +60,22 @@ gammas-of-spec =
     (tie.spec
     Inv-loop
     μ-loop
-    (λ c κs. search needs)
-    loop-holds
-    (λ c. omega arith)
-    (λ c. omega (arith, below (c .before)))
-    (λ c. omega (arith, below (c .before)))
-    (λ c. omega (arith, below (c .before)))
-    (λ c κs. search needs)
-    (λ c. omega (arith, below (c .before .before)))
-    (λ c. omega (arith, below (c .before .before .before)))
+    (λ c. search needs)
+    column-sums-requires
+    (λ c. (omega arith, refl, (c .before) .column-sums .kept .1 .1 .1 .0, refl, named-none _ _ _))
+    (λ c. omega (arith, below (c .before), (c .before .before) .loop .inv .2))
+    (λ c. omega (arith, below (c .before), (c .before .before) .loop .inv .2))
+    (λ c. omega (arith, below (c .before), (c .before .before) .loop .inv .2))
+    (λ c. omega (arith, below (c .before), (c .before .before) .loop .inv .2))
+    (λ c κs. tt)
+    (λ c. omega (arith, below (c .before .before), (c .before .before .before) .loop .inv .2))
+    (λ c. omega (arith, below (c .before .before .before), (c .before .before .before .before .before .before .before .before .before .before .before .before .before) .pre .0 .sizes))
     (λ c. search needs)
     group-gamma-requires
-    (λ c. omega (arith, below (c .before .before .before .before .before)))
-    (λ c. omega (arith, below (c .before .before .before .before .before)))
-    (λ c. omega arith)
-    (λ c. omega arith)
+    (λ c. omega (arith, below (c .before .before .before .before .before), (c .before .before .before .before .before .before) .loop .inv .2))
+    (λ c. omega (arith, below (c .before .before .before .before .before), (c .before .before .before .before .before .before) .loop .inv .2))
+    (λ c. omega (arith, below (c .before .before .before .before .before), (c .before .before .before .before .before .before) .loop .inv .2))
+    (λ c. omega (arith, below (c .before .before .before .before .before), (c .before .before .before .before .before .before) .loop .inv .2))
     loop-again
+    (λ c. (c .before) .loop .inv .3)
     returns)

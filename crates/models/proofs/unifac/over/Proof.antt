@@ -1,51 +1,81 @@
--- The quantity from what the components share, which is worked out once.
+-- The quantity from what the components share and Θ, which are worked out once.
+use mathlib.Core.Path.{_≡_}
 use native.Mathlib.Omega.{arith}
+use denote.Ref.{now}
 use borrow.Author.Needs.{needs}
-use Rattle.models.proofs.UnifacLaws.{listed-same, unifac-ln, unifac-gamma, unifac-excess}
+use lib.ListN.{length}
+use Rattle.arithmetic.proofs.TableLaws.{row-end}
+use Rattle.models.specs.steps.Unifac.{Grouped}
 use Rattle.models.proofs.AnswerLaws.{index-ln, index-gamma}
-use Rattle.models.proofs.GroupListLaws.{listed-less}
+use Rattle.models.proofs.GroupListLaws.{listed-less, listed-wider}
+use Rattle.models.proofs.UnifacLaws.{listed-same, ln-from, unifac-ln, unifac-gamma, unifac-excess}
+use mathlib.Core.List.{List}
+use lib.Ieee.{Float}
 use Rattle.models.proofs.unifac.over.Statement.{statement}
 use Rattle.models.proofs.unifac.over.Tie as tie
 
-ln-gamma-requires : tie.Need-ln-gamma-requires
-ln-gamma-requires c κs =
-    let start = c .before .before .before .before .before .before .before .before .before .before .before in
-    let here = index-ln (c .before .asked .given .1) (start .pre .7) in
-    (listed-less (start .pre .0) _ (start .args .ng) here (omega arith), omega (arith, here, start .pre .1), start .pre .2, start .pre .4, start .pre .5)
+grouped : (c : tie.Start) {theta : List Float} → length theta ≡ 32 → Grouped (c .args .ng) (now (c .args .q)) theta (now (c .args .psi))
+grouped c long = let pre = c .pre in record { few = pre .2; sizes = pre .4; thetas = omega (arith, pre .2, long); square = pre .5 }
 
-ln-gamma-requires-2 : tie.Need-ln-gamma-requires-2
-ln-gamma-requires-2 c κs =
-    let start = c .before .before .before .before .before .before .before .before .before .before .before in
-    let here = index-gamma (c .before .asked2 .given .1) (start .pre .7) in
-    (listed-less (start .pre .0) _ (start .args .ng) here (omega arith), omega (arith, here, start .pre .1), start .pre .2, start .pre .4, start .pre .5)
+share-requires : tie.Need-share-requires
+share-requires c κs = let pre = (c .before .before .before .before .before .before .before .before) .pre in (listed-wider (pre .0) _ (pre .3), listed-wider (pre .0) _ (pre .4), pre .1, pre .7)
+
+theta-mixed-requires : tie.Need-theta-mixed-requires
+theta-mixed-requires c κs = let pre = (c .before .before .before .before .before .before .before .before .before .before) .pre in (pre .0, pre .1, pre .2, pre .4, pre .7, pre .2)
+
+residual-of-requires : tie.Need-residual-of-requires
+residual-of-requires c κs =
+    let start = (c .before .before .before .before .before .before .before .before .before .before .before .before .before .before .before .before .before) in
+    let pre = start .pre in
+    let here = index-ln ((c .before .before .before) .asked .given .1) (pre .8) in
+    (listed-less (pre .0) _ (start .args .ng) here (omega arith), omega (arith, here, pre .1), grouped start ((c .before .before .before .before .before .before) .theta-mixed .kept .1 .1 .1 .1 .1 .1 .1 .0), omega (arith, row-end _ (start .args .ng) _ here, pre .6))
+
+residual-of-requires-2 : tie.Need-residual-of-requires-2
+residual-of-requires-2 c κs =
+    let start = (c .before .before .before .before .before .before .before .before .before .before .before .before .before .before .before .before .before) in
+    let pre = start .pre in
+    let here = index-gamma ((c .before .before .before) .asked2 .given .1) (pre .8) in
+    (listed-less (pre .0) _ (start .args .ng) here (omega arith), omega (arith, here, pre .1), grouped start ((c .before .before .before .before .before .before) .theta-mixed .kept .1 .1 .1 .1 .1 .1 .1 .0), omega (arith, row-end _ (start .args .ng) _ here, pre .6))
+
+excess-gibbs-requires : tie.Need-excess-gibbs-requires
+excess-gibbs-requires c κs = let pre = (c .before .before .before .before .before .before .before .before .before .before .before .before .before .before .before) .pre in (pre .0, pre .1, grouped (c .before .before .before .before .before .before .before .before .before .before .before .before .before .before .before) ((c .before .before .before .before) .theta-mixed .kept .1 .1 .1 .1 .1 .1 .1 .0), pre .6, pre .7)
 
 returns : tie.Need-returns
 returns c =
-    let start = c .before .before .before .before .before .before .before .before .before .before .before .before in
-    unifac-ln _ _ _ _ _ _ _ (c .before .before .before .before .share .ensures) (listed-same (start .pre .0)) (c .before .before .asked .given .1) (start .pre .7) (c .ln-gamma .ensures)
+    let pre = (c .before .before .before .before .before .before .before .before .before .before .before .before .before .before .before .before .before .before) .pre in
+    unifac-ln _ _ _ _ _ _ _ _ ((c .before .before .before .before .before .before .before .before .before) .share .ensures) ((c .before .before .before .before .before .before .before) .theta-mixed .ensures) (listed-same (pre .0)) ((c .before .before .before .before) .asked .given .1) (pre .8)
+    (ln-from _ _ _ _ _ _ _ _ ((c .before .before) .combinatorial-of .ensures) (c .residual-of .ensures))
 
 returns-2 : tie.Need-returns-2
 returns-2 c =
-    let start = c .before .before .before .before .before .before .before .before .before .before .before .before .before in
-    unifac-gamma _ _ _ _ _ _ _ (c .before .before .before .before .before .share .ensures) (listed-same (start .pre .0)) (c .before .before .before .asked2 .given .1) (start .pre .7) (c .before .ln-gamma2 .ensures) (c .exp .ensures)
+    let pre = (c .before .before .before .before .before .before .before .before .before .before .before .before .before .before .before .before .before .before .before) .pre in
+    unifac-gamma _ _ _ _ _ _ _ _ ((c .before .before .before .before .before .before .before .before .before .before) .share .ensures) ((c .before .before .before .before .before .before .before .before) .theta-mixed .ensures) (listed-same (pre .0)) ((c .before .before .before .before .before) .asked2 .given .1) (pre .8)
+    (ln-from _ _ _ _ _ _ _ _ ((c .before .before .before) .combinatorial-of2 .ensures) ((c .before) .residual-of2 .ensures)) (c .exp .ensures)
 
 returns-3 : tie.Need-returns-3
 returns-3 c =
-    let start = c .before .before .before .before .before .before .before .before .before .before .before in
-    unifac-excess _ _ _ _ _ _ _ (c .before .before .before .share .ensures) (listed-same (start .pre .0)) (c .before .enum-told .given .1) (start .pre .7) (c .excess-gibbs .ensures)
+    let pre = (c .before .before .before .before .before .before .before .before .before .before .before .before .before .before .before .before) .pre in
+    unifac-excess _ _ _ _ _ _ _ _ ((c .before .before .before .before .before .before .before) .share .ensures) ((c .before .before .before .before .before) .theta-mixed .ensures) (listed-same (pre .0)) ((c .before .before) .enum-told .given .1) (pre .8) (c .excess-gibbs .ensures)
 
 pub over-spec : {M : Type 1} → statement M
 over-spec =
     tie.close
     (tie.spec
-    (λ c κs. search needs)
+    share-requires
     (λ c. search needs)
-    ln-gamma-requires
+    theta-mixed-requires
     (λ c. search needs)
-    ln-gamma-requires-2
+    (λ c κs. omega (arith, index-ln ((c .before) .asked .given .1) ((c .before .before .before .before .before .before .before .before .before .before .before .before .before .before .before) .pre .8), (c .before .before .before .before .before .before .before .before .before .before .before .before .before .before .before) .pre .1))
+    (λ c. search needs)
+    residual-of-requires
+    (λ c. search needs)
+    (λ c κs. omega (arith, index-gamma ((c .before) .asked2 .given .1) ((c .before .before .before .before .before .before .before .before .before .before .before .before .before .before .before) .pre .8), (c .before .before .before .before .before .before .before .before .before .before .before .before .before .before .before) .pre .1))
+    (λ c. search needs)
+    residual-of-requires-2
     (λ c κs. tt)
     (λ c. search needs)
-    (λ c κs. search needs)
+    (λ c. search needs)
+    excess-gibbs-requires
     returns
     returns-2
     returns-3)

@@ -11,10 +11,10 @@ use Rattle.models.proofs.unifac.row_sum.Statement.{statement}
 use Rattle.models.proofs.unifac.row_sum.Tie as tie
 
 abbrev Inv-loop : tie.InvT-loop
-Inv-loop theta row denom ng terms₀ m₀ terms m = Filling (λ m. at theta m ⊗ at row m ⊘ at denom m) ng 32 m terms
+Inv-loop ng theta row denom terms₀ m₀ terms m = Filling (λ m. at theta m ⊗ at row m ⊘ at denom m) ng 32 m terms
 
 abbrev μ-loop : tie.MeasureT-loop
-μ-loop theta row denom ng terms₀ m₀ terms m = ng - m
+μ-loop ng theta row denom terms₀ m₀ terms m = ng - m
 
 loop-again : tie.Need-loop-again Inv-loop μ-loop
 loop-again c = filling-more (omega arith) (c .before .before .before .before .loop .inv) refl

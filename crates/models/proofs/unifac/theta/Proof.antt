@@ -3,6 +3,7 @@ use mathlib.Core.Path.{refl}
 use Prim.Native.Nat.{_-_}
 use native.Mathlib.Omega.{arith}
 use borrow.Author.Needs.{needs}
+use lib.ListN.{length}
 use Rattle.arithmetic.specs.Tables.{at}
 use Rattle.arithmetic.proofs.TableLaws.{Filling, filling-none, filling-more, filling-done}
 use Rattle.models.specs.Unifac as Unifac
@@ -10,14 +11,14 @@ use Rattle.models.proofs.unifac.theta.Statement.{statement}
 use Rattle.models.proofs.unifac.theta.Tie as tie
 
 abbrev Inv-loop : tie.InvT-loop
-Inv-loop q xg ng qs theta₀ g₀ theta g = Filling (Unifac.theta ng (at q) (at xg)) ng 32 g theta
+Inv-loop ng q xg out₀ qs g₀ out g = Filling (Unifac.theta ng (at q) (at xg)) ng (length out₀) g out
 
 abbrev μ-loop : tie.MeasureT-loop
-μ-loop q xg ng qs theta₀ g₀ theta g = ng - g
+μ-loop ng q xg out₀ qs g₀ out g = ng - g
 
 loop-again : tie.Need-loop-again Inv-loop μ-loop
 unfolding Unifac.theta
-loop-again c = let top = c .before .before .before in filling-more (omega arith) (top .loop .inv) (rw (top .before .dot .ensures))
+loop-again c = filling-more (omega arith) ((c .before .before .before) .loop .inv) (rw ((c .before .before .before .before) .dot .ensures))
 
 pub theta-spec : {M : Type 1} → statement M
 theta-spec =
@@ -36,4 +37,5 @@ theta-spec =
     (λ c. omega arith)
     (λ c. omega arith)
     loop-again
-    (λ c. filling-done (c .loop-test .left) (c .before .loop .inv)))
+    (λ c. (c .before) .loop .inv .long)
+    (λ c. filling-done (c .loop-test .left) ((c .before) .loop .inv)))

@@ -2,8 +2,8 @@
 use Prim.Native.Nat.{_+_, _≤_}
 use native.Mathlib.Omega.{arith}
 use denote.Ref.{now}
-use lib.ListN.{length}
 use borrow.Author.Needs.{needs}
+use lib.ListN.{length}
 use Rattle.arithmetic.proofs.TableLaws.{from-length}
 use Rattle.models.specs.Values.{countsAt}
 use Rattle.models.proofs.UnifacLaws.{value-from}
@@ -18,35 +18,35 @@ before-counts c = omega (arith, c .pre .0 .tables)
 
 over-requires : tie.Need-over-requires
 over-requires c κs =
-    let start = c .before .before .before .before .before .before .before .before in
-    let all = start .pre .0 in (
-      listed-at (now (start .args .values)) (c .before .before .counts-at .ensures .0) (all .listed),
+    let start = (c .before .before .before .before .before .before .before .before .before) in
+    let pre = start .pre in
+    let all = pre .0 in (
+      listed-at (now (start .args .values)) ((c .before .before) .counts-at .ensures .0) (all .listed),
       all .few,
       all .fewGroups,
       omega (arith, before-counts start),
       omega (arith, before-counts start, from-length (start .args .ng) (now (start .args .values))),
-      start .pre .1,
-      start .pre .2,
-      start .pre .3,
+      pre .1,
+      pre .2,
+      pre .3,
+      pre .4,
     )
 
 returns : tie.Need-returns
-returns c =
-    let start = c .before .before .before .before .before .before .before .before .before in
-    value-from _ _ _ _ _ _ _ _ (start .pre .0) (start .pre .3) (c .before .before .before .counts-at .ensures .0) (c .over .ensures)
+returns c = let pre = (c .before .before .before .before .before .before .before .before .before .before) .pre in value-from _ _ _ _ _ _ _ _ _ (pre .0) (pre .4) ((c .before .before .before) .counts-at .ensures .0) (c .over .ensures)
 
 pub value-over-spec : {M : Type 1} → statement M
 value-over-spec =
     tie.close
     (tie.spec
-    (λ c κs. search needs)
-    (λ c. search needs)
-    (λ c. search needs)
-    (λ c. search needs)
-    (λ c. search needs)
-    (λ c. search needs)
-    (λ c. omega (arith, before-counts (c .before .before .before .before .before .before .before)))
-    (λ c. omega (arith, before-counts (c .before .before .before .before .before .before .before)))
-    (λ c. search needs)
+    (λ c κs. (c .before .before .before .before .before .before) .pre .0 .fewGroups)
+    (λ c. omega (arith, before-counts (c .before .before .before .before .before .before .before), (c .before .before .before .before .before .before .before) .pre .0 .tables, c .counts-at .ensures .0))
+    (λ c. omega (arith, before-counts (c .before .before .before .before .before .before .before), (c .before .before .before .before .before .before .before) .pre .0 .tables, c .counts-at .ensures .0))
+    (λ c. omega (arith, before-counts (c .before .before .before .before .before .before .before), (c .before .before .before .before .before .before .before) .pre .0 .tables, c .counts-at .ensures .0))
+    (λ c. omega (arith, before-counts (c .before .before .before .before .before .before .before), (c .before .before .before .before .before .before .before) .pre .0 .tables, c .counts-at .ensures .0))
+    (λ c. omega (arith, before-counts (c .before .before .before .before .before .before .before .before), (c .before .before .before .before .before .before .before .before) .pre .0 .tables, (c .before) .counts-at .ensures .0))
+    (λ c. omega (arith, before-counts (c .before .before .before .before .before .before .before .before), (c .before .before .before .before .before .before .before .before) .pre .0 .tables, (c .before) .counts-at .ensures .0))
+    (λ c. omega (arith, before-counts (c .before .before .before .before .before .before .before .before), (c .before .before .before .before .before .before .before .before) .pre .0 .tables, (c .before) .counts-at .ensures .0))
+    (λ c. omega (arith, before-counts (c .before .before .before .before .before .before .before .before), (c .before .before .before .before .before .before .before .before) .pre .0 .tables, (c .before) .counts-at .ensures .0))
     over-requires
     returns)

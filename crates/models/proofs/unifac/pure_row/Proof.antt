@@ -1,0 +1,42 @@
+-- The list of i is lent as parts of the groups and counts.
+use Prim.Native.Nat.{_+_, _≤_}
+use native.Mathlib.Omega.{arith}
+use denote.Ref.{now}
+use borrow.Author.Needs.{needs}
+use lib.ListN.{length, getD}
+use Rattle.models.proofs.GroupListLaws.{list-ends, list-paired}
+use Rattle.models.proofs.UnifacLaws.{pure-own}
+use Rattle.models.proofs.unifac.pure_row.Statement.{statement}
+use Rattle.models.proofs.unifac.pure_row.Tie as tie
+
+abbrev entry : tie.After-shared-slice-known6 → tie.Start
+entry c = c .before .before .before .before .before .before .before .before
+
+ends : (c : tie.After-shared-slice-known6) → let a = entry c .args in let end = c .before .start-of .result + getD (now (a .lens)) (a .i) 0 in
+    (end ≤ length (now (a .groups))) × (end ≤ length (now (a .counts)))
+ends c = list-ends (entry c .args .i) (entry c .pre .0) (c .before .start-of .ensures)
+
+pure-listed-requires : tie.Need-pure-listed-requires
+pure-listed-requires c κs = let start = (c .before .before .before .before .before .before .before .before .before .before .before) in (list-paired (start .args .i) (start .pre .0) ((c .before .before .before .before) .start-of .ensures), start .pre .2, start .pre .3, start .pre .4, start .pre .5)
+
+returns : tie.Need-returns
+returns c = let start = (c .before .before .before .before .before .before .before .before .before .before .before .before .before .before) in pure-own (start .args .i) (start .pre .0) ((c .before .before .before .before .before .before .before) .start-of .ensures) _ _ ((c .before .before) .pure-listed .ensures)
+
+pub pure-row-spec : {M : Type 1} → statement M
+pure-row-spec =
+    tie.close
+    (tie.spec
+    (λ c κs. (omega (arith, (c .before .before .before .before .before .before) .pre .0 .many), omega (arith, (c .before .before .before .before .before .before) .pre .1)))
+    (λ c. omega (arith, (c .before .before .before .before .before .before .before .before) .pre .0 .many))
+    (λ c. omega (arith, c .shared-slice-known6 .given ((c .before .before .before .before .before .before .before .before) .args .i)))
+    (λ c. omega (arith, ends c, (c .before .before .before .before .before .before .before .before) .good))
+    (λ c. omega (arith, ends c, (c .before .before .before .before .before .before .before .before) .good))
+    (λ c. omega (arith, ends c, (c .before .before .before .before .before .before .before .before) .good))
+    (λ c. omega (arith, ends c, (c .before .before .before .before .before .before .before .before) .good))
+    (λ c. omega (arith, ends (c .before), (c .before .before .before .before .before .before .before .before .before) .good))
+    (λ c. omega (arith, ends (c .before), (c .before .before .before .before .before .before .before .before .before) .good))
+    (λ c. omega (arith, ends (c .before), (c .before .before .before .before .before .before .before .before .before) .good))
+    (λ c. omega (arith, ends (c .before), (c .before .before .before .before .before .before .before .before .before) .good))
+    pure-listed-requires
+    (λ c. (c .before .before) .pure-listed .kept .1 .1 .1 .1 .1 .0)
+    returns)
