@@ -83,12 +83,14 @@ residual-folded θ row sums i q l {n} {r = r} b done terms own t =
 
 -- what all components share, from what the callees work out: the column sums are those over the shares that stand in a list
 pub shared : (n : ℕ) (r q : ℕ → Float) (E : ℕ → ℕ → Float) (x : ℕ → Float) {rx lx : Float} {theta sums : List Float} → rx ≡ sum n (λ j. x j ⊗ r j) → lx ≡ sum n (λ j. x j ⊗ l r q j) →
-    Filled (share n q x) n theta → Filled (columnSum n (tau E) (at theta)) n sums → UniquacShared n r q E x rx lx theta sums
-shared n r q E x {rx} {lx} {theta} {sums} s t all columns = record {
+    Filled (share n q x) n theta → Filled (columnSum n (tau E) (at theta)) n sums → n ≤ length theta → n ≤ length sums → UniquacShared n r q E x rx lx theta sums
+shared n r q E x {rx} {lx} {theta} {sums} s t all columns h g = record {
   rSum = s;
   lSum = t;
   shares = all;
   columns = filled-as (λ j b. column-same n (tau E) (tau E) (at theta) (share n q x) j (λ k c. refl) (all .each)) columns;
+  thetas = h;
+  summed = g;
 }
 
 module _ (n : ℕ) (r q : ℕ → Float) (e : List Float) (x : ℕ → Float) (rx lx : Float) (theta sums : List Float) (S : UniquacShared n r q (grid n e) x rx lx theta sums) (i : ℕ) (b : i < n) where

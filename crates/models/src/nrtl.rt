@@ -14,6 +14,7 @@ ghost use Rattle.models.specs.Nrtl.{tauAt, numerator, nrtl, nrtlAt};
 ghost use Rattle.models.specs.Plain.{nrtlPlain};
 ghost use Rattle.models.specs.Values.{fiveAt, nrtlSize, taus, alphas};
 ghost use Rattle.models.specs.steps.Columns.{Added};
+ghost use Rattle.models.specs.steps.Nrtl.{NrtlFits, NrtlSums};
 ghost use Rattle.models.specs.Nrtl.{tau as Nrtl·tau};
 ghost use Rattle.arithmetic.specs.Sums.{sum};
 use crate::answers::Answer;
@@ -109,11 +110,8 @@ fn add_terms(sums: &mut [f64], x: f64, g: &[f64], tau: &[f64], n: usize, i: usiz
 // For each j the numerator Σ_m x_m G_mj τ_mj in u and the denominator Σ_m x_m G_mj in d; both have zeros at
 // first.
 fn column_sums(n: usize, tau: &[f64], g: &[f64], x: &[f64], u: &mut [f64], d: &mut [f64])
-    requires { ⌜ (n * n ≤ length (now tau))
-        × (n * n ≤ length (now g))
-        × (n ≤ length (now x))
-        × (n ≤ length (now u))
-        × (n ≤ length (now d))
+    requires { ⌜ NrtlFits n (now tau) (now g) (now x)
+        × NrtlSums n (now u) (now d)
         × Filled (λ _. +0) n (now u)
         × Filled (λ _. +0) n (now d) ⌝ }
     ensures { λ _.
@@ -155,13 +153,7 @@ fn second(n: usize, tau: &[f64], g: &[f64], u: &[f64], d: &[f64], x: &[f64], i: 
 
 // ln γ_i, u being the numerators and d the denominators.
 fn ln_gamma(n: usize, tau: &[f64], g: &[f64], u: &[f64], d: &[f64], x: &[f64], i: usize) -> f64
-    requires { ⌜ (n ≤ mostComponents)
-        × (i < n)
-        × (n * n ≤ length (now tau))
-        × (n * n ≤ length (now g))
-        × (n ≤ length (now u))
-        × (n ≤ length (now d))
-        × (n ≤ length (now x)) ⌝ }
+    requires { ⌜ NrtlFits n (now tau) (now g) (now x) × NrtlSums n (now u) (now d) × (i < n) ⌝ }
     ensures { λ r.
         let G = unitDiagonal (grid n (now (g .entry))) in
         let τ = Nrtl·tau (grid n (now (tau .entry))) in
@@ -189,11 +181,7 @@ fn excess_by(n: usize, u: &[f64], d: &[f64], x: &[f64]) -> f64
 // The value over a table of τ at T and one of exponentials, both by rows of n; what stands on their
 // diagonals doesn't count.
 pub fn value_over(n: usize, tau: &[f64], g: &[f64], x: &[f64], q: Quantity) -> f64
-    requires { ⌜ (n ≤ mostComponents)
-        × (n * n ≤ length (now tau))
-        × (n * n ≤ length (now g))
-        × (n ≤ length (now x))
-        × (indexFault n q ≡ 0) ⌝ }
+    requires { ⌜ NrtlFits n (now tau) (now g) (now x) × (indexFault n q ≡ 0) ⌝ }
     ensures { λ r.
         ⌜ r ≡ nrtl n (grid n (now (tau .entry))) (grid n (now (g .entry))) (at (now (x .entry))) q ⌝ }
 {

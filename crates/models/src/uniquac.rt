@@ -10,7 +10,7 @@ ghost use Rattle.models.specs.Limits.{mostComponents};
 ghost use Rattle.models.specs.Faults.{indexFault};
 ghost use Rattle.models.specs.Columns.{unitAt};
 ghost use Rattle.models.specs.Plain.{uniquacPlain};
-ghost use Rattle.models.specs.steps.Uniquac.{UniquacShared};
+ghost use Rattle.models.specs.steps.Uniquac.{UniquacFits, UniquacShared};
 ghost use Rattle.models.specs.Uniquac.{share, lnGamma, excess, uniquac, uniquacAt};
 ghost use Rattle.models.specs.Uniquac.{Z as U·Z, l as U·l};
 ghost use Rattle.models.specs.Values.{uniquacSize, energies, rs, qs};
@@ -117,15 +117,10 @@ fn ln_gamma(
     sums: &[f64],
     i: usize,
 ) -> f64
-    requires { ⌜ (n ≤ length (now r))
-        × (n ≤ length (now q))
-        × (n * n ≤ length (now e))
-        × (n ≤ length (now x))
-        × (n ≤ length (now theta))
-        × (n ≤ length (now sums))
-        × (i < n)
-        × UniquacShared n (at (now r)) (at (now q)) (grid n (now e)) (at (now x)) rx lx (now theta) (now sums)
-        × (n ≤ mostComponents) ⌝ }
+    requires { ⌜ UniquacFits n (now r) (now q) (now e) (now x)
+        × UniquacShared n (at (now r)) (at (now q)) (grid n (now e)) (at (now x)) rx lx
+        (now theta) (now sums)
+        × (i < n) ⌝ }
     ensures { λ v.
         let E = grid n (now (e .entry)) in
         ⌜ v ≡ lnGamma n (at (now (r .entry))) (at (now (q .entry))) E (at (now (x .entry))) i ⌝ }
@@ -190,14 +185,9 @@ fn excess_gibbs(
     theta: &[f64],
     sums: &[f64],
 ) -> f64
-    requires { ⌜ (n ≤ length (now r))
-        × (n ≤ length (now q))
-        × (n * n ≤ length (now e))
-        × (n ≤ length (now x))
-        × (n ≤ length (now theta))
-        × (n ≤ length (now sums))
-        × UniquacShared n (at (now r)) (at (now q)) (grid n (now e)) (at (now x)) rx lx (now theta) (now sums)
-        × (n ≤ mostComponents) ⌝ }
+    requires { ⌜ UniquacFits n (now r) (now q) (now e) (now x)
+        × UniquacShared n (at (now r)) (at (now q)) (grid n (now e)) (at (now x)) rx lx
+        (now theta) (now sums) ⌝ }
     ensures { λ v.
         let E = grid n (now (e .entry)) in
         ⌜ v ≡ excess n (at (now (r .entry))) (at (now (q .entry))) E (at (now (x .entry))) ⌝ }
@@ -222,12 +212,7 @@ fn excess_gibbs(
 
 // The quantity over a table of exponentials.
 pub fn value_over(n: usize, r: &[f64], q: &[f64], e: &[f64], x: &[f64], k: Quantity) -> f64
-    requires { ⌜ (n ≤ mostComponents)
-        × (n ≤ length (now r))
-        × (n ≤ length (now q))
-        × (n * n ≤ length (now e))
-        × (n ≤ length (now x))
-        × (indexFault n k ≡ 0) ⌝ }
+    requires { ⌜ UniquacFits n (now r) (now q) (now e) (now x) × (indexFault n k ≡ 0) ⌝ }
     ensures { λ v.
         let E = grid n (now (e .entry)) in
         ⌜ v ≡ uniquac n (at (now (r .entry))) (at (now (q .entry))) E (at (now (x .entry))) k ⌝ }

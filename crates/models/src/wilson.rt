@@ -13,6 +13,7 @@ ghost use Rattle.models.specs.Plain.{wilsonPlain};
 ghost use Rattle.models.specs.Values.{wilsonSize, energies, volumes};
 ghost use Rattle.models.specs.Wilson.{rowSum, lnGamma, wilsonAt};
 ghost use Rattle.models.specs.Wilson.{wilson as W·wilson};
+ghost use Rattle.models.specs.steps.Wilson.{WilsonFits};
 use crate::answers::Answer;
 use crate::answers::Quantity;
 use crate::limits::COMPONENTS;
@@ -52,11 +53,7 @@ fn row_sum(n: usize, v: &[f64], row: &[f64], x: &[f64], i: usize) -> f64
 
 // What all components share: writes the sum of each row.
 fn row_sums(n: usize, v: &[f64], e: &[f64], x: &[f64], sums: &mut [f64])
-    requires { ⌜ (n ≤ mostComponents)
-        × (n ≤ length (now v))
-        × (n * n ≤ length (now e))
-        × (n ≤ length (now x))
-        × (n ≤ length (now sums)) ⌝ }
+    requires { ⌜ WilsonFits n (now v) (now e) (now x) × (n ≤ length (now sums)) ⌝ }
     ensures { λ _.
         let each = rowSum n (at (now (v .entry))) (grid n (now (e .entry))) (at (now (x .entry))) in
         ⌜ Filled each n (now (sums .exit)) ⌝ }
@@ -81,12 +78,9 @@ fn lambda(n: usize, v: &[f64], e: &[f64], i: usize, j: usize) -> f64
 
 // ln γ_i, from the row sums. The terms run without a test for the diagonal, then its own is put right.
 fn ln_gamma(n: usize, v: &[f64], e: &[f64], x: &[f64], sums: &[f64], i: usize) -> f64
-    requires { ⌜ (n ≤ length (now v))
-        × (n * n ≤ length (now e))
-        × (n ≤ length (now x))
-        × (n ≤ length (now sums))
+    requires { ⌜ WilsonFits n (now v) (now e) (now x)
         × (i < n)
-        × (n ≤ mostComponents)
+        × (n ≤ length (now sums))
         × Filled (rowSum n (at (now v)) (grid n (now e)) (at (now x))) n (now sums) ⌝ }
     ensures { λ r. ⌜ r ≡ lnGamma n (at (now (v .entry))) (grid n (now (e .entry))) (at (now (x .entry))) i ⌝ }
 {
@@ -113,11 +107,7 @@ fn excess_gibbs(n: usize, x: &[f64], sums: &mut [f64]) -> f64
 
 // The quantity over a table of exponentials.
 pub fn value_over(n: usize, v: &[f64], e: &[f64], x: &[f64], q: Quantity) -> f64
-    requires { ⌜ (n ≤ mostComponents)
-        × (n ≤ length (now v))
-        × (n * n ≤ length (now e))
-        × (n ≤ length (now x))
-        × (indexFault n q ≡ 0) ⌝ }
+    requires { ⌜ WilsonFits n (now v) (now e) (now x) × (indexFault n q ≡ 0) ⌝ }
     ensures { λ r.
         ⌜ r ≡ W·wilson n (at (now (v .entry))) (grid n (now (e .entry))) (at (now (x .entry))) q ⌝ }
 {

@@ -1,17 +1,29 @@
--- Inner contracts: what a call works out once for all components.
+-- Inner contracts: what UNIQUAC's functions read, and what a call works out once for all components.
 use mathlib.Core.Path.{_≡_}
 use mathlib.Core.List.{List}
-use Prim.Native.Nat.{ℕ}
+use Prim.Native.Nat.{ℕ, _*_, _≤_}
 use lib.Ieee.{Float}
+use lib.ListN.{length}
 use Rattle.arithmetic.specs.Floats.{_⊗_}
 use Rattle.arithmetic.specs.Sums.{sum}
 use Rattle.arithmetic.specs.Tables.{Filled}
+use Rattle.models.specs.Limits.{mostComponents}
 use Rattle.models.specs.Columns.{columnSum}
 use Rattle.models.specs.Uniquac.{tau, share, l}
 
--- UNIQUAC: Σ_j x_j r_j, Σ_j x_j l_j, θ and Σ_k θ_k τ_kj
+-- r, q, a table of exponentials and the fractions, of n components
+pub record UniquacFits (n : ℕ) (r q e x : List Float) : Type 0 where
+  pub few : n ≤ mostComponents
+  pub sizes : n ≤ length r
+  pub areas : n ≤ length q
+  pub table : n * n ≤ length e
+  pub fractions : n ≤ length x
+
+-- Σ_j x_j r_j, Σ_j x_j l_j, θ and Σ_k θ_k τ_kj
 pub record UniquacShared (n : ℕ) (r q : ℕ → Float) (E : ℕ → ℕ → Float) (x : ℕ → Float) (rx lx : Float) (theta sums : List Float) : Type 0 where
   pub rSum : rx ≡ sum n (λ j. x j ⊗ r j)
   pub lSum : lx ≡ sum n (λ j. x j ⊗ l r q j)
   pub shares : Filled (share n q x) n theta
   pub columns : Filled (columnSum n (tau E) (share n q x)) n sums
+  pub thetas : n ≤ length theta
+  pub summed : n ≤ length sums

@@ -39,8 +39,15 @@ value-over-requires : tie.Need-value-over-requires
 value-over-requires c κs =
     let worked = c .before .before .before .before .before .before in
     let filled = worked .before .before .before .before .before .before .before in
-    let p = entry filled .pre in
-    (p .0 .few, omega (arith, filled .fill-taus .kept, p .2), omega (arith, worked .refill .kept, room (entry filled)), p .1, p .0 .index)
+    let p = entry filled .pre in (
+      record {
+        few = p .0 .few;
+        taus = omega (arith, filled .fill-taus .kept, p .2);
+        table = omega (arith, worked .refill .kept, room (entry filled));
+        fractions = p .1;
+      },
+      p .0 .index,
+    )
 
 returns : tie.Need-returns
 returns c =

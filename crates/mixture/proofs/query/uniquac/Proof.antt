@@ -24,11 +24,13 @@ value-over-requires c κs =
     let s = entry call in
     let n = s .args .n in
     let r = room s in (
-      r .few,
-      omega (arith, r, from-length (n * n) (now (s .args .values))),
-      omega (arith, r, from-length (n * n + n) (now (s .args .values))),
-      omega (arith, r, call .before .before .before .before .refill .kept),
-      omega (arith, r),
+      record {
+        few = r .few;
+        sizes = omega (arith, r, from-length (n * n) (now (s .args .values)));
+        areas = omega (arith, r, from-length (n * n + n) (now (s .args .values)));
+        table = omega (arith, r, call .before .before .before .before .refill .kept);
+        fractions = omega (arith, r);
+      },
       s .pre .index,
     )
 

@@ -23,10 +23,12 @@ value-over-requires c κs =
     let call = c .before .before .before in
     let s = entry call in
     let r = room s in (
-      r .few,
-      omega (arith, r, from-length (s .args .n * s .args .n) (now (s .args .values))),
-      omega (arith, r, call .before .before .before .before .refill .kept),
-      omega (arith, r),
+      record {
+        few = r .few;
+        sizes = omega (arith, r, from-length (s .args .n * s .args .n) (now (s .args .values)));
+        table = omega (arith, r, call .before .before .before .before .refill .kept);
+        fractions = omega (arith, r);
+      },
       s .pre .index,
     )
 

@@ -30,10 +30,10 @@ entry c = c .before .before .before .before .before .before .before
 ends : (c : tie.In-loop Inv-loop μ-loop) → (c .before .loop .i * entry c .args .n + entry c .args .n ≤ length (now (entry c .args .tau))) × (c .before .loop .i * entry c .args .n + entry c .args .n ≤ length (now (entry c .args .g)))
 ends c =
     let row = row-end (entry c .args .n) (entry c .args .n) (c .before .loop .i) (c .loop-test .taken) in
-    (le-trans row (entry c .pre .0), le-trans row (entry c .pre .1))
+    (le-trans row (entry c .pre .0 .taus), le-trans row (entry c .pre .0 .table))
 
 loop-holds : tie.Need-loop-holds Inv-loop μ-loop
-loop-holds c = let pre = c .before .before .before .before .before .pre in (columns-none (omega arith) refl (pre .5), columns-none (omega arith) refl (pre .6))
+loop-holds c = let pre = c .before .before .before .before .before .pre in (columns-none (omega arith) refl (pre .2), columns-none (omega arith) refl (pre .3))
 
 add-terms-requires : tie.Need-add-terms-requires Inv-loop μ-loop
 add-terms-requires c κs =

@@ -11,15 +11,15 @@ use Rattle.models.proofs.nrtl.ln_gamma.Tie as tie
 
 -- row i ends within the tables, and these within 144 places
 ends : (c : tie.Start) → (c .args .i * c .args .n + c .args .n ≤ c .args .n * c .args .n) × (c .args .n * c .args .n ≤ 144)
-ends c = (row-end _ (c .args .n) _ (c .pre .1), mul-le-mul (c .pre .0) (c .pre .0))
+ends c = (row-end _ (c .args .n) _ (c .pre .2), mul-le-mul (c .pre .0 .few) (c .pre .0 .few))
 
 second-requires : tie.Need-second-requires
 second-requires c κs =
     let start = c .before .before .before .before .before .before .before .before .before in
     let pre = start .pre in
-    let tau-row = from-room (start .args .i * start .args .n) _ (now (start .args .tau)) (le-trans (ends start .0) (pre .2)) in
-    let g-row = from-room (start .args .i * start .args .n) _ (now (start .args .g)) (le-trans (ends start .0) (pre .3)) in
-    (tau-row, g-row, pre .4, pre .5, pre .6, pre .1, pre .0)
+    let tau-row = from-room (start .args .i * start .args .n) _ (now (start .args .tau)) (le-trans (ends start .0) (pre .0 .taus)) in
+    let g-row = from-room (start .args .i * start .args .n) _ (now (start .args .g)) (le-trans (ends start .0) (pre .0 .table)) in
+    (tau-row, g-row, pre .1 .above, pre .1 .below, pre .0 .fractions, pre .2, pre .0 .few)
 
 returns : tie.Need-returns
 returns c =

@@ -11,27 +11,27 @@ abbrev entry : tie.After-column-sums → tie.Start
 entry c = c .before .before .before .before .before .before
 
 column-sums-requires : tie.Need-column-sums-requires
-column-sums-requires c κs = let zero = filled-less (c .before .before .before .before .before .pre .0) (zeros 12) in search needs
+column-sums-requires c κs = let zero = filled-less (c .before .before .before .before .before .pre .0 .few) (zeros 12) in search needs
 
 ln-gamma-requires : tie.Need-ln-gamma-requires
 ln-gamma-requires c κs =
-    let here = index-ln (c .before .before .before .q .given .1) (entry (c .before .before .before .before .before .before .before) .pre .4) in
+    let here = index-ln (c .before .before .before .q .given .1) (entry (c .before .before .before .before .before .before .before) .pre .1) in
     search needs
 
 ln-gamma-requires-2 : tie.Need-ln-gamma-requires-2
 ln-gamma-requires-2 c κs =
-    let here = index-gamma (c .before .before .before .q2 .given .1) (entry (c .before .before .before .before .before .before .before) .pre .4) in
+    let here = index-gamma (c .before .before .before .q2 .given .1) (entry (c .before .before .before .before .before .before .before) .pre .1) in
     search needs
 
 returns : tie.Need-returns
 returns c =
     let sums = c .before .before .before .before .before .before .before .before in
-    nrtl-ln _ _ _ _ (sums .column-sums .ensures .0) (sums .column-sums .ensures .1) (c .before .before .before .before .q .given .1) (entry sums .pre .4) (c .ln-gamma .ensures)
+    nrtl-ln _ _ _ _ (sums .column-sums .ensures .0) (sums .column-sums .ensures .1) (c .before .before .before .before .q .given .1) (entry sums .pre .1) (c .ln-gamma .ensures)
 
 returns-2 : tie.Need-returns-2
 returns-2 c =
     let sums = c .before .before .before .before .before .before .before .before .before in
-    nrtl-gamma _ _ _ _ (sums .column-sums .ensures .0) (sums .column-sums .ensures .1) (c .before .before .before .before .before .q2 .given .1) (entry sums .pre .4) (c .before .ln-gamma2 .ensures) (c .exp .ensures)
+    nrtl-gamma _ _ _ _ (sums .column-sums .ensures .0) (sums .column-sums .ensures .1) (c .before .before .before .before .before .q2 .given .1) (entry sums .pre .1) (c .before .ln-gamma2 .ensures) (c .exp .ensures)
 
 returns-3 : tie.Need-returns-3
 returns-3 c =

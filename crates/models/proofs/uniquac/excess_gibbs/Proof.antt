@@ -35,22 +35,22 @@ ratios c = c .before .before .before .before .before .before .before .before .be
 
 -- row i ends within the table
 ends : (c : tie.In-loop Inv-loop μ-loop) → let a = start (ratios (c .before)) .args in c .before .loop .i * a .n + a .n ≤ length (now (a .e))
-ends c = let begun = start (ratios (c .before)) in omega (arith, begun .pre .2, row-end (begun .args .n) (begun .args .n) (c .before .loop .i) (c .loop-test .taken))
+ends c = let begun = start (ratios (c .before)) in omega (arith, begun .pre .0 .table, row-end (begun .args .n) (begun .args .n) (c .before .loop .i) (c .loop-test .taken))
 
 fill-logs-requires : tie.Need-fill-logs-requires Inv-loop μ-loop
 fill-logs-requires c κs =
     let made = c .before .before .before .before in
-    (omega (arith, made .fill-ratios .kept .1 .1 .1 .1 .1 .0, start made .pre .7), omega (arith, start made .pre .7))
+    (omega (arith, made .fill-ratios .kept .1 .1 .1 .1 .1 .0, start made .pre .0 .few), omega (arith, start made .pre .0 .few))
 
 log-each-requires : tie.Need-log-each-requires Inv-loop μ-loop
 log-each-requires c κs =
     let made = c .before .before .before .before .before .before .before .before .before .before in
-    omega (arith, made .fill-ratios .kept .1 .1 .1 .1 .1 .1 .0, start made .pre .7)
+    omega (arith, made .fill-ratios .kept .1 .1 .1 .1 .1 .1 .0, start made .pre .0 .few)
 
 loop-holds : tie.Need-loop-holds Inv-loop μ-loop
 loop-holds c =
     let made = c .before .before .before .before .before .before .before .before .before .before .before .before in
-    let le = start made .pre .7 in
+    let le = start made .pre .0 .few in
     let kept = made .fill-ratios .kept .1 .1 .1 .1 .1 in (
       (
         omega (arith, kept .0, le),
@@ -73,7 +73,7 @@ residual-requires c κs =
     let turn = c .before .before .before .before .before .before in
     let begun = start (ratios (turn .before)) in
     let row = from-room (turn .before .loop .i * begun .args .n) _ (now (begun .args .e)) (ends turn) in
-    (row, begun .pre .4, begun .pre .5, turn .loop-test .taken, begun .pre .7)
+    (row, begun .pre .1 .thetas, begun .pre .1 .summed, turn .loop-test .taken, begun .pre .0 .few)
 
 loop-again : tie.Need-loop-again Inv-loop μ-loop
 loop-again c =
@@ -84,12 +84,12 @@ loop-again c =
     let a = begun .args in
     let i = top .loop .i in
     let b = turn .loop-test .taken in
-    let areas = each-filled logOf (a .n) _ (omega (arith, made .fill-ratios .kept .1 .1 .1 .1 .1 .1 .0, begun .pre .7)) (λ k b. refl) (made .fill-ratios .ensures .1) (top .before .before .log-each .ensures) in (
+    let areas = each-filled logOf (a .n) _ (omega (arith, made .fill-ratios .kept .1 .1 .1 .1 .1 .1 .0, begun .pre .0 .few)) (λ k b. refl) (made .fill-ratios .ensures .1) (top .before .before .log-each .ensures) in (
       top .loop .inv .0,
       omega arith,
       sum-more _ _ (top .loop .inv .2)
           (ap (λ (v : Float). at (now (a .x)) i ⊗ v)
-          (lnGamma-hoisted _ _ _ (now (a .e)) _ _ _ _ _ (begun .pre .6) i b (ends turn)
+          (lnGamma-hoisted _ _ _ (now (a .e)) _ _ _ _ _ (begun .pre .1) i b (ends turn)
           (made .fill-ratios .ensures .0 .each i b) (top .before .before .before .before .before .before .before .before .fill-logs .ensures .each i b) (areas .each i b)
           (top .before .before .before .before .before .fill-logs2 .ensures .each i b) (c .before .before .before .before .combinatorial .ensures) (c .residual .ensures))),
     )
@@ -128,9 +128,9 @@ excess-gibbs-spec =
     (λ c κs. tt)
     mul-at
     (λ c. omega arith)
+    (λ c. omega (arith, start (ratios (c .before .before .before .before .before)) .pre .0))
     (λ c. omega arith)
-    (λ c. omega arith)
-    (λ c. omega arith)
+    (λ c. omega (arith, start (ratios (c .before .before .before .before .before .before)) .pre .0))
     mul-residual-2
     (λ c. omega (arith, ends (c .before .before .before .before .before)))
     (λ c. omega (arith, ends (c .before .before .before .before .before)))

@@ -15,20 +15,21 @@ entry c = c .before .before .before .before .before .before .before .before .bef
 
 -- row i ends within the table
 ends : (c : tie.Start) → c .args .i * c .args .n + c .args .n ≤ length (now (c .args .e))
-ends c = omega (arith, row-end (c .args .n) (c .args .n) (c .args .i) (c .pre .6))
+ends c = omega (arith, row-end (c .args .n) (c .args .n) (c .args .i) (c .pre .2))
 
 residual-requires : tie.Need-residual-requires
 residual-requires c κs =
     let start = entry (c .before .before .before .before) in
     let row = from-room (start .args .i * start .args .n) _ (now (start .args .e)) (ends start) in
-    (row, start .pre .4, start .pre .5, start .pre .6, start .pre .8)
+    let all = start .pre .1 in
+    (row, all .thetas, all .summed, start .pre .2, start .pre .0 .few)
 
 returns : tie.Need-returns
 returns c =
     let made = c .before .before .before .before .before in
     let start = entry made in
     let a = start .args in
-    lnGamma-hoisted _ _ _ (now (a .e)) _ _ _ _ _ (start .pre .7) _ (start .pre .6) (ends start) refl
+    lnGamma-hoisted _ _ _ (now (a .e)) _ _ _ _ _ (start .pre .1) _ (start .pre .2) (ends start) refl
     (made .before .before .before .before .before .log .ensures) (made .before .before .before .log2 .ensures) (c .before .log3 .ensures) (made .combinatorial .ensures) (c .residual .ensures)
 
 pub ln-gamma-spec : {M : Type 1} → statement M

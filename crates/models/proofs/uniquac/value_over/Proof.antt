@@ -1,8 +1,6 @@
 -- Each quantity from what all components share, which is worked out once.
-use Prim.Native.Nat.{_≤_}
 use native.Mathlib.Omega.{arith}
 use denote.Ref.{now}
-use lib.ListN.{length}
 use borrow.Author.Needs.{needs}
 use Rattle.arithmetic.specs.Tables.{at, grid}
 use Rattle.arithmetic.proofs.TableLaws.{filled-less}
@@ -19,34 +17,31 @@ entry c = c .before .before .before .before .before .before .before .before .bef
 
 unit-column-sums-requires : tie.Need-unit-column-sums-requires
 unit-column-sums-requires c κs =
-    let zero = filled-less (c .before .before .before .before .before .before .before .before .before .before .before .pre .0) (zeros 12) in
+    let zero = filled-less (c .before .before .before .before .before .before .before .before .before .before .before .pre .0 .few) (zeros 12) in
     search needs
 
--- what all components share, and how long its lists are
-known : (c : tie.After-unit-column-sums) → let a = entry c .args in let theta = c .before .before .before .before .shares .last .1 .1 .1 .0 in let sums = c .unit-column-sums .last .1 .1 .1 .0 in
-    (a .n ≤ length theta) × (a .n ≤ length sums)
-    × UniquacShared (a .n) (at (now (a .r))) (at (now (a .q))) (grid (a .n) (now (a .e))) (at (now (a .x))) (c .before .before .before .before .before .before .before .dot .result) (c .before .before .before .before .before .before .l-sum .result) theta sums
+-- what all components share
+known : (c : tie.After-unit-column-sums) → let a = entry c .args in
+    UniquacShared (a .n) (at (now (a .r))) (at (now (a .q))) (grid (a .n) (now (a .e))) (at (now (a .x)))
+    (c .before .before .before .before .before .before .before .dot .result) (c .before .before .before .before .before .before .l-sum .result)
+    (c .before .before .before .before .shares .last .1 .1 .1 .0) (c .unit-column-sums .last .1 .1 .1 .0)
 known c =
     let theta = c .before .before .before .before .shares in
-    let sums = c .unit-column-sums in (
-      omega (arith, theta .kept .1 .1 .1 .0, entry c .pre .0),
-      omega (arith, sums .kept .1 .1 .1 .0, entry c .pre .0),
-      shared _ _ _ _ _ (c .before .before .before .before .before .before .before .dot .ensures) (c .before .before .before .before .before .before .l-sum .ensures) (theta .ensures) (sums .ensures),
-    )
+    let sums = c .unit-column-sums in
+    shared _ _ _ _ _ (c .before .before .before .before .before .before .before .dot .ensures) (c .before .before .before .before .before .before .l-sum .ensures) (theta .ensures) (sums .ensures)
+    (omega (arith, theta .kept .1 .1 .1 .0, entry c .pre .0 .few)) (omega (arith, sums .kept .1 .1 .1 .0, entry c .pre .0 .few))
 
 ln-gamma-requires : tie.Need-ln-gamma-requires
 ln-gamma-requires c κs =
     let all = c .before .before .before .before .before .before in
     let pre = entry all .pre in
-    let k = known all in
-    (pre .1, pre .2, pre .3, pre .4, k .0, k .1, index-ln (c .before .before .before .k .given .1) (pre .5), k .2, pre .0)
+    (pre .0, known all, index-ln (c .before .before .before .k .given .1) (pre .1))
 
 ln-gamma-requires-2 : tie.Need-ln-gamma-requires-2
 ln-gamma-requires-2 c κs =
     let all = c .before .before .before .before .before .before in
     let pre = entry all .pre in
-    let k = known all in
-    (pre .1, pre .2, pre .3, pre .4, k .0, k .1, index-gamma (c .before .before .before .k2 .given .1) (pre .5), k .2, pre .0)
+    (pre .0, known all, index-gamma (c .before .before .before .k2 .given .1) (pre .1))
 
 excess-gibbs-requires : tie.Need-excess-gibbs-requires
 excess-gibbs-requires c κs = let k = known (c .before .before .before .before .before) in search needs

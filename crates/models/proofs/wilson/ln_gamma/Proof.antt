@@ -29,7 +29,7 @@ returns c =
     let done = c .before .before .before .before .before .before in
     let start = done .before .before .before .before .before .before in
     let a = start .args in
-    ln-folded _ _ (now (a .e)) _ _ (start .pre .6) _ (start .pre .4) (done .loop-test .left) (done .before .loop .inv) refl (c .before .before .log .ensures) (c .sum .ensures)
+    ln-folded _ _ (now (a .e)) _ _ (start .pre .3) _ (start .pre .1) (done .loop-test .left) (done .before .loop .inv) refl (c .before .before .log .ensures) (c .sum .ensures)
 
 pub ln-gamma-spec : {M : Type 1} → statement M
 ln-gamma-spec =
@@ -53,7 +53,7 @@ ln-gamma-spec =
     (λ c. omega arith)
     (λ c. omega arith)
     (λ c. omega arith)
-    (λ c. omega (arith, c .before .before .before .loop .inv, c .before .before .before .before .before .before .before .before .pre .4))
+    (λ c. omega (arith, c .before .before .before .loop .inv, c .before .before .before .before .before .before .before .before .pre .1))
     (λ c. omega arith)
     (λ c. omega arith)
     (λ c κs. tt)

@@ -28,7 +28,8 @@ row-sum-requires c κs =
     let turn = c .before in
     let start = turn .before .before .before .before .before .before in
     let row = from-room (turn .before .loop .i * start .args .n) _ (now (start .args .e)) (ends turn) in
-    (start .pre .1, row, start .pre .3, turn .loop-test .taken, start .pre .0)
+    let fits = start .pre .0 in
+    (fits .sizes, row, fits .fractions, turn .loop-test .taken, fits .few)
 
 loop-again : tie.Need-loop-again Inv-loop μ-loop
 loop-again c =

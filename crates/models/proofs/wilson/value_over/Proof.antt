@@ -14,19 +14,19 @@ abbrev entry : tie.After-row-sums → tie.Start
 entry c = c .before .before .before .before .before
 
 long : (c : tie.After-row-sums) → entry c .args .n ≤ length (c .row-sums .last .1 .1 .1 .1 .0)
-long c = omega (arith, c .row-sums .kept .1 .1 .1 .1 .0, entry c .pre .0)
+long c = omega (arith, c .row-sums .kept .1 .1 .1 .1 .0, entry c .pre .0 .few)
 
 ln-gamma-requires : tie.Need-ln-gamma-requires
 ln-gamma-requires c κs =
     let sums = c .before .before .before .before .before in
     let pre = entry sums .pre in
-    (pre .1, pre .2, pre .3, long sums, index-ln (c .before .before .q .given .1) (pre .4), pre .0, sums .row-sums .ensures)
+    (pre .0, index-ln (c .before .before .q .given .1) (pre .1), long sums, sums .row-sums .ensures)
 
 ln-gamma-requires-2 : tie.Need-ln-gamma-requires-2
 ln-gamma-requires-2 c κs =
     let sums = c .before .before .before .before .before in
     let pre = entry sums .pre in
-    (pre .1, pre .2, pre .3, long sums, index-gamma (c .before .before .q2 .given .1) (pre .4), pre .0, sums .row-sums .ensures)
+    (pre .0, index-gamma (c .before .before .q2 .given .1) (pre .1), long sums, sums .row-sums .ensures)
 
 returns : tie.Need-returns
 unfolding wilson
