@@ -19,8 +19,8 @@ pub fn add_row(row: &[f64], w: f64, n: usize, sums: &mut [f64])
 
 // The same where the row's entry i counts as 1. The row runs without a test for it, then place i is put
 // right.
-pub fn add_unit_row(sums: &mut [f64], w: f64, row: &[f64], n: usize, i: usize)
-    requires { ⌜ (n ≤ length (now sums)) × (n ≤ length (now row)) × (i < n) ⌝ }
+pub fn add_unit_row(n: usize, w: f64, row: &[f64], i: usize, sums: &mut [f64])
+    requires { ⌜ (n ≤ length (now row)) × (i < n) × (n ≤ length (now sums)) ⌝ }
     ensures { λ _. ⌜ Added n (λ j. w ⊗ unitAt i (at (now (row .entry))) j) sums ⌝ }
 {
     let own = sums[i] + w * 1.0;
@@ -41,6 +41,6 @@ pub fn unit_column_sums(n: usize, table: &[f64], w: &[f64], sums: &mut [f64])
 {
     for i in 0..n {
         let start = i * n;
-        add_unit_row(sums, w[i], &table[start..], n, i);
+        add_unit_row(n, w[i], &table[start..], i, sums);
     }
 }

@@ -84,8 +84,8 @@ fn fill_exponentials(alpha: &[f64], tau: &[f64], count: usize, out: &mut [f64])
 }
 
 // Adds x·g[j]·tau[j] to sums[j] for each j below n.
-fn add_products(sums: &mut [f64], x: f64, g: &[f64], tau: &[f64], n: usize)
-    requires { ⌜ (n ≤ length (now sums)) × (n ≤ length (now g)) × (n ≤ length (now tau)) ⌝ }
+fn add_products(n: usize, x: f64, g: &[f64], tau: &[f64], sums: &mut [f64])
+    requires { ⌜ (n ≤ length (now g)) × (n ≤ length (now tau)) × (n ≤ length (now sums)) ⌝ }
     ensures { λ _. ⌜ Added n (λ j. x ⊗ at (now (g .entry)) j ⊗ at (now (tau .entry)) j) sums ⌝ }
 {
     for j in 0..n {
@@ -95,15 +95,18 @@ fn add_products(sums: &mut [f64], x: f64, g: &[f64], tau: &[f64], n: usize)
 
 // Adds x·G_ij·τ_ij to sums[j] for each j below n; g and tau are row i of their tables. The row runs without a
 // test for the diagonal, then place i, where G is 1 and τ is 0, is put right.
-fn add_terms(sums: &mut [f64], x: f64, g: &[f64], tau: &[f64], n: usize, i: usize)
-    requires { ⌜ (n ≤ length (now sums)) × (n ≤ length (now g)) × (n ≤ length (now tau)) × (i < n) ⌝ }
+fn add_terms(n: usize, x: f64, g: &[f64], tau: &[f64], i: usize, sums: &mut [f64])
+    requires { ⌜ (n ≤ length (now g))
+        × (n ≤ length (now tau))
+        × (i < n)
+        × (n ≤ length (now sums)) ⌝ }
     ensures { λ _.
         let G = unitAt i (at (now (g .entry))) in
         let τ = tauAt i (at (now (tau .entry))) in
         ⌜ Added n (λ j. x ⊗ G j ⊗ τ j) sums ⌝ }
 {
     let own = sums[i] + x * 1.0 * 0.0;
-    add_products(sums, x, g, tau, n);
+    add_products(n, x, g, tau, sums);
     sums[i] = own;
 }
 
@@ -122,8 +125,8 @@ fn column_sums(n: usize, tau: &[f64], g: &[f64], x: &[f64], u: &mut [f64], d: &m
 {
     for i in 0..n {
         let start = i * n;
-        add_terms(u, x[i], &g[start..], &tau[start..], n, i);
-        columns::add_unit_row(d, x[i], &g[start..], n, i);
+        add_terms(n, x[i], &g[start..], &tau[start..], i, u);
+        columns::add_unit_row(n, x[i], &g[start..], i, d);
     }
 }
 

@@ -13,7 +13,7 @@ unfolding one dec round ofBits
 returns c =
     let s = c .before .before .before .before .before .before .before in
     let row = c .before .before in
-    unit-added _ _ _ _ (now (s .args .sums)) _ (s .pre .2) (s .pre .0) refl (row .add-row .ensures) (row .add-row .kept .1 .1 .1 .0)
+    unit-added _ _ _ _ (now (s .args .sums)) _ (s .pre .1) (s .pre .2) refl (row .add-row .ensures) (row .add-row .kept .1 .1 .1 .0)
 
 pub add-unit-row-spec : {M : Type 1} → statement M
 add-unit-row-spec =

@@ -30,7 +30,7 @@ add-unit-row-requires : tie.Need-add-unit-row-requires Inv-loop μ-loop
 add-unit-row-requires c κs =
     let turn = c .before .before .before in
     let row = from-room (turn .before .loop .i * entry turn .args .n) _ (now (entry turn .args .table)) (ends turn) in
-    (columns-room (turn .before .loop .inv), row, turn .loop-test .taken)
+    (row, turn .loop-test .taken, columns-room (turn .before .loop .inv))
 
 loop-again : tie.Need-loop-again Inv-loop μ-loop
 loop-again c =
@@ -40,7 +40,7 @@ loop-again c =
     let a = entry turn .args in
     columns-more _ (turn .loop-test .taken)
     (λ j b. ap (λ (v : Float). at (now (a .w)) (top .loop .i) ⊗ v) (unit-row (a .n) (now (a .table)) (top .loop .i) j (ends turn) b)) (top .loop .inv)
-    (call .add-unit-row .ensures) (call .add-unit-row .kept .0)
+    (call .add-unit-row .ensures) (call .add-unit-row .kept .1 .1 .1 .1 .0)
 
 returns : tie.Need-returns Inv-loop μ-loop
 unfolding columnSum
@@ -56,9 +56,9 @@ unit-column-sums-spec =
     (λ c. omega (arith, ends c))
     (λ c. omega arith)
     (λ c. omega arith)
-    (λ c. omega (arith, ends (c .before .before)))
-    (λ c. omega (arith, ends (c .before .before)))
-    (λ c. omega (arith, ends (c .before .before)))
+    (λ c. omega (arith, ends (c .before)))
+    (λ c. omega (arith, ends (c .before)))
+    (λ c. omega (arith, ends (c .before)))
     (λ c. omega arith)
     add-unit-row-requires
     (λ c. omega arith)

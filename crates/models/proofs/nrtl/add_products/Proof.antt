@@ -8,10 +8,10 @@ use Rattle.models.proofs.nrtl.add_products.Statement.{statement}
 use Rattle.models.proofs.nrtl.add_products.Tie as tie
 
 abbrev Inv-loop : tie.InvT-loop
-Inv-loop sums₀ x g tau n j₀ sums j = Rewriting (λ j. at sums₀ j ⊕ x ⊗ at g j ⊗ at tau j) n sums₀ j sums
+Inv-loop n x g tau sums₀ j₀ sums j = Rewriting (λ j. at sums₀ j ⊕ x ⊗ at g j ⊗ at tau j) n sums₀ j sums
 
 abbrev μ-loop : tie.MeasureT-loop
-μ-loop sums₀ x g tau n j₀ sums j = n - j
+μ-loop n x g tau sums₀ j₀ sums j = n - j
 
 loop-again : tie.Need-loop-again Inv-loop μ-loop
 loop-again c = let inv = c .before .before .before .before .loop .inv in rewriting-more (omega arith) (rw (rewriting-next (omega arith) inv)) inv

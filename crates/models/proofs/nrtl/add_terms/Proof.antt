@@ -13,7 +13,7 @@ unfolding one dec round ofBits
 returns c =
     let s = c .before .before .before .before .before .before .before .before in
     let row = c .before .before in
-    terms-added _ _ _ _ _ (now (s .args .sums)) _ (s .pre .3) (s .pre .0) refl (row .add-products .ensures) (row .add-products .kept .0)
+    terms-added _ _ _ _ _ (now (s .args .sums)) _ (s .pre .2) (s .pre .3) refl (row .add-products .ensures) (row .add-products .kept .1 .1 .1 .1 .0)
 
 pub add-terms-spec : {M : Type 1} → statement M
 add-terms-spec =

@@ -41,13 +41,13 @@ add-terms-requires c κs =
     let a = entry turn .args in
     let g-row = from-room (turn .before .loop .i * a .n) _ (now (a .g)) (ends turn .1) in
     let tau-row = from-room (turn .before .loop .i * a .n) _ (now (a .tau)) (ends turn .0) in
-    (columns-room (turn .before .loop .inv .0), g-row, tau-row, turn .loop-test .taken)
+    (g-row, tau-row, turn .loop-test .taken, columns-room (turn .before .loop .inv .0))
 
 add-unit-row-requires : tie.Need-add-unit-row-requires Inv-loop μ-loop
 add-unit-row-requires c κs =
     let turn = c .before .before .before .before .before .before .before .before .before .before in
     let row = from-room (turn .before .loop .i * entry turn .args .n) _ (now (entry turn .args .g)) (ends turn .1) in
-    (columns-room (turn .before .loop .inv .1), row, turn .loop-test .taken)
+    (row, turn .loop-test .taken, columns-room (turn .before .loop .inv .1))
 
 loop-again : tie.Need-loop-again Inv-loop μ-loop
 loop-again c =
@@ -58,8 +58,8 @@ loop-again c =
     let terms = c .before .before .before .before .before .before .before .before .add-terms in
     let row = c .before .before .add-unit-row in (
       columns-more _ (turn .loop-test .taken)
-          (λ j b. rw (unit-row (a .n) (now (a .g)) i j (ends turn .1) b, tau-row (a .n) (now (a .tau)) i j (ends turn .0) b)) (inv .0) (terms .ensures) (terms .kept .0),
-      columns-more _ (turn .loop-test .taken) (λ j b. rw (unit-row (a .n) (now (a .g)) i j (ends turn .1) b)) (inv .1) (row .ensures) (row .kept .0),
+          (λ j b. rw (unit-row (a .n) (now (a .g)) i j (ends turn .1) b, tau-row (a .n) (now (a .tau)) i j (ends turn .0) b)) (inv .0) (terms .ensures) (terms .kept .1 .1 .1 .1 .1 .0),
+      columns-more _ (turn .loop-test .taken) (λ j b. rw (unit-row (a .n) (now (a .g)) i j (ends turn .1) b)) (inv .1) (row .ensures) (row .kept .1 .1 .1 .1 .0),
     )
 
 returns : tie.Need-returns Inv-loop μ-loop
@@ -76,20 +76,20 @@ column-sums-spec =
     (λ c. omega (arith, ends c))
     (λ c. omega arith)
     (λ c. omega arith)
-    (λ c. omega (arith, ends (c .before .before)))
-    (λ c. omega (arith, ends (c .before .before)))
-    (λ c. omega (arith, ends (c .before .before)))
+    (λ c. omega (arith, ends (c .before)))
+    (λ c. omega (arith, ends (c .before)))
+    (λ c. omega (arith, ends (c .before)))
     (λ c. omega arith)
-    (λ c. omega (arith, ends (c .before .before .before)))
-    (λ c. omega (arith, ends (c .before .before .before)))
-    (λ c. omega (arith, ends (c .before .before .before)))
+    (λ c. omega (arith, ends (c .before .before)))
+    (λ c. omega (arith, ends (c .before .before)))
+    (λ c. omega (arith, ends (c .before .before)))
     (λ c. omega arith)
     add-terms-requires
     (λ c. omega arith)
     (λ c. omega arith)
-    (λ c. omega (arith, ends (c .before .before .before .before .before .before .before .before .before)))
-    (λ c. omega (arith, ends (c .before .before .before .before .before .before .before .before .before)))
-    (λ c. omega (arith, ends (c .before .before .before .before .before .before .before .before .before)))
+    (λ c. omega (arith, ends (c .before .before .before .before .before .before .before .before)))
+    (λ c. omega (arith, ends (c .before .before .before .before .before .before .before .before)))
+    (λ c. omega (arith, ends (c .before .before .before .before .before .before .before .before)))
     (λ c. omega arith)
     add-unit-row-requires
     (λ c. omega arith)
