@@ -7,8 +7,10 @@ ghost use Rattle.arithmetic.specs.Tables.{at, Filled};
 ghost use Rattle.models.specs.Limits.{mostComponents, mostGroups};
 ghost use Rattle.models.specs.Values.{start, countsAt};
 ghost use Rattle.models.specs.steps.GroupLists.{Listed, Paired, added, put, ownList, listsOf};
-ghost use Rattle.models.specs.Unifac.{size as Unifac·size, amount, amounts as Unifac·amounts, residual as Unifac·residual};
-ghost use Rattle.models.specs.Unifac.{fraction, pureFraction};
+ghost use Rattle.models.specs.Unifac.{amount, fraction, pureFraction};
+ghost use Rattle.models.specs.Unifac.{amounts as Unifac·amounts, size as Unifac·size};
+ghost use Rattle.models.specs.Unifac.{residual as Unifac·residual};
+ghost use Rattle.models.specs.steps.Unifac.{Mixed, vectorOf};
 use crate::limits::COMPONENTS;
 use crate::limits::GROUPS;
 
@@ -27,7 +29,7 @@ pub fn start_of(lens: &[u8], i: usize) -> usize
 // The size of a component, r for s = R and q for s = Q: the sum of count·s over its list.
 fn size(list: &[u8], counts: &[f64], s: &[f64]) -> f64
     requires { ⌜ Paired (length (now s)) (now list) (now counts) ⌝ }
-    ensures { λ r. ⌜ r ≡ Unifac·size (ownList list counts) (at (now (s .entry))) 0 ⌝ }
+    ensures { λ r. ⌜ r ≡ Unifac·size (ownList list counts) (vectorOf s) 0 ⌝ }
 {
     let mut r_i = 0.0;
     for p in 0..list.len() {
@@ -40,7 +42,7 @@ fn size(list: &[u8], counts: &[f64], s: &[f64]) -> f64
 // The size of each component.
 pub fn sizes(n: usize, lens: &[u8], groups: &[u8], counts: &[f64], s: &[f64]) -> [f64; COMPONENTS]
     requires { ⌜ Listed n (length (now s)) (now lens) (now groups) (now counts) × (n ≤ mostComponents) ⌝ }
-    ensures { λ r. ⌜ Filled (Unifac·size (listsOf lens groups counts) (at (now (s .entry)))) n r ⌝ }
+    ensures { λ r. ⌜ Filled (Unifac·size (listsOf lens groups counts) (vectorOf s)) n r ⌝ }
 {
     let mut sizes = [0.0; COMPONENTS];
     let mut start = 0;
@@ -82,8 +84,9 @@ fn amounts(n: usize, lens: &[u8], groups: &[u8], counts: &[f64], x: &[f64], num:
         × (n ≤ mostComponents)
         × (n ≤ length (now x))
         × Filled (λ _. +0) (length (now num)) (now num) ⌝ }
-    ensures { λ r. ⌜ (r ≡ Unifac·amounts n (listsOf lens groups counts) (at (now (x .entry))))
-        × Filled (amount n (listsOf lens groups counts) (at (now (x .entry)))) (length (now (num .entry))) (now (num .exit)) ⌝ }
+    ensures { λ r. ⌜ (r ≡ Unifac·amounts n (listsOf lens groups counts) (vectorOf x))
+        × Filled (amount n (listsOf lens groups counts) (vectorOf x))
+        (length (now (num .entry))) (now (num .exit)) ⌝ }
 {
     let mut s = 0.0;
     let mut start = 0;
@@ -100,7 +103,7 @@ fn amounts(n: usize, lens: &[u8], groups: &[u8], counts: &[f64], x: &[f64], num:
 // Writes the first ng numbers over d.
 fn over(ng: usize, num: &[f64], d: f64, out: &mut [f64])
     requires { ⌜ (ng ≤ length (now num)) × (ng ≤ length (now out)) ⌝ }
-    ensures { λ _. ⌜ Filled (λ k. at (now (num .entry)) k ⊘ d) ng (now (out .exit)) ⌝ }
+    ensures { λ _. ⌜ Filled (λ k. vectorOf num k ⊘ d) ng (now (out .exit)) ⌝ }
 {
     for g in 0..ng {
         out[g] = num[g] / d;
@@ -117,13 +120,10 @@ pub fn group_fractions(
     x: &[f64],
     xg: &mut [f64],
 )
-    requires { ⌜ Listed n ng (now lens) (now groups) (now counts)
-        × (n ≤ mostComponents)
-        × (n ≤ length (now x))
-        × (ng ≤ mostGroups)
+    requires { ⌜ Mixed n ng (now lens) (now groups) (now counts) (now x)
         × (ng ≤ length (now xg))
         × Filled (λ _. +0) ng (now xg) ⌝ }
-    ensures { λ _. ⌜ Filled (fraction n (listsOf lens groups counts) (at (now (x .entry)))) ng (now (xg .exit)) ⌝ }
+    ensures { λ _. ⌜ Filled (fraction n (listsOf lens groups counts) (vectorOf x)) ng (now (xg .exit)) ⌝ }
 {
     let mut num = [0.0; GROUPS];
     let denom = amounts(n, lens, groups, counts, x, &mut num[..]);
@@ -147,7 +147,7 @@ pub fn group_fractions_pure(ng: usize, list: &[u8], counts: &[f64], xg: &mut [f6
 // The sum of count·(m - p) over a list: m has ln Γ in the mixture, p in the pure component.
 pub fn residual(list: &[u8], counts: &[f64], m: &[f64], p: &[f64]) -> f64
     requires { ⌜ Paired (length (now m)) (now list) (now counts) × (length (now m) ≤ length (now p)) ⌝ }
-    ensures { λ r. ⌜ r ≡ Unifac·residual (ownList list counts) (at (now (m .entry))) (λ _. at (now (p .entry))) 0 ⌝ }
+    ensures { λ r. ⌜ r ≡ Unifac·residual (ownList list counts) (vectorOf m) (λ _. vectorOf p) 0 ⌝ }
 {
     let mut resid = 0.0;
     for k in 0..list.len() {

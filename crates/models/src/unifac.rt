@@ -13,10 +13,13 @@ ghost use Rattle.models.specs.Faults.{indexFault};
 ghost use Rattle.models.specs.Columns.{columnSum};
 ghost use Rattle.models.specs.Exponentials.{groupEnergy};
 ghost use Rattle.models.specs.Answers.{reads};
-ghost use Rattle.models.specs.steps.GroupLists.{Listed, Loaded, Named, Paired, ListedRows, ownList, listsOf, heldLists};
+ghost use Rattle.models.specs.steps.GroupLists.{Listed, Loaded, Named, Paired, ListedRows};
+ghost use Rattle.models.specs.steps.GroupLists.{ownList, listsOf, heldLists};
 ghost use Rattle.models.specs.Plain.{unifacPlain};
-ghost use Rattle.models.specs.Unifac.{theta as Unifac·theta, pure as Unifac·pure, fraction, lnGroup, combinatorialBy, residual, unifac, unifacBy, unifacAt};
-ghost use Rattle.models.specs.steps.Unifac.{psiBy, Grouped, Shares, combinatorialFrom, lnFrom};
+ghost use Rattle.models.specs.Unifac.{theta as Unifac·theta, pure as Unifac·pure, fraction, lnGroup};
+ghost use Rattle.models.specs.Unifac.{combinatorialBy, residual, unifac, unifacBy, unifacAt};
+ghost use Rattle.models.specs.steps.Unifac.{Grouped, Mixed, Pure, Tables, Shares};
+ghost use Rattle.models.specs.steps.Unifac.{psiBy, combinatorialFrom, lnFrom, vectorOf, tableOf};
 ghost use Rattle.models.specs.Values.{fiveAt, countsAt, groupRs, groupQs, groupAs};
 use crate::answers::Answer;
 use crate::answers::Quantity;
@@ -28,7 +31,8 @@ use crate::limits::TABLE;
 use crate::model::Model;
 use crate::model::plain;
 
-// What Ψ of column k is the exp of: row is the part of the td entries, five each, that starts at its row; ln is log(T).
+// What Ψ of column k is the exp of: row is the part of the td entries, five each, from its row on; ln is
+// log(T).
 pub fn argument(row: &[f64], t: f64, ln: f64, k: usize) -> f64
     requires { ⌜ k * 5 + 5 ≤ length (now row) ⌝ }
     ensures { λ r. ⌜ r ≡ neg (tdBy (fiveAt (now (row .entry)) (k * 5)) t ln) ⊘ t ⌝ }
@@ -59,7 +63,8 @@ fn over_t(out: &mut [f64], count: usize, t: f64)
 // Writes what a row of Ψ is the exp of to the first ng places of out; ln is log(T).
 pub fn fill_arguments(row: &[f64], t: f64, ln: f64, ng: usize, out: &mut [f64])
     requires { ⌜ (ng ≤ mostGroups) × (ng * 5 ≤ length (now row)) × (ng ≤ length (now out)) ⌝ }
-    ensures { λ _. ⌜ Filled (λ k. neg (tdBy (fiveAt (now (row .entry)) (k * 5)) t ln) ⊘ t) ng (now (out .exit)) ⌝ }
+    ensures { λ _. ⌜ Filled (λ k. neg (tdBy (fiveAt (now (row .entry)) (k * 5)) t ln) ⊘ t)
+        ng (now (out .exit)) ⌝ }
 {
     crate::parameters::fill_values_by(row, ng, t, ln, out);
     over_t(out, ng, t);
@@ -68,7 +73,8 @@ pub fn fill_arguments(row: &[f64], t: f64, ln: f64, ng: usize, out: &mut [f64])
 // Writes Ψ by full rows of ng: every a at T first, then exp(-a/T) of them all at once.
 fn fill_table(values: &[f64], t: f64, ng: usize, table: &mut [f64])
     requires { ⌜ (ng ≤ mostGroups) × (countsAt ng ≤ length (now values)) × (ng * ng ≤ length (now table)) ⌝ }
-    ensures { λ _. ⌜ Filled (flat ng (groupEnergy (λ m k. tdAt (groupAs ng (now (values .entry)) m k) t) t)) (ng * ng) (now (table .exit)) ⌝ }
+    ensures { λ _. ⌜ Filled (flat ng (groupEnergy (λ m k. tdAt (groupAs ng (now (values .entry)) m k) t) t))
+        (ng * ng) (now (table .exit)) ⌝ }
 {
     let five = ng + ng;
     let count = ng * ng;
@@ -80,7 +86,7 @@ fn fill_table(values: &[f64], t: f64, ng: usize, table: &mut [f64])
 // Writes Θ of each group from the group fractions.
 fn theta(ng: usize, q: &[f64], xg: &[f64], out: &mut [f64])
     requires { ⌜ (ng ≤ length (now q)) × (ng ≤ length (now xg)) × (ng ≤ length (now out)) ⌝ }
-    ensures { λ _. ⌜ Filled (Unifac·theta ng (at (now (q .entry))) (at (now (xg .entry)))) ng (now (out .exit)) ⌝ }
+    ensures { λ _. ⌜ Filled (Unifac·theta ng (vectorOf q) (vectorOf xg)) ng (now (out .exit)) ⌝ }
 {
     let qs = arithmetic::dot(q, xg, ng);
     for g in 0..ng {
@@ -95,7 +101,7 @@ fn column_sums(ng: usize, theta: &[f64], psi: &[f64], sums: &mut [f64])
         × (ng * ng ≤ length (now psi))
         × (ng ≤ length (now sums))
         × Filled (λ _. +0) ng (now sums) ⌝ }
-    ensures { λ _. ⌜ Filled (columnSum ng (grid ng (now (psi .entry))) (at (now (theta .entry)))) ng (now (sums .exit)) ⌝ }
+    ensures { λ _. ⌜ Filled (columnSum ng (tableOf ng psi) (vectorOf theta)) ng (now (sums .exit)) ⌝ }
 {
     for m in 0..ng {
         let place = m * ng;
@@ -105,8 +111,11 @@ fn column_sums(ng: usize, theta: &[f64], psi: &[f64], sums: &mut [f64])
 
 // The sum of Θ_m row_m / denom_m: the quotients first, which don't wait for each other, then their fold.
 fn row_sum(ng: usize, theta: &[f64], row: &[f64], denom: &[f64]) -> f64
-    requires { ⌜ (ng ≤ length (now theta)) × (ng ≤ length (now row)) × (ng ≤ length (now denom)) × (ng ≤ mostGroups) ⌝ }
-    ensures { λ r. ⌜ r ≡ sum ng (λ m. at (now (theta .entry)) m ⊗ at (now (row .entry)) m ⊘ at (now (denom .entry)) m) ⌝ }
+    requires { ⌜ (ng ≤ length (now theta))
+        × (ng ≤ length (now row))
+        × (ng ≤ length (now denom))
+        × (ng ≤ mostGroups) ⌝ }
+    ensures { λ r. ⌜ r ≡ sum ng (λ m. vectorOf theta m ⊗ vectorOf row m ⊘ vectorOf denom m) ⌝ }
 {
     let mut terms = [0.0; GROUPS];
     for m in 0..ng {
@@ -131,7 +140,7 @@ fn group_gamma(
         × (ng * ng ≤ length (now psi))
         × (ng ≤ length (now denom)) ⌝ }
     ensures { λ r. ⌜ r ≡ q ⊗ (one ⊖ log
-        ⊖ sum ng (λ m. at (now (theta .entry)) m ⊗ grid ng (now (psi .entry)) k m ⊘ at (now (denom .entry)) m)) ⌝ }
+        ⊖ sum ng (λ m. vectorOf theta m ⊗ tableOf ng psi k m ⊘ vectorOf denom m)) ⌝ }
 {
     let place = k * ng;
     q * (1.0 - log - row_sum(ng, theta, &psi[place..], denom))
@@ -140,7 +149,8 @@ fn group_gamma(
 // Writes ln Γ of each group; the column sums that every one divides by, and their logs, are worked out once.
 fn gamma_k(ng: usize, q: &[f64], theta: &[f64], psi: &[f64], out: &mut [f64])
     requires { ⌜ Grouped ng (now q) (now theta) (now psi) × (ng ≤ length (now out)) ⌝ }
-    ensures { λ _. ⌜ Filled (lnGroup ng (at (now (q .entry))) (grid ng (now (psi .entry))) (at (now (theta .entry)))) ng (now (out .exit)) ⌝ }
+    ensures { λ _. ⌜ Filled (lnGroup ng (vectorOf q) (tableOf ng psi) (vectorOf theta))
+        ng (now (out .exit)) ⌝ }
 {
     let mut denom = [0.0; GROUPS];
     column_sums(ng, theta, psi, &mut denom[..]);
@@ -157,7 +167,7 @@ fn gammas_of(ng: usize, list: &[u8], q: &[f64], theta: &[f64], psi: &[f64], out:
         × (ng ≤ length (now out))
         × ((p : ℕ) → p < length (now list) → getD (now list) p 0 < ng) ⌝ }
     ensures { λ _. ⌜ Named (length (now (list .entry))) (λ p. getD (now (list .entry)) p 0)
-        (lnGroup ng (at (now (q .entry))) (grid ng (now (psi .entry))) (at (now (theta .entry)))) (now (out .exit)) ⌝ }
+        (lnGroup ng (vectorOf q) (tableOf ng psi) (vectorOf theta)) (now (out .exit)) ⌝ }
 {
     let mut denom = [0.0; GROUPS];
     column_sums(ng, theta, psi, &mut denom[..]);
@@ -179,13 +189,11 @@ fn theta_mixed(
     x: &[f64],
     out: &mut [f64],
 )
-    requires { ⌜ Listed n ng (now lens) (now groups) (now counts)
-        × (n ≤ mostComponents)
-        × (ng ≤ mostGroups)
+    requires { ⌜ Mixed n ng (now lens) (now groups) (now counts) (now x)
         × (ng ≤ length (now q))
-        × (n ≤ length (now x))
         × (ng ≤ length (now out)) ⌝ }
-    ensures { λ _. ⌜ Filled (Unifac·theta ng (at (now (q .entry))) (fraction n (listsOf lens groups counts) (at (now (x .entry)))))
+    ensures { λ _. ⌜ Filled
+        (Unifac·theta ng (vectorOf q) (fraction n (listsOf lens groups counts) (vectorOf x)))
         ng (now (out .exit)) ⌝ }
 {
     let mut xg = [0.0; GROUPS];
@@ -201,7 +209,7 @@ fn pure_listed(ng: usize, list: &[u8], counts: &[f64], q: &[f64], psi: &[f64], r
         × (ng * ng ≤ length (now psi))
         × (ng ≤ length (now row)) ⌝ }
     ensures { λ _. ⌜ Named (length (now (list .entry))) (λ p. getD (now (list .entry)) p 0)
-        (Unifac·pure ng (ownList list counts) (at (now (q .entry))) (grid ng (now (psi .entry))) 0) (now (row .exit)) ⌝ }
+        (Unifac·pure ng (ownList list counts) (vectorOf q) (tableOf ng psi) 0) (now (row .exit)) ⌝ }
 {
     let mut xg = [0.0; GROUPS];
     crate::groups::group_fractions_pure(ng, list, counts, &mut xg[..]);
@@ -221,14 +229,10 @@ fn pure_row(
     i: usize,
     row: &mut [f64],
 )
-    requires { ⌜ Listed (i + 1) ng (now lens) (now groups) (now counts)
-        × (i < mostComponents)
-        × (ng ≤ mostGroups)
-        × (ng ≤ length (now q))
-        × (ng * ng ≤ length (now psi))
+    requires { ⌜ Pure (i + 1) ng (now lens) (now groups) (now counts) (now q) (now psi)
         × (ng ≤ length (now row)) ⌝ }
     ensures { λ _. ⌜ Named (listsOf lens groups counts .length i) (listsOf lens groups counts .group i)
-        (Unifac·pure ng (listsOf lens groups counts) (at (now (q .entry))) (grid ng (now (psi .entry))) i) (now (row .exit)) ⌝ }
+        (Unifac·pure ng (listsOf lens groups counts) (vectorOf q) (tableOf ng psi) i) (now (row .exit)) ⌝ }
 {
     let start = crate::groups::start_of(lens, i);
     let end = start + (lens[i] as usize);
@@ -247,14 +251,10 @@ fn fill_pure(
     last: usize,
     table: &mut [f64],
 )
-    requires { ⌜ Listed last ng (now lens) (now groups) (now counts)
-        × (last ≤ mostComponents)
-        × (ng ≤ mostGroups)
-        × (ng ≤ length (now q))
-        × (ng * ng ≤ length (now psi))
+    requires { ⌜ Pure last ng (now lens) (now groups) (now counts) (now q) (now psi)
         × (last * ng ≤ length (now table)) ⌝ }
     ensures { λ _. ⌜ ListedRows first last ng (listsOf lens groups counts)
-        (Unifac·pure ng (listsOf lens groups counts) (at (now (q .entry))) (grid ng (now (psi .entry)))) (now (table .exit)) ⌝ }
+        (Unifac·pure ng (listsOf lens groups counts) (vectorOf q) (tableOf ng psi)) (now (table .exit)) ⌝ }
 {
     for i in first..last {
         let place = i * ng;
@@ -290,7 +290,7 @@ fn share(
         × Listed n (length (now q)) (now lens) (now groups) (now counts)
         × (n ≤ mostComponents)
         × (n ≤ length (now x)) ⌝ }
-    ensures { λ s. ⌜ Shares n (listsOf lens groups counts) (at (now (r .entry))) (at (now (q .entry))) (at (now (x .entry))) s ⌝ }
+    ensures { λ s. ⌜ Shares n (listsOf lens groups counts) (vectorOf r) (vectorOf q) (vectorOf x) s ⌝ }
 {
     let r_each = crate::groups::sizes(n, lens, groups, counts, r);
     let q_each = crate::groups::sizes(n, lens, groups, counts, q);
@@ -331,7 +331,7 @@ fn residual_of(
         × Grouped ng (now q) (now theta) (now psi)
         × (i * ng + ng ≤ length (now pure)) ⌝ }
     ensures { λ r. ⌜ r ≡ residual (listsOf lens groups counts)
-        (lnGroup ng (at (now (q .entry))) (grid ng (now (psi .entry))) (at (now (theta .entry)))) (grid ng (now (pure .entry))) i ⌝ }
+        (lnGroup ng (vectorOf q) (tableOf ng psi) (vectorOf theta)) (tableOf ng pure) i ⌝ }
 {
     let start = crate::groups::start_of(lens, i);
     let end = start + (lens[i] as usize);
@@ -356,13 +356,11 @@ fn excess_gibbs(
     pure: &[f64],
     x: &[f64],
 ) -> f64
-    requires { ⌜ Listed n ng (now lens) (now groups) (now counts)
-        × (n ≤ mostComponents)
+    requires { ⌜ Mixed n ng (now lens) (now groups) (now counts) (now x)
         × Grouped ng (now q) (now theta) (now psi)
-        × (n * ng ≤ length (now pure))
-        × (n ≤ length (now x)) ⌝ }
-    ensures { λ r. ⌜ r ≡ sum n (λ i. at (now (x .entry)) i ⊗ lnFrom s ng (listsOf lens groups counts) (at (now (q .entry)))
-        (grid ng (now (psi .entry))) (at (now (theta .entry))) (grid ng (now (pure .entry))) i) ⌝ }
+        × (n * ng ≤ length (now pure)) ⌝ }
+    ensures { λ r. ⌜ r ≡ sum n (λ i. vectorOf x i ⊗ lnFrom s ng (listsOf lens groups counts) (vectorOf q)
+        (tableOf ng psi) (vectorOf theta) (tableOf ng pure) i) ⌝ }
 {
     let mut gamma = [0.0; GROUPS];
     gamma_k(ng, q, theta, psi, &mut gamma[..]);
@@ -397,17 +395,11 @@ fn over(
     x: &[f64],
     asked: Quantity,
 ) -> f64
-    requires { ⌜ Listed n ng (now lens) (now groups) (now counts)
-        × (n ≤ mostComponents)
-        × (ng ≤ mostGroups)
-        × (ng ≤ length (now r))
-        × (ng ≤ length (now q))
-        × (ng * ng ≤ length (now psi))
-        × (n * ng ≤ length (now pure))
-        × (n ≤ length (now x))
+    requires { ⌜ Mixed n ng (now lens) (now groups) (now counts) (now x)
+        × Tables n ng (now r) (now q) (now psi) (now pure)
         × (indexFault n asked ≡ 0) ⌝ }
-    ensures { λ v. ⌜ v ≡ unifacBy n ng (listsOf lens groups counts) (at (now (r .entry))) (at (now (q .entry)))
-        (grid ng (now (psi .entry))) (grid ng (now (pure .entry))) (at (now (x .entry))) asked ⌝ }
+    ensures { λ v. ⌜ v ≡ unifacBy n ng (listsOf lens groups counts) (vectorOf r) (vectorOf q)
+        (tableOf ng psi) (tableOf ng pure) (vectorOf x) asked ⌝ }
 {
     let s = share(n, lens, groups, counts, r, q, x);
     let mut theta = [0.0; GROUPS];
@@ -427,8 +419,8 @@ fn over(
     }
 }
 
-// The quantity over a table of exponentials and one of pure ln Γ, both by full rows of ng; of the latter only the rows of
-// the components that it goes by count.
+// The quantity over a table of exponentials and one of pure ln Γ, both by full rows of ng. Of the latter it
+// reads the rows of the components that it goes by.
 pub fn value_over(
     n: usize,
     ng: usize,
@@ -447,7 +439,7 @@ pub fn value_over(
         × (indexFault n q ≡ 0) ⌝ }
     ensures { λ r. ⌜ r ≡ unifacBy n ng (heldLists ng lens groups values)
         (groupRs ng (now (values .entry))) (groupQs ng (now (values .entry)))
-        (grid ng (now (psi .entry))) (grid ng (now (pure .entry))) (at (now (x .entry))) q ⌝ }
+        (tableOf ng psi) (tableOf ng pure) (vectorOf x) q ⌝ }
 {
     let place = crate::groups::counts_at(ng);
     over(
@@ -506,7 +498,7 @@ pub fn value_by(
         × (indexFault n q ≡ 0) ⌝ }
     ensures { λ r. ⌜ r ≡ unifac n ng (heldLists ng lens groups values)
         (groupRs ng (now (values .entry))) (groupQs ng (now (values .entry)))
-        (grid ng (now (psi .entry))) (at (now (x .entry))) q ⌝ }
+        (tableOf ng psi) (vectorOf x) q ⌝ }
 {
     let place = crate::groups::counts_at(ng);
     let span = span_of(n, q);
@@ -536,10 +528,12 @@ pub fn value_at(
     x: &[f64],
     q: Quantity,
 ) -> f64
-    requires { ⌜ Loaded n ng (now lens) (now groups) (now values) × (n ≤ length (now x)) × (indexFault n q ≡ 0) ⌝ }
+    requires { ⌜ Loaded n ng (now lens) (now groups) (now values)
+        × (n ≤ length (now x))
+        × (indexFault n q ≡ 0) ⌝ }
     ensures { λ r. ⌜ r ≡ unifacAt n ng (heldLists ng lens groups values)
-        (groupRs ng (now (values .entry))) (groupQs ng (now (values .entry))) (groupAs ng (now (values .entry)))
-        t (at (now (x .entry))) q ⌝ }
+        (groupRs ng (now (values .entry))) (groupQs ng (now (values .entry)))
+        (groupAs ng (now (values .entry))) t (vectorOf x) q ⌝ }
 {
     let mut table = [0.0; TABLE];
     fill_table(values, t, ng, &mut table[..]);
@@ -557,7 +551,8 @@ pub fn ln_gamma_at(
     x: &[f64],
     i: usize,
 ) -> Answer
-    ensures { λ r. ⌜ r ≡ unifacPlain n ng (now (lens .entry)) (now (groups .entry)) (now (values .entry)) t (now (x .entry)) (Quantity.LnGamma i) ⌝ }
+    ensures { λ r. ⌜ r ≡ unifacPlain n ng (now (lens .entry)) (now (groups .entry)) (now (values .entry))
+        t (now (x .entry)) (Quantity.LnGamma i) ⌝ }
 {
     plain(
         Model::Unifac,
@@ -582,7 +577,8 @@ pub fn gamma_at(
     x: &[f64],
     i: usize,
 ) -> Answer
-    ensures { λ r. ⌜ r ≡ unifacPlain n ng (now (lens .entry)) (now (groups .entry)) (now (values .entry)) t (now (x .entry)) (Quantity.Gamma i) ⌝ }
+    ensures { λ r. ⌜ r ≡ unifacPlain n ng (now (lens .entry)) (now (groups .entry)) (now (values .entry))
+        t (now (x .entry)) (Quantity.Gamma i) ⌝ }
 {
     plain(
         Model::Unifac,
@@ -606,7 +602,8 @@ pub fn reduced_excess_gibbs_at(
     t: f64,
     x: &[f64],
 ) -> Answer
-    ensures { λ r. ⌜ r ≡ unifacPlain n ng (now (lens .entry)) (now (groups .entry)) (now (values .entry)) t (now (x .entry)) Quantity.ExcessGibbs ⌝ }
+    ensures { λ r. ⌜ r ≡ unifacPlain n ng (now (lens .entry)) (now (groups .entry)) (now (values .entry))
+        t (now (x .entry)) Quantity.ExcessGibbs ⌝ }
 {
     plain(
         Model::Unifac,

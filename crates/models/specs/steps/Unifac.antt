@@ -2,15 +2,25 @@
 use mathlib.Core.Path.{_≡_}
 use mathlib.Core.List.{List}
 use Prim.Native.Nat.{ℕ, _*_, _≤_}
+use denote.Ref.{RefT, now}
+use denote.Triple.Both.{Both}
 use lib.ListN.{length}
 use lib.Ieee.{Float, neg}
 use Rattle.arithmetic.specs.Floats.{_⊕_, _⊘_}
 use Rattle.arithmetic.specs.Exponential.{expOf}
 use Rattle.arithmetic.specs.Parameters.{tdBy}
-use Rattle.arithmetic.specs.Tables.{Table, Vector, at, Filled}
+use Rattle.arithmetic.specs.Tables.{Table, Vector, at, grid, Filled}
 use Rattle.models.specs.declared.unifac.Shared.{Shared}
 use Rattle.models.specs.Unifac.{Groups, size, sizeSum, combinatorialBy, lnGroup, residual}
 use Rattle.models.specs.Values.{fiveAt}
+use Rattle.models.specs.steps.GroupLists.{Listed}
+
+-- what a call's slice holds: numbers by one index, and a table by full rows of n
+abbrev pub vectorOf : {A : Type 0} → Both (RefT (List Float)) A → Vector
+vectorOf l = at (now (l .entry))
+
+abbrev pub tableOf : {A : Type 0} → ℕ → Both (RefT (List Float)) A → Table
+tableOf n l = grid n (now (l .entry))
 
 -- Ψ of column k, from a row of td entries and L = log(T)
 unfoldable pub psiBy : List Float → Float → Float → ℕ → Float
@@ -22,6 +32,28 @@ pub record Grouped (ng : ℕ) (q theta psi : List Float) : Type 0 where
   pub sizes : ng ≤ length q
   pub thetas : ng ≤ length theta
   pub square : ng * ng ≤ length psi
+
+-- the lists of n components and their fractions lie within their slices
+pub record Mixed (n ng : ℕ) (lens groups : List ℕ) (counts x : List Float) : Type 0 where
+  pub listed : Listed n ng lens groups counts
+  pub few : n ≤ 12
+  pub fewGroups : ng ≤ 32
+  pub fractions : n ≤ length x
+
+-- so do the lists of n components, Q and Ψ, which the pure ln Γ read
+pub record Pure (n ng : ℕ) (lens groups : List ℕ) (counts q psi : List Float) : Type 0 where
+  pub listed : Listed n ng lens groups counts
+  pub few : n ≤ 12
+  pub fewGroups : ng ≤ 32
+  pub sizes : ng ≤ length q
+  pub square : ng * ng ≤ length psi
+
+-- and R, Q, Ψ and the table of pure ln Γ
+pub record Tables (n ng : ℕ) (r q psi table : List Float) : Type 0 where
+  pub rs : ng ≤ length r
+  pub qs : ng ≤ length q
+  pub square : ng * ng ≤ length psi
+  pub rows : n * ng ≤ length table
 
 -- s has what the components share: their sizes r and q, and the sums of these
 pub record Shares (n : ℕ) (c : Groups) (R Q : ℕ → Float) (x : ℕ → Float) (s : Shared) : Type 0 where

@@ -33,7 +33,7 @@ abbrev entry : tie.In-loop Inv-loop μ-loop → tie.Start Inv-loop μ-loop
 entry c = c .before .before .before .before .before .before .before .before .before .before .before .before .before
 
 listed : (c : tie.In-loop Inv-loop μ-loop) → let a = entry c .args in Listed (c .before .loop .i + 1) (a .ng) (now (a .lens)) (now (a .groups)) (now (a .counts))
-listed c = listed-less (entry c .pre .0) (c .before .loop .i) _ (c .loop-test .taken) (omega arith)
+listed c = listed-less (entry c .pre .0 .listed) (c .before .loop .i) _ (c .loop-test .taken) (omega arith)
 
 -- the list of i ends within the slices, and its row within the table and 384 places
 ends : (c : tie.In-loop Inv-loop μ-loop) → let a = entry c .args in let i = c .before .loop .i in let end = c .before .loop .start + getD (now (a .lens)) i 0 in
@@ -43,11 +43,11 @@ ends c =
     let pre = entry c .pre in
     let list = list-ends (c .before .loop .i) (listed c) (c .before .loop .inv .1) in
     let row = row-end _ (a .ng) _ (c .loop-test .taken) in
-    (list .0, list .1, omega (arith, row, pre .3), omega (arith, row, mul-le-mul (pre .1) (pre .2 .few)))
+    (list .0, list .1, omega (arith, row, pre .2), omega (arith, row, mul-le-mul (pre .0 .few) (pre .0 .fewGroups)))
 
 -- ln Γ of the ng groups is a part of its array
 long : (c : tie.In-loop Inv-loop μ-loop) → entry c .args .ng ≤ length (c .before .before .before .gamma-k .last .1 .1 .1 .1 .0)
-long c = omega (arith, entry c .pre .2 .few, c .before .before .before .gamma-k .kept .1 .1 .1 .1 .0)
+long c = omega (arith, entry c .pre .0 .fewGroups, c .before .before .before .gamma-k .kept .1 .1 .1 .1 .0)
 
 residual-requires : tie.Need-residual-requires Inv-loop μ-loop
 residual-requires c κs =
@@ -74,9 +74,9 @@ excess-gibbs-spec =
     Inv-loop
     μ-loop
     (λ c. search needs)
-    (λ c κs. ((c .before .before .before .before .before .before .before .before .before) .pre .2, (c .before .before .before .before .before .before .before .before .before) .pre .2 .few))
+    (λ c κs. ((c .before .before .before .before .before .before .before .before .before) .pre .1, (c .before .before .before .before .before .before .before .before .before) .pre .0 .fewGroups))
     (λ c. (omega arith, start-none _, sum-none _))
-    (λ c. omega (arith, (c .before .before .before .before .before .before .before .before .before .before .before .before .before .before) .pre .0 .many))
+    (λ c. omega (arith, (c .before .before .before .before .before .before .before .before .before .before .before .before .before .before) .pre .0 .listed .many))
     (λ c. omega (arith, c .shared-slice-known9 .given ((c .before .before) .loop .i)))
     (λ c. omega (arith, ends (c .before), (c .before .before .before .before .before .before .before .before .before .before .before .before .before .before) .good))
     (λ c. omega (arith, ends (c .before), (c .before .before .before .before .before .before .before .before .before .before .before .before .before .before) .good))
@@ -96,7 +96,7 @@ excess-gibbs-spec =
     residual-requires
     (λ c. omega (arith, ends (c .before .before .before .before .before .before), (c .before .before .before .before .before .before .before .before .before .before .before .before .before .before .before .before .before .before .before) .good))
     (λ c. omega (arith, ends (c .before .before .before .before .before .before .before), (c .before .before .before .before .before .before .before .before .before .before .before .before .before .before .before .before .before .before .before .before) .good))
-    (λ c κs. omega (arith, (c .before .before .before .before .before .before .before) .loop-test .taken, (c .before .before .before .before .before .before .before .before .before .before .before .before .before .before .before .before .before .before .before .before) .pre .1))
+    (λ c κs. omega (arith, (c .before .before .before .before .before .before .before) .loop-test .taken, (c .before .before .before .before .before .before .before .before .before .before .before .before .before .before .before .before .before .before .before .before) .pre .0 .few))
     (λ c. omega arith)
     (λ c. omega arith)
     loop-again

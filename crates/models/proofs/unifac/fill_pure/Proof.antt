@@ -35,19 +35,21 @@ ends c =
     let a = entry c .args in
     let pre = entry c .pre in
     let row = row-end _ (a .ng) _ (c .loop-test .taken) in
-    (omega (arith, row, pre .5, c .before .loop .inv .1), mul-le-mul (pre .1) (pre .2), row)
+    (omega (arith, row, pre .1, c .before .loop .inv .1), mul-le-mul (pre .0 .few) (pre .0 .fewGroups), row)
 
 pure-row-requires : tie.Need-pure-row-requires Inv-loop μ-loop
 pure-row-requires c κs =
     let turn = (c .before) in
     let start = entry turn in
     let i = turn .before .loop .i in
-    let pre = start .pre in (
-      listed-less (pre .0) i _ (turn .loop-test .taken) (omega arith),
-      omega (arith, turn .loop-test .taken, pre .1),
-      pre .2,
-      pre .3,
-      pre .4,
+    let fits = start .pre .0 in (
+      record {
+        listed = listed-less (fits .listed) i _ (turn .loop-test .taken) (omega arith);
+        few = omega (arith, turn .loop-test .taken, fits .few);
+        fewGroups = fits .fewGroups;
+        sizes = fits .sizes;
+        square = fits .square;
+      },
       omega (arith, ends turn, from-length (i * start .args .ng) (turn .before .loop .table)),
     )
 
@@ -64,7 +66,7 @@ loop-again c =
       omega arith,
       same-len-mid (i * ng) (length table - i * ng) table (fill .last .1 .1 .1 .1 .1 .1 .1 .0) long ∙ inv .1,
       rows-more _ i ng _ _ table _ _ (omega (arith, ends turn)) (omega (arith, long, from-length (i * ng) table, ends turn))
-          (λ j p h. listed-same (start .pre .0) j (omega (arith, turn .loop-test .taken)) .below p) (inv .2) (fill .ensures),
+          (λ j p h. listed-same (start .pre .0 .listed) j (omega (arith, turn .loop-test .taken)) .below p) (inv .2) (fill .ensures),
     )
 
 pub fill-pure-spec : {M : Type 1} → statement M

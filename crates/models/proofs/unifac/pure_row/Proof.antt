@@ -14,20 +14,20 @@ entry c = c .before .before .before .before .before .before .before .before
 
 ends : (c : tie.After-shared-slice-known6) → let a = entry c .args in let end = c .before .start-of .result + getD (now (a .lens)) (a .i) 0 in
     (end ≤ length (now (a .groups))) × (end ≤ length (now (a .counts)))
-ends c = list-ends (entry c .args .i) (entry c .pre .0) (c .before .start-of .ensures)
+ends c = list-ends (entry c .args .i) (entry c .pre .0 .listed) (c .before .start-of .ensures)
 
 pure-listed-requires : tie.Need-pure-listed-requires
-pure-listed-requires c κs = let start = (c .before .before .before .before .before .before .before .before .before .before .before) in (list-paired (start .args .i) (start .pre .0) ((c .before .before .before .before) .start-of .ensures), start .pre .2, start .pre .3, start .pre .4, start .pre .5)
+pure-listed-requires c κs = let start = (c .before .before .before .before .before .before .before .before .before .before .before) in let fits = start .pre .0 in (list-paired (start .args .i) (fits .listed) ((c .before .before .before .before) .start-of .ensures), fits .fewGroups, fits .sizes, fits .square, start .pre .1)
 
 returns : tie.Need-returns
-returns c = let start = (c .before .before .before .before .before .before .before .before .before .before .before .before .before .before) in pure-own (start .args .i) (start .pre .0) ((c .before .before .before .before .before .before .before) .start-of .ensures) _ _ ((c .before .before) .pure-listed .ensures)
+returns c = let start = (c .before .before .before .before .before .before .before .before .before .before .before .before .before .before) in pure-own (start .args .i) (start .pre .0 .listed) ((c .before .before .before .before .before .before .before) .start-of .ensures) _ _ ((c .before .before) .pure-listed .ensures)
 
 pub pure-row-spec : {M : Type 1} → statement M
 pure-row-spec =
     tie.close
     (tie.spec
-    (λ c κs. (omega (arith, (c .before .before .before .before .before .before) .pre .0 .many), omega (arith, (c .before .before .before .before .before .before) .pre .1)))
-    (λ c. omega (arith, (c .before .before .before .before .before .before .before .before) .pre .0 .many))
+    (λ c κs. (omega (arith, (c .before .before .before .before .before .before) .pre .0 .listed .many), omega (arith, (c .before .before .before .before .before .before) .pre .0 .few)))
+    (λ c. omega (arith, (c .before .before .before .before .before .before .before .before) .pre .0 .listed .many))
     (λ c. omega (arith, c .shared-slice-known6 .given ((c .before .before .before .before .before .before .before .before) .args .i)))
     (λ c. omega (arith, ends c, (c .before .before .before .before .before .before .before .before) .good))
     (λ c. omega (arith, ends c, (c .before .before .before .before .before .before .before .before) .good))

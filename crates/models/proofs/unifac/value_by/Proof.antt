@@ -23,11 +23,13 @@ fill-pure-requires c κs =
     let all = start .pre .0 in
     let span = (c .before .before .before) .span-of .ensures .0 in
     let few : (c .before .before .before) .span-of .result .last ≤ 12 = omega (arith, span, all .few) in (
-      listed-upto (listed-at (now (start .args .values)) ((c .before .before .before .before) .counts-at .ensures .0) (all .listed)) _ span,
-      few,
-      all .fewGroups,
-      omega (arith, before-counts start, from-length (start .args .ng) (now (start .args .values))),
-      start .pre .1,
+      record {
+        listed = listed-upto (listed-at (now (start .args .values)) ((c .before .before .before .before) .counts-at .ensures .0) (all .listed)) _ span;
+        few = few;
+        fewGroups = all .fewGroups;
+        sizes = omega (arith, before-counts start, from-length (start .args .ng) (now (start .args .values)));
+        square = start .pre .1;
+      },
       mul-le-mul few (all .fewGroups),
     )
 

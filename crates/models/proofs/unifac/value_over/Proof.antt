@@ -21,14 +21,18 @@ over-requires c κs =
     let start = (c .before .before .before .before .before .before .before .before .before) in
     let pre = start .pre in
     let all = pre .0 in (
-      listed-at (now (start .args .values)) ((c .before .before) .counts-at .ensures .0) (all .listed),
-      all .few,
-      all .fewGroups,
-      omega (arith, before-counts start),
-      omega (arith, before-counts start, from-length (start .args .ng) (now (start .args .values))),
-      pre .1,
-      pre .2,
-      pre .3,
+      record {
+        listed = listed-at (now (start .args .values)) ((c .before .before) .counts-at .ensures .0) (all .listed);
+        few = all .few;
+        fewGroups = all .fewGroups;
+        fractions = pre .3;
+      },
+      record {
+        rs = omega (arith, before-counts start);
+        qs = omega (arith, before-counts start, from-length (start .args .ng) (now (start .args .values)));
+        square = pre .1;
+        rows = pre .2;
+      },
       pre .4,
     )
 
