@@ -26,7 +26,7 @@ use Rattle.models.specs.Columns.{columnSum}
 use Rattle.models.specs.Exponentials.{groupEnergy}
 use Rattle.models.specs.steps.GroupLists.{Listed, Loaded, Named, ListedRows, own, gathered, added}
 use Rattle.models.specs.Unifac as Unifac
-use Rattle.models.specs.Unifac.{Groups, size, sizeSum, combinatorial, combinatorialBy, counts, amount, amounts, fraction, pureCount, pureFraction, theta, lnGroup, mixed, pure, residual, lnGamma, excess, unifac, unifacBy, unifacAt}
+use Rattle.models.specs.Unifac.{Groups, size, sizeSum, combinatorial, counts, amount, amounts, fraction, pureCount, pureFraction, theta, lnGroup, mixed, pure, residual, lnGamma, excess, unifac, unifacBy, unifacAt}
 use Rattle.models.specs.steps.Unifac.{psiBy, Shares, combinatorialFrom, lnFrom}
 use Rattle.models.specs.Values.{fiveAt, start, countsAt, groupRs, groupQs, groupAs, lists}
 use Rattle.models.proofs.AnswerLaws.{quantity-ln, quantity-gamma, quantity-excess, quantity-same, quantity-read}

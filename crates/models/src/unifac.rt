@@ -4,10 +4,10 @@ ghost use mathlib.Core.Bool.{true};
 ghost use Prim.Native.Nat.{ℕ, _+_, _*_, _≤_, _<_};
 ghost use lib.ListN.{length, getD};
 ghost use lib.Ieee.{neg};
-ghost use Rattle.arithmetic.specs.Floats.{_⊕_, _⊖_, _⊗_, _⊘_, +0, one};
+ghost use Rattle.arithmetic.specs.Floats.{_⊖_, _⊗_, _⊘_, +0, one};
 ghost use Rattle.arithmetic.specs.Sums.{sum};
 ghost use Rattle.arithmetic.specs.Parameters.{tdAt, tdBy};
-ghost use Rattle.arithmetic.specs.Tables.{at, grid, flat, Filled};
+ghost use Rattle.arithmetic.specs.Tables.{at, flat, Filled};
 ghost use Rattle.models.specs.Limits.{mostComponents, mostGroups};
 ghost use Rattle.models.specs.Faults.{indexFault};
 ghost use Rattle.models.specs.Columns.{columnSum};
@@ -51,7 +51,7 @@ pub fn psi(row: &[f64], t: f64, ln: f64, k: usize) -> f64
 }
 
 // Each of the first count places takes -v/t, v what it held.
-fn over_t(out: &mut [f64], count: usize, t: f64)
+fn over_t(count: usize, t: f64, out: &mut [f64])
     requires { ⌜ count ≤ length (now out) ⌝ }
     ensures { λ _. ⌜ Filled (λ k. neg (at (now (out .entry)) k) ⊘ t) count (now (out .exit)) ⌝ }
 {
@@ -67,11 +67,11 @@ pub fn fill_arguments(row: &[f64], t: f64, ln: f64, ng: usize, out: &mut [f64])
         ng (now (out .exit)) ⌝ }
 {
     crate::parameters::fill_values_by(row, ng, t, ln, out);
-    over_t(out, ng, t);
+    over_t(ng, t, out);
 }
 
 // Writes Ψ by full rows of ng: every a at T first, then exp(-a/T) of them all at once.
-fn fill_table(values: &[f64], t: f64, ng: usize, table: &mut [f64])
+fn fill_table(ng: usize, values: &[f64], t: f64, table: &mut [f64])
     requires { ⌜ (ng ≤ mostGroups) × (countsAt ng ≤ length (now values)) × (ng * ng ≤ length (now table)) ⌝ }
     ensures { λ _. ⌜ Filled (flat ng (groupEnergy (λ m k. tdAt (groupAs ng (now (values .entry)) m k) t) t))
         (ng * ng) (now (table .exit)) ⌝ }
@@ -79,7 +79,7 @@ fn fill_table(values: &[f64], t: f64, ng: usize, table: &mut [f64])
     let five = ng + ng;
     let count = ng * ng;
     crate::parameters::fill_values(&values[five..], count, t, table);
-    over_t(table, count, t);
+    over_t(count, t, table);
     arithmetic::exp_each(table, count);
 }
 
@@ -536,7 +536,7 @@ pub fn value_at(
         (groupAs ng (now (values .entry))) t (vectorOf x) q ⌝ }
 {
     let mut table = [0.0; TABLE];
-    fill_table(values, t, ng, &mut table[..]);
+    fill_table(ng, values, t, &mut table[..]);
     value_by(n, ng, lens, groups, values, &table[..], x, q)
 }
 

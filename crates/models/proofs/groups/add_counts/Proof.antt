@@ -26,10 +26,10 @@ group c =
     (within, omega (arith, within, pre .counted), omega (arith, pre .below _ within, inv .1 .long))
 
 loop-again : tie.Need-loop-again Inv-loop μ-loop
-loop-again c = let inv = (c .before .before .before .before) .loop .inv in (inv .0, gathering-more (group (c .before .before .before) .0) refl (group (c .before .before .before) .2) refl (inv .1))
+loop-again c = let inv = c .before .before .before .before .loop .inv in (inv .0, gathering-more (group (c .before .before .before) .0) refl (group (c .before .before .before) .2) refl (inv .1))
 
 returns : tie.Need-returns Inv-loop μ-loop
-returns c = gathering-done (omega (arith, c .loop-test .left, (c .before) .loop .inv .0)) ((c .before) .loop .inv .1)
+returns c = gathering-done (omega (arith, c .loop-test .left, c .before .loop .inv .0)) (c .before .loop .inv .1)
 
 pub add-counts-spec : {M : Type 1} → statement M
 add-counts-spec =
@@ -49,5 +49,5 @@ add-counts-spec =
     (λ c. omega (arith, group (c .before .before .before)))
     (λ c. omega (arith, group (c .before .before .before)))
     loop-again
-    (λ c. (c .before) .loop .inv .1 .long)
+    (λ c. c .before .loop .inv .1 .long)
     returns)

@@ -39,14 +39,14 @@ ends : (c : tie.In-loop Inv-loop μ-loop) → let a = entry c .args in let end =
 ends c = list-ends (c .before .loop .i) (listed c) (c .before .loop .inv .4)
 
 add-counts-requires : tie.Need-add-counts-requires Inv-loop μ-loop
-add-counts-requires c κs = list-paired ((c .before .before .before .before .before .before) .loop .i) (listed (c .before .before .before .before .before)) ((c .before .before .before .before .before .before) .loop .inv .4)
+add-counts-requires c κs = list-paired (c .before .before .before .before .before .before .loop .i) (listed (c .before .before .before .before .before)) (c .before .before .before .before .before .before .loop .inv .4)
 
 loop-again : tie.Need-loop-again Inv-loop μ-loop
 loop-again c =
-    let turn = (c .before .before .before .before .before .before .before .before .before .before) in
+    let turn = c .before .before .before .before .before .before .before .before .before .before in
     let top = turn .before .loop in
     let inv = top .inv in
-    let added = (c .before .before .before .before) .add-counts in (
+    let added = c .before .before .before .before .add-counts in (
       omega arith,
       added .kept .1 .1 .1 .0 ∙ inv .1,
       sum-more _ _ (inv .2) (rw (counts-own (top .i) (listed turn) (inv .4) (c .sum .ensures))),
@@ -57,7 +57,7 @@ loop-again c =
 returns : tie.Need-returns Inv-loop μ-loop
 unfolding Unifac.amounts
 returns c =
-    let inv = (c .before) .loop .inv in
+    let inv = c .before .loop .inv in
     let all = le-antisymm (inv .0) (c .loop-test .left) in
     (sum-done _ _ _ (inv .2) (inv .0) (c .loop-test .left), rw (← all) (inv .3))
 
@@ -67,25 +67,25 @@ amounts-spec =
     (tie.spec
     Inv-loop
     μ-loop
-    (λ c. (omega arith, refl, sum-none _, amount-none _ _ _ ((c .before .before .before .before .before) .pre .3), start-none _))
-    (λ c. omega (arith, (c .before .before .before .before .before .before .before .before) .pre .0 .many))
-    (λ c. omega (arith, c .shared-slice-known5 .given ((c .before .before) .loop .i)))
-    (λ c. omega (arith, ends (c .before), (c .before .before .before .before .before .before .before .before) .good))
-    (λ c. omega (arith, ends (c .before), (c .before .before .before .before .before .before .before .before) .good))
-    (λ c. omega (arith, ends (c .before), (c .before .before .before .before .before .before .before .before) .good))
-    (λ c. omega (arith, ends (c .before), (c .before .before .before .before .before .before .before .before) .good))
-    (λ c. omega (arith, ends (c .before), (c .before .before .before .before .before .before .before .before) .good))
-    (λ c. omega (arith, ends (c .before .before), (c .before .before .before .before .before .before .before .before .before) .good))
-    (λ c. omega (arith, ends (c .before .before), (c .before .before .before .before .before .before .before .before .before) .good))
-    (λ c. omega (arith, ends (c .before .before), (c .before .before .before .before .before .before .before .before .before) .good))
-    (λ c. omega (arith, ends (c .before .before .before), (c .before .before .before .before .before .before .before .before .before .before) .good))
-    (λ c. omega (arith, ends (c .before .before .before .before), (c .before .before .before .before .before .before .before .before .before .before .before) .good))
+    (λ c. (omega arith, refl, sum-none _, amount-none _ _ _ (c .before .before .before .before .before .pre .3), start-none _))
+    (λ c. omega (arith, c .before .before .before .before .before .before .before .before .pre .0 .many))
+    (λ c. omega (arith, c .shared-slice-known5 .given (c .before .before .loop .i)))
+    (λ c. omega (arith, ends (c .before), entry (c .before) .good))
+    (λ c. omega (arith, ends (c .before)))
+    (λ c. omega (arith, ends (c .before)))
+    (λ c. omega (arith, ends (c .before)))
+    (λ c. omega (arith, ends (c .before)))
+    (λ c. omega (arith, ends (c .before .before)))
+    (λ c. omega (arith, ends (c .before .before)))
+    (λ c. omega (arith, ends (c .before .before)))
+    (λ c. omega (arith, ends (c .before .before .before)))
+    (λ c. omega (arith, ends (c .before .before .before .before)))
     add-counts-requires
-    (λ c. omega (arith, ends (c .before .before .before .before .before .before .before .before), (c .before .before .before .before .before .before .before .before .before .before .before .before .before .before .before) .good))
-    (λ c. omega (arith, ends (c .before .before .before .before .before .before .before .before .before), (c .before .before .before .before .before .before .before .before .before .before .before .before .before .before .before .before) .good))
+    (λ c. omega (arith, ends (c .before .before .before .before .before .before .before .before)))
+    (λ c. omega (arith, ends (c .before .before .before .before .before .before .before .before .before)))
     (λ c κs. search needs)
     (λ c. omega arith)
     (λ c. omega arith)
     loop-again
-    (λ c. (c .before) .loop .inv .1)
+    (λ c. c .before .loop .inv .1)
     returns)

@@ -7,15 +7,15 @@ use Rattle.models.proofs.groups.group_fractions.Statement.{statement}
 use Rattle.models.proofs.groups.group_fractions.Tie as tie
 
 amounts-requires : tie.Need-amounts-requires
-amounts-requires c κs = let pre = (c .before .before .before .before .before .before) .pre in (listed-wider (pre .0 .listed) 32 (pre .0 .fewGroups), pre .0 .few, pre .0 .fractions, zeros 32)
+amounts-requires c κs = let pre = c .before .before .before .before .before .before .pre in (listed-wider (pre .0 .listed) 32 (pre .0 .fewGroups), pre .0 .few, pre .0 .fractions, zeros 32)
 
 returns : tie.Need-returns
 returns c =
-    let sum = (c .before .before .before .before .before .before .before) in
-    fraction-over _ _ _ _ 32 (sum .amounts .ensures .0) ((c .before .before .before .before .before) .if1 .taken) ((c .before .before .before .before .before .before .before .before .before .before .before .before .before .before) .pre .0 .fewGroups) (sum .amounts .ensures .1) ((c .before .before) .over .ensures)
+    let sum = c .before .before .before .before .before .before .before in
+    fraction-over _ _ _ _ 32 (sum .amounts .ensures .0) (c .before .before .before .before .before .if1 .taken) (c .before .before .before .before .before .before .before .before .before .before .before .before .before .before .pre .0 .fewGroups) (sum .amounts .ensures .1) (c .before .before .over .ensures)
 
 returns-2 : tie.Need-returns-2
-returns-2 c = fraction-none _ _ _ _ ((c .before .before) .amounts .ensures .0) (c .if1 .left) ((c .before .before .before .before .before .before .before .before .before) .pre .2)
+returns-2 c = fraction-none _ _ _ _ (c .before .before .amounts .ensures .0) (c .if1 .left) (c .before .before .before .before .before .before .before .before .before .pre .2)
 
 pub group-fractions-spec : {M : Type 1} → statement M
 group-fractions-spec =
@@ -24,7 +24,7 @@ group-fractions-spec =
     (λ c. search needs)
     amounts-requires
     (λ c. search needs)
-    (λ c κs. (omega (arith, (c .before .before .before .before .before .before .before .before .before .before .before) .pre .0 .fewGroups, (c .before .before .before .before) .amounts .kept .1 .1 .1 .1 .1 .0), (c .before .before .before .before .before .before .before .before .before .before .before) .pre .1))
-    (λ c. (c .before .before) .over .kept .1 .1 .1 .0)
+    (λ c κs. (omega (arith, c .before .before .before .before .before .before .before .before .before .before .before .pre .0 .fewGroups, c .before .before .before .before .amounts .kept .1 .1 .1 .1 .1 .0), c .before .before .before .before .before .before .before .before .before .before .before .pre .1))
+    (λ c. c .before .before .over .kept .1 .1 .1 .0)
     returns
     returns-2)

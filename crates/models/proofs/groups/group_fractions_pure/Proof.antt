@@ -7,17 +7,17 @@ use Rattle.models.proofs.groups.group_fractions_pure.Tie as tie
 
 returns : tie.Need-returns
 returns c =
-    let pre = (c .before .before .before .before .before .before .before .before .before .before .before .before) .pre in
-    pure-over _ _ _ (pre .0) ((c .before .before .before .before) .sum .ensures) (pre .1) ((c .before .before .before .before .before .before .before) .put-counts .ensures) ((c .before .before) .over .ensures)
+    let pre = c .before .before .before .before .before .before .before .before .before .before .before .before .pre in
+    pure-over _ _ _ (pre .0) (c .before .before .before .before .sum .ensures) (pre .1) (c .before .before .before .before .before .before .before .put-counts .ensures) (c .before .before .over .ensures)
 
 pub group-fractions-pure-spec : {M : Type 1} → statement M
 group-fractions-pure-spec =
     tie.close
     (tie.spec
     (λ c. search needs)
-    (λ c κs. paired-wider 32 ((c .before .before .before .before) .pre .1) ((c .before .before .before .before) .pre .0))
+    (λ c κs. paired-wider 32 (c .before .before .before .before .pre .1) (c .before .before .before .before .pre .0))
     (λ c. search needs)
     (λ c κs. search needs)
-    (λ c κs. (omega (arith, (c .before .before .before .before .before .before .before .before .before) .pre .1, (c .before .before .before .before) .put-counts .kept .1 .1 .0), (c .before .before .before .before .before .before .before .before .before) .pre .2))
-    (λ c. (c .before .before) .over .kept .1 .1 .1 .0)
+    (λ c κs. (omega (arith, c .before .before .before .before .before .before .before .before .before .pre .1, c .before .before .before .before .put-counts .kept .1 .1 .0), c .before .before .before .before .before .before .before .before .before .pre .2))
+    (λ c. c .before .before .over .kept .1 .1 .1 .0)
     returns)

@@ -16,7 +16,7 @@ abbrev μ-loop : tie.MeasureT-loop
 μ-loop ng num d out₀ g₀ out g = ng - g
 
 loop-again : tie.Need-loop-again Inv-loop μ-loop
-loop-again c = filling-more (omega arith) ((c .before .before) .loop .inv) refl
+loop-again c = filling-more (omega arith) (c .before .before .loop .inv) refl
 
 pub over-spec : {M : Type 1} → statement M
 over-spec =
@@ -32,5 +32,5 @@ over-spec =
     (λ c. omega arith)
     (λ c. omega arith)
     loop-again
-    (λ c. (c .before) .loop .inv .long)
-    (λ c. filling-done (c .loop-test .left) ((c .before) .loop .inv)))
+    (λ c. c .before .loop .inv .long)
+    (λ c. filling-done (c .loop-test .left) (c .before .loop .inv)))

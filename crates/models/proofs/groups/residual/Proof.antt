@@ -27,11 +27,11 @@ group c =
     (within, omega (arith, within, pre .0 .counted), pre .0 .below _ within, pre .1)
 
 loop-again : tie.Need-loop-again Inv-loop μ-loop
-loop-again c = let inv = (c .before .before .before .before .before) .loop .inv in (omega (arith, group (c .before .before .before .before)), inv .1, sum-more _ _ (inv .2) refl)
+loop-again c = let inv = c .before .before .before .before .before .loop .inv in (omega (arith, group (c .before .before .before .before)), inv .1, sum-more _ _ (inv .2) refl)
 
 returns : tie.Need-returns Inv-loop μ-loop
 unfolding Unifac.residual
-returns c = sum-done _ _ _ ((c .before) .loop .inv .2) ((c .before) .loop .inv .0) (omega (arith, c .loop-test .left, (c .before) .loop .inv .1))
+returns c = sum-done _ _ _ (c .before .loop .inv .2) (c .before .loop .inv .0) (omega (arith, c .loop-test .left, c .before .loop .inv .1))
 
 pub residual-spec : {M : Type 1} → statement M
 residual-spec =

@@ -33,12 +33,12 @@ ends : (c : tie.In-loop Inv-loop μ-loop) → let a = entry c .args in let end =
 ends c = list-ends (c .before .loop .i) (listed c) (c .before .loop .inv .1)
 
 size-requires : tie.Need-size-requires Inv-loop μ-loop
-size-requires c κs = list-paired ((c .before .before .before .before) .loop .i) (listed (c .before .before .before)) ((c .before .before .before .before) .loop .inv .1)
+size-requires c κs = list-paired (c .before .before .before .before .loop .i) (listed (c .before .before .before)) (c .before .before .before .before .loop .inv .1)
 
 loop-again : tie.Need-loop-again Inv-loop μ-loop
 loop-again c =
-    let inv = (c .before .before .before .before .before) .loop .inv in
-    (filling-more (omega arith) (inv .0) (size-own ((c .before .before .before .before .before) .loop .i) (listed (c .before .before .before .before)) (inv .1) _ (c .size .ensures)), start-more _ _ (inv .1) refl)
+    let inv = c .before .before .before .before .before .loop .inv in
+    (filling-more (omega arith) (inv .0) (size-own (c .before .before .before .before .before .loop .i) (listed (c .before .before .before .before)) (inv .1) _ (c .size .ensures)), start-more _ _ (inv .1) refl)
 
 pub sizes-spec : {M : Type 1} → statement M
 sizes-spec =
@@ -47,20 +47,20 @@ sizes-spec =
     Inv-loop
     μ-loop
     (λ c. (filling-none (omega arith) refl, start-none _))
-    (λ c. omega (arith, (c .before .before .before .before .before .before .before) .pre .0 .many))
-    (λ c. omega (arith, c .shared-slice-known5 .given ((c .before .before) .loop .i)))
-    (λ c. omega (arith, ends (c .before), (c .before .before .before .before .before .before .before) .good))
-    (λ c. omega (arith, ends (c .before), (c .before .before .before .before .before .before .before) .good))
-    (λ c. omega (arith, ends (c .before), (c .before .before .before .before .before .before .before) .good))
-    (λ c. omega (arith, ends (c .before), (c .before .before .before .before .before .before .before) .good))
-    (λ c. omega (arith, ends (c .before .before), (c .before .before .before .before .before .before .before .before) .good))
-    (λ c. omega (arith, ends (c .before .before), (c .before .before .before .before .before .before .before .before) .good))
-    (λ c. omega (arith, ends (c .before .before), (c .before .before .before .before .before .before .before .before) .good))
-    (λ c. omega (arith, ends (c .before .before), (c .before .before .before .before .before .before .before .before) .good))
+    (λ c. omega (arith, c .before .before .before .before .before .before .before .pre .0 .many))
+    (λ c. omega (arith, c .shared-slice-known5 .given (c .before .before .loop .i)))
+    (λ c. omega (arith, ends (c .before), entry (c .before) .good))
+    (λ c. omega (arith, ends (c .before)))
+    (λ c. omega (arith, ends (c .before)))
+    (λ c. omega (arith, ends (c .before)))
+    (λ c. omega (arith, ends (c .before .before)))
+    (λ c. omega (arith, ends (c .before .before)))
+    (λ c. omega (arith, ends (c .before .before)))
+    (λ c. omega (arith, ends (c .before .before)))
     size-requires
     (λ c. omega arith)
     (λ c. omega arith)
     (λ c. omega arith)
     (λ c. omega arith)
     loop-again
-    (λ c. filling-done (c .loop-test .left) ((c .before) .loop .inv .0)))
+    (λ c. filling-done (c .loop-test .left) (c .before .loop .inv .0)))

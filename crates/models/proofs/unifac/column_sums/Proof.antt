@@ -6,7 +6,6 @@ use native.Mathlib.Omega.{arith}
 use denote.Ref.{now}
 use lib.Ieee.{Float}
 use lib.ListN.{length}
-use borrow.Author.Needs.{needs}
 use Rattle.arithmetic.specs.Tables.{at, grid}
 use Rattle.arithmetic.specs.Floats.{_⊗_}
 use Rattle.arithmetic.proofs.TableLaws.{row-end, from-at, from-room}
@@ -32,14 +31,14 @@ ends c =
 
 add-row-requires : tie.Need-add-row-requires Inv-loop μ-loop
 add-row-requires c κs =
-    let turn = (c .before .before .before) in
+    let turn = c .before .before .before in
     let row = from-room (turn .before .loop .m * entry turn .args .ng) _ (now (entry turn .args .psi)) (ends turn .0) in
     (row, columns-room (turn .before .loop .inv))
 
 loop-again : tie.Need-loop-again Inv-loop μ-loop
 loop-again c =
-    let call = (c .before .before) in
-    let turn = (c .before .before .before .before .before .before) in
+    let call = c .before .before in
+    let turn = c .before .before .before .before .before .before in
     let top = turn .before in
     let a = entry turn .args in
     columns-more _ (turn .loop-test .taken)
@@ -48,7 +47,7 @@ loop-again c =
 
 returns : tie.Need-returns Inv-loop μ-loop
 unfolding columnSum
-returns c = columns-done (c .loop-test .left) ((c .before) .loop .inv)
+returns c = columns-done (c .loop-test .left) (c .before .loop .inv)
 
 pub column-sums-spec : {M : Type 1} → statement M
 column-sums-spec =
@@ -56,7 +55,7 @@ column-sums-spec =
     (tie.spec
     Inv-loop
     μ-loop
-    (λ c. columns-none (omega arith) refl ((c .before .before .before) .pre .4))
+    (λ c. columns-none (omega arith) refl (c .before .before .before .pre .4))
     (λ c. omega (arith, ends c))
     (λ c. omega (arith, ends c))
     (λ c. omega (arith, ends c))
@@ -68,5 +67,5 @@ column-sums-spec =
     (λ c. omega arith)
     (λ c. omega arith)
     loop-again
-    (λ c. (c .before) .loop .inv .long)
+    (λ c. c .before .loop .inv .long)
     returns)

@@ -1,6 +1,4 @@
 -- The term over the parts of what the components share.
-use mathlib.Core.Path.{_∙_}
-use native.Mathlib.Omega.{arith}
 use borrow.Author.Needs.{needs}
 use Rattle.models.specs.steps.Unifac.{combinatorialFrom}
 use Rattle.models.proofs.unifac.combinatorial_of.Statement.{statement}

@@ -1,5 +1,5 @@
 -- The sum of x_i ln γ_i, one component after the other; start is where the next list begins.
-use mathlib.Core.Path.{_≡_, refl, sym, _∙_}
+use mathlib.Core.Path.{_≡_, refl, sym}
 use Prim.Native.Nat.{_+_, _*_, _-_, _≤_}
 use native.Mathlib.Nat.{mul-le-mul}
 use native.Mathlib.Omega.{arith}
@@ -51,7 +51,7 @@ long c = omega (arith, entry c .pre .0 .fewGroups, c .before .before .before .ga
 
 residual-requires : tie.Need-residual-requires Inv-loop μ-loop
 residual-requires c κs =
-    let turn = (c .before .before .before .before .before) in
+    let turn = c .before .before .before .before .before in
     let a = entry turn .args in
     let i = turn .before .loop .i in
     let taken = length-take-le (a .ng) (turn .before .before .before .gamma-k .last .1 .1 .1 .1 .0) (long turn) in
@@ -59,12 +59,12 @@ residual-requires c κs =
 
 loop-again : tie.Need-loop-again Inv-loop μ-loop
 loop-again c =
-    let turn = (c .before .before .before .before .before .before .before .before) in
+    let turn = c .before .before .before .before .before .before .before .before in
     let top = turn .before .loop in
     let inv = top .inv in
     let a = entry turn .args in
     let paired = list-paired (top .i) (listed turn) (inv .1) in
-    let resid = residual-own (top .i) (listed turn) (inv .1) _ _ (now (a .pure)) (filled-named _ _ _ (a .ng) (paired .below) ((c .before .before .before .before .before .before .before .before .before .before .before) .gamma-k .ensures)) (ends turn .2) ((c .before .before) .residual .ensures) in
+    let resid = residual-own (top .i) (listed turn) (inv .1) _ _ (now (a .pure)) (filled-named _ _ _ (a .ng) (paired .below) (c .before .before .before .before .before .before .before .before .before .before .before .gamma-k .ensures)) (ends turn .2) (c .before .before .residual .ensures) in
     (omega arith, start-more _ _ (inv .1) refl, sum-more _ _ (inv .2) (rw (ln-from (a .s) _ _ _ _ _ _ (top .i) (c .combinatorial-of .ensures) resid)))
 
 pub excess-gibbs-spec : {M : Type 1} → statement M
@@ -74,30 +74,30 @@ excess-gibbs-spec =
     Inv-loop
     μ-loop
     (λ c. search needs)
-    (λ c κs. ((c .before .before .before .before .before .before .before .before .before) .pre .1, (c .before .before .before .before .before .before .before .before .before) .pre .0 .fewGroups))
+    (λ c κs. (c .before .before .before .before .before .before .before .before .before .pre .1, c .before .before .before .before .before .before .before .before .before .pre .0 .fewGroups))
     (λ c. (omega arith, start-none _, sum-none _))
-    (λ c. omega (arith, (c .before .before .before .before .before .before .before .before .before .before .before .before .before .before) .pre .0 .listed .many))
-    (λ c. omega (arith, c .shared-slice-known9 .given ((c .before .before) .loop .i)))
-    (λ c. omega (arith, ends (c .before), (c .before .before .before .before .before .before .before .before .before .before .before .before .before .before) .good))
-    (λ c. omega (arith, ends (c .before), (c .before .before .before .before .before .before .before .before .before .before .before .before .before .before) .good))
-    (λ c. omega (arith, ends (c .before), (c .before .before .before .before .before .before .before .before .before .before .before .before .before .before) .good))
-    (λ c. omega (arith, ends (c .before), (c .before .before .before .before .before .before .before .before .before .before .before .before .before .before) .good))
-    (λ c. omega (arith, ends (c .before), (c .before .before .before .before .before .before .before .before .before .before .before .before .before .before) .good))
-    (λ c. omega (arith, ends (c .before .before), (c .before .before .before .before .before .before .before .before .before .before .before .before .before .before .before) .good))
-    (λ c. omega (arith, ends (c .before .before), (c .before .before .before .before .before .before .before .before .before .before .before .before .before .before .before) .good))
-    (λ c. omega (arith, ends (c .before .before), (c .before .before .before .before .before .before .before .before .before .before .before .before .before .before .before) .good))
-    (λ c. omega (arith, ends (c .before .before), (c .before .before .before .before .before .before .before .before .before .before .before .before .before .before .before) .good))
+    (λ c. omega (arith, c .before .before .before .before .before .before .before .before .before .before .before .before .before .before .pre .0 .listed .many))
+    (λ c. omega (arith, c .shared-slice-known9 .given (c .before .before .loop .i)))
+    (λ c. omega (arith, ends (c .before), entry (c .before) .good))
+    (λ c. omega (arith, ends (c .before)))
+    (λ c. omega (arith, ends (c .before)))
+    (λ c. omega (arith, ends (c .before)))
+    (λ c. omega (arith, ends (c .before)))
+    (λ c. omega (arith, ends (c .before .before)))
+    (λ c. omega (arith, ends (c .before .before)))
+    (λ c. omega (arith, ends (c .before .before)))
+    (λ c. omega (arith, ends (c .before .before)))
     (λ c. long (c .before .before .before))
     (λ c. sym (length-take-le _ _ (long (c .before .before .before .before))))
-    (λ c. omega (arith, ends (c .before .before .before .before), (c .before .before .before .before .before .before .before .before .before .before .before .before .before .before .before .before .before) .good))
-    (λ c. omega (arith, ends (c .before .before .before .before), (c .before .before .before .before .before .before .before .before .before .before .before .before .before .before .before .before .before) .good))
-    (λ c. omega (arith, ends (c .before .before .before .before), (c .before .before .before .before .before .before .before .before .before .before .before .before .before .before .before .before .before) .good))
-    (λ c. omega (arith, ends (c .before .before .before .before), (c .before .before .before .before .before .before .before .before .before .before .before .before .before .before .before .before .before) .good))
+    (λ c. omega (arith, ends (c .before .before .before .before)))
+    (λ c. omega (arith, ends (c .before .before .before .before)))
+    (λ c. omega (arith, ends (c .before .before .before .before)))
+    (λ c. omega (arith, ends (c .before .before .before .before)))
     residual-requires
-    (λ c. omega (arith, ends (c .before .before .before .before .before .before), (c .before .before .before .before .before .before .before .before .before .before .before .before .before .before .before .before .before .before .before) .good))
-    (λ c. omega (arith, ends (c .before .before .before .before .before .before .before), (c .before .before .before .before .before .before .before .before .before .before .before .before .before .before .before .before .before .before .before .before) .good))
-    (λ c κs. omega (arith, (c .before .before .before .before .before .before .before) .loop-test .taken, (c .before .before .before .before .before .before .before .before .before .before .before .before .before .before .before .before .before .before .before .before) .pre .0 .few))
+    (λ c. omega (arith, ends (c .before .before .before .before .before .before)))
+    (λ c. omega (arith, ends (c .before .before .before .before .before .before .before)))
+    (λ c κs. omega (arith, c .before .before .before .before .before .before .before .loop-test .taken, c .before .before .before .before .before .before .before .before .before .before .before .before .before .before .before .before .before .before .before .before .pre .0 .few))
     (λ c. omega arith)
     (λ c. omega arith)
     loop-again
-    (λ c. sum-done _ _ _ ((c .before) .loop .inv .2) ((c .before) .loop .inv .0) (c .loop-test .left)))
+    (λ c. sum-done _ _ _ (c .before .loop .inv .2) (c .before .loop .inv .0) (c .loop-test .left)))

@@ -3,8 +3,6 @@ use mathlib.Core.Path.{_≡_, refl, _∙_}
 use Prim.Native.Nat.{_+_, _*_, _-_, _≤_}
 use native.Mathlib.Nat.{mul-le-mul}
 use native.Mathlib.Omega.{arith}
-use denote.Ref.{now}
-use borrow.Author.Needs.{needs}
 use lib.ListN.{length}
 use borrow.Rule.Slice.PartMut.{same-len-mid}
 use Rattle.arithmetic.specs.Tables.{at, grid}
@@ -39,7 +37,7 @@ ends c =
 
 pure-row-requires : tie.Need-pure-row-requires Inv-loop μ-loop
 pure-row-requires c κs =
-    let turn = (c .before) in
+    let turn = c .before in
     let start = entry turn in
     let i = turn .before .loop .i in
     let fits = start .pre .0 in (
@@ -55,13 +53,13 @@ pure-row-requires c κs =
 
 loop-again : tie.Need-loop-again Inv-loop μ-loop
 loop-again c =
-    let turn = (c .before .before .before .before) in
+    let turn = c .before .before .before .before in
     let start = entry turn in
     let ng = start .args .ng in
     let i = turn .before .loop .i in
     let table = turn .before .loop .table in
     let inv = turn .before .loop .inv in
-    let fill = (c .before .before) .pure-row in
+    let fill = c .before .before .pure-row in
     let long = fill .kept .1 .1 .1 .1 .1 .1 .1 .0 in (
       omega arith,
       same-len-mid (i * ng) (length table - i * ng) table (fill .last .1 .1 .1 .1 .1 .1 .1 .0) long ∙ inv .1,
@@ -85,5 +83,5 @@ fill-pure-spec =
     (λ c. omega (arith, ends (c .before .before .before .before)))
     (λ c. omega arith)
     loop-again
-    (λ c. (c .before) .loop .inv .1)
-    (λ c. record { each = λ i a b. (c .before) .loop .inv .2 .each i a (omega (arith, c .loop-test .left)) }))
+    (λ c. c .before .loop .inv .1)
+    (λ c. record { each = λ i a b. c .before .loop .inv .2 .each i a (omega (arith, c .loop-test .left)) }))

@@ -18,44 +18,44 @@ grouped : (c : tie.Start) {theta : List Float} → length theta ≡ 32 → Group
 grouped c long = let pre = c .pre in record { few = pre .0 .fewGroups; sizes = pre .1 .qs; thetas = omega (arith, pre .0 .fewGroups, long); square = pre .1 .square }
 
 share-requires : tie.Need-share-requires
-share-requires c κs = let pre = (c .before .before .before .before .before .before .before .before) .pre in (listed-wider (pre .0 .listed) _ (pre .1 .rs), listed-wider (pre .0 .listed) _ (pre .1 .qs), pre .0 .few, pre .0 .fractions)
+share-requires c κs = let pre = c .before .before .before .before .before .before .before .before .pre in (listed-wider (pre .0 .listed) _ (pre .1 .rs), listed-wider (pre .0 .listed) _ (pre .1 .qs), pre .0 .few, pre .0 .fractions)
 
 theta-mixed-requires : tie.Need-theta-mixed-requires
-theta-mixed-requires c κs = let pre = (c .before .before .before .before .before .before .before .before .before .before) .pre in (pre .0, pre .1 .qs, pre .0 .fewGroups)
+theta-mixed-requires c κs = let pre = c .before .before .before .before .before .before .before .before .before .before .pre in (pre .0, pre .1 .qs, pre .0 .fewGroups)
 
 residual-of-requires : tie.Need-residual-of-requires
 residual-of-requires c κs =
-    let start = (c .before .before .before .before .before .before .before .before .before .before .before .before .before .before .before .before .before) in
+    let start = c .before .before .before .before .before .before .before .before .before .before .before .before .before .before .before .before .before in
     let pre = start .pre in
-    let here = index-ln ((c .before .before .before) .asked .given .1) (pre .2) in
-    (listed-less (pre .0 .listed) _ (start .args .ng) here (omega arith), omega (arith, here, pre .0 .few), grouped start ((c .before .before .before .before .before .before) .theta-mixed .kept .1 .1 .1 .1 .1 .1 .1 .0), omega (arith, row-end _ (start .args .ng) _ here, pre .1 .rows))
+    let here = index-ln (c .before .before .before .asked .given .1) (pre .2) in
+    (listed-less (pre .0 .listed) _ (start .args .ng) here (omega arith), omega (arith, here, pre .0 .few), grouped start (c .before .before .before .before .before .before .theta-mixed .kept .1 .1 .1 .1 .1 .1 .1 .0), omega (arith, row-end _ (start .args .ng) _ here, pre .1 .rows))
 
 residual-of-requires-2 : tie.Need-residual-of-requires-2
 residual-of-requires-2 c κs =
-    let start = (c .before .before .before .before .before .before .before .before .before .before .before .before .before .before .before .before .before) in
+    let start = c .before .before .before .before .before .before .before .before .before .before .before .before .before .before .before .before .before in
     let pre = start .pre in
-    let here = index-gamma ((c .before .before .before) .asked2 .given .1) (pre .2) in
-    (listed-less (pre .0 .listed) _ (start .args .ng) here (omega arith), omega (arith, here, pre .0 .few), grouped start ((c .before .before .before .before .before .before) .theta-mixed .kept .1 .1 .1 .1 .1 .1 .1 .0), omega (arith, row-end _ (start .args .ng) _ here, pre .1 .rows))
+    let here = index-gamma (c .before .before .before .asked2 .given .1) (pre .2) in
+    (listed-less (pre .0 .listed) _ (start .args .ng) here (omega arith), omega (arith, here, pre .0 .few), grouped start (c .before .before .before .before .before .before .theta-mixed .kept .1 .1 .1 .1 .1 .1 .1 .0), omega (arith, row-end _ (start .args .ng) _ here, pre .1 .rows))
 
 excess-gibbs-requires : tie.Need-excess-gibbs-requires
-excess-gibbs-requires c κs = let pre = (c .before .before .before .before .before .before .before .before .before .before .before .before .before .before .before) .pre in (pre .0, grouped (c .before .before .before .before .before .before .before .before .before .before .before .before .before .before .before) ((c .before .before .before .before) .theta-mixed .kept .1 .1 .1 .1 .1 .1 .1 .0), pre .1 .rows)
+excess-gibbs-requires c κs = let pre = c .before .before .before .before .before .before .before .before .before .before .before .before .before .before .before .pre in (pre .0, grouped (c .before .before .before .before .before .before .before .before .before .before .before .before .before .before .before) (c .before .before .before .before .theta-mixed .kept .1 .1 .1 .1 .1 .1 .1 .0), pre .1 .rows)
 
 returns : tie.Need-returns
 returns c =
-    let pre = (c .before .before .before .before .before .before .before .before .before .before .before .before .before .before .before .before .before .before) .pre in
-    unifac-ln _ _ _ _ _ _ _ _ ((c .before .before .before .before .before .before .before .before .before) .share .ensures) ((c .before .before .before .before .before .before .before) .theta-mixed .ensures) (listed-same (pre .0 .listed)) ((c .before .before .before .before) .asked .given .1) (pre .2)
-    (ln-from _ _ _ _ _ _ _ _ ((c .before .before) .combinatorial-of .ensures) (c .residual-of .ensures))
+    let pre = c .before .before .before .before .before .before .before .before .before .before .before .before .before .before .before .before .before .before .pre in
+    unifac-ln _ _ _ _ _ _ _ _ (c .before .before .before .before .before .before .before .before .before .share .ensures) (c .before .before .before .before .before .before .before .theta-mixed .ensures) (listed-same (pre .0 .listed)) (c .before .before .before .before .asked .given .1) (pre .2)
+    (ln-from _ _ _ _ _ _ _ _ (c .before .before .combinatorial-of .ensures) (c .residual-of .ensures))
 
 returns-2 : tie.Need-returns-2
 returns-2 c =
-    let pre = (c .before .before .before .before .before .before .before .before .before .before .before .before .before .before .before .before .before .before .before) .pre in
-    unifac-gamma _ _ _ _ _ _ _ _ ((c .before .before .before .before .before .before .before .before .before .before) .share .ensures) ((c .before .before .before .before .before .before .before .before) .theta-mixed .ensures) (listed-same (pre .0 .listed)) ((c .before .before .before .before .before) .asked2 .given .1) (pre .2)
-    (ln-from _ _ _ _ _ _ _ _ ((c .before .before .before) .combinatorial-of2 .ensures) ((c .before) .residual-of2 .ensures)) (c .exp .ensures)
+    let pre = c .before .before .before .before .before .before .before .before .before .before .before .before .before .before .before .before .before .before .before .pre in
+    unifac-gamma _ _ _ _ _ _ _ _ (c .before .before .before .before .before .before .before .before .before .before .share .ensures) (c .before .before .before .before .before .before .before .before .theta-mixed .ensures) (listed-same (pre .0 .listed)) (c .before .before .before .before .before .asked2 .given .1) (pre .2)
+    (ln-from _ _ _ _ _ _ _ _ (c .before .before .before .combinatorial-of2 .ensures) (c .before .residual-of2 .ensures)) (c .exp .ensures)
 
 returns-3 : tie.Need-returns-3
 returns-3 c =
-    let pre = (c .before .before .before .before .before .before .before .before .before .before .before .before .before .before .before .before) .pre in
-    unifac-excess _ _ _ _ _ _ _ _ ((c .before .before .before .before .before .before .before) .share .ensures) ((c .before .before .before .before .before) .theta-mixed .ensures) (listed-same (pre .0 .listed)) ((c .before .before) .enum-told .given .1) (pre .2) (c .excess-gibbs .ensures)
+    let pre = c .before .before .before .before .before .before .before .before .before .before .before .before .before .before .before .before .pre in
+    unifac-excess _ _ _ _ _ _ _ _ (c .before .before .before .before .before .before .before .share .ensures) (c .before .before .before .before .before .theta-mixed .ensures) (listed-same (pre .0 .listed)) (c .before .before .enum-told .given .1) (pre .2) (c .excess-gibbs .ensures)
 
 pub over-spec : {M : Type 1} → statement M
 over-spec =
@@ -65,11 +65,11 @@ over-spec =
     (λ c. search needs)
     theta-mixed-requires
     (λ c. search needs)
-    (λ c κs. omega (arith, index-ln ((c .before) .asked .given .1) ((c .before .before .before .before .before .before .before .before .before .before .before .before .before .before .before) .pre .2), (c .before .before .before .before .before .before .before .before .before .before .before .before .before .before .before) .pre .0 .few))
+    (λ c κs. omega (arith, index-ln (c .before .asked .given .1) (c .before .before .before .before .before .before .before .before .before .before .before .before .before .before .before .pre .2), c .before .before .before .before .before .before .before .before .before .before .before .before .before .before .before .pre .0 .few))
     (λ c. search needs)
     residual-of-requires
     (λ c. search needs)
-    (λ c κs. omega (arith, index-gamma ((c .before) .asked2 .given .1) ((c .before .before .before .before .before .before .before .before .before .before .before .before .before .before .before) .pre .2), (c .before .before .before .before .before .before .before .before .before .before .before .before .before .before .before) .pre .0 .few))
+    (λ c κs. omega (arith, index-gamma (c .before .asked2 .given .1) (c .before .before .before .before .before .before .before .before .before .before .before .before .before .before .before .pre .2), c .before .before .before .before .before .before .before .before .before .before .before .before .before .before .before .pre .0 .few))
     (λ c. search needs)
     residual-of-requires-2
     (λ c κs. tt)

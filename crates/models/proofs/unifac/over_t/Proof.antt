@@ -10,10 +10,10 @@ use Rattle.models.proofs.unifac.over_t.Statement.{statement}
 use Rattle.models.proofs.unifac.over_t.Tie as tie
 
 abbrev Inv-loop : tie.InvT-loop
-Inv-loop out₀ count t k₀ out k = Rewriting (λ j. neg (at out₀ j) ⊘ t) count out₀ k out
+Inv-loop count t out₀ k₀ out k = Rewriting (λ j. neg (at out₀ j) ⊘ t) count out₀ k out
 
 abbrev μ-loop : tie.MeasureT-loop
-μ-loop out₀ count t k₀ out k = count - k
+μ-loop count t out₀ k₀ out k = count - k
 
 loop-again : tie.Need-loop-again Inv-loop μ-loop
 loop-again c =

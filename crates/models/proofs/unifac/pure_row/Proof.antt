@@ -2,7 +2,6 @@
 use Prim.Native.Nat.{_+_, _≤_}
 use native.Mathlib.Omega.{arith}
 use denote.Ref.{now}
-use borrow.Author.Needs.{needs}
 use lib.ListN.{length, getD}
 use Rattle.models.proofs.GroupListLaws.{list-ends, list-paired}
 use Rattle.models.proofs.UnifacLaws.{pure-own}
@@ -17,26 +16,26 @@ ends : (c : tie.After-shared-slice-known6) → let a = entry c .args in let end 
 ends c = list-ends (entry c .args .i) (entry c .pre .0 .listed) (c .before .start-of .ensures)
 
 pure-listed-requires : tie.Need-pure-listed-requires
-pure-listed-requires c κs = let start = (c .before .before .before .before .before .before .before .before .before .before .before) in let fits = start .pre .0 in (list-paired (start .args .i) (fits .listed) ((c .before .before .before .before) .start-of .ensures), fits .fewGroups, fits .sizes, fits .square, start .pre .1)
+pure-listed-requires c κs = let start = c .before .before .before .before .before .before .before .before .before .before .before in let fits = start .pre .0 in (list-paired (start .args .i) (fits .listed) (c .before .before .before .before .start-of .ensures), fits .fewGroups, fits .sizes, fits .square, start .pre .1)
 
 returns : tie.Need-returns
-returns c = let start = (c .before .before .before .before .before .before .before .before .before .before .before .before .before .before) in pure-own (start .args .i) (start .pre .0 .listed) ((c .before .before .before .before .before .before .before) .start-of .ensures) _ _ ((c .before .before) .pure-listed .ensures)
+returns c = let start = c .before .before .before .before .before .before .before .before .before .before .before .before .before .before in pure-own (start .args .i) (start .pre .0 .listed) (c .before .before .before .before .before .before .before .start-of .ensures) _ _ (c .before .before .pure-listed .ensures)
 
 pub pure-row-spec : {M : Type 1} → statement M
 pure-row-spec =
     tie.close
     (tie.spec
-    (λ c κs. (omega (arith, (c .before .before .before .before .before .before) .pre .0 .listed .many), omega (arith, (c .before .before .before .before .before .before) .pre .0 .few)))
-    (λ c. omega (arith, (c .before .before .before .before .before .before .before .before) .pre .0 .listed .many))
-    (λ c. omega (arith, c .shared-slice-known6 .given ((c .before .before .before .before .before .before .before .before) .args .i)))
-    (λ c. omega (arith, ends c, (c .before .before .before .before .before .before .before .before) .good))
-    (λ c. omega (arith, ends c, (c .before .before .before .before .before .before .before .before) .good))
-    (λ c. omega (arith, ends c, (c .before .before .before .before .before .before .before .before) .good))
-    (λ c. omega (arith, ends c, (c .before .before .before .before .before .before .before .before) .good))
-    (λ c. omega (arith, ends (c .before), (c .before .before .before .before .before .before .before .before .before) .good))
-    (λ c. omega (arith, ends (c .before), (c .before .before .before .before .before .before .before .before .before) .good))
-    (λ c. omega (arith, ends (c .before), (c .before .before .before .before .before .before .before .before .before) .good))
-    (λ c. omega (arith, ends (c .before), (c .before .before .before .before .before .before .before .before .before) .good))
+    (λ c κs. (omega (arith, c .before .before .before .before .before .before .pre .0 .listed .many), omega (arith, c .before .before .before .before .before .before .pre .0 .few)))
+    (λ c. omega (arith, c .before .before .before .before .before .before .before .before .pre .0 .listed .many))
+    (λ c. omega (arith, c .shared-slice-known6 .given (c .before .before .before .before .before .before .before .before .args .i)))
+    (λ c. omega (arith, ends c, entry c .good))
+    (λ c. omega (arith, ends c))
+    (λ c. omega (arith, ends c))
+    (λ c. omega (arith, ends c))
+    (λ c. omega (arith, ends (c .before)))
+    (λ c. omega (arith, ends (c .before)))
+    (λ c. omega (arith, ends (c .before)))
+    (λ c. omega (arith, ends (c .before)))
     pure-listed-requires
-    (λ c. (c .before .before) .pure-listed .kept .1 .1 .1 .1 .1 .0)
+    (λ c. c .before .before .pure-listed .kept .1 .1 .1 .1 .1 .0)
     returns)

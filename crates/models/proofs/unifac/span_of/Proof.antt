@@ -1,9 +1,6 @@
 -- A component alone where ln γ or γ is asked, all of them for the excess energy.
-use mathlib.Core.Path.{_≡_, refl, sym, _∙_}
 use native.Mathlib.Omega.{arith}
 use borrow.Author.Needs.{needs}
-use borrow.Author.Tests.{eqb-true}
-use Rattle.models.specs.Answers.{reads}
 use Rattle.models.proofs.AnswerLaws.{index-ln, index-gamma, reads-ln, reads-gamma}
 use Rattle.models.proofs.unifac.span_of.Statement.{statement}
 use Rattle.models.proofs.unifac.span_of.Tie as tie
@@ -13,10 +10,10 @@ span-of-spec =
     tie.close
     (tie.spec
     (λ c. search needs)
-    (λ c. omega (arith, index-ln ((c .before) .q .given .1) ((c .before .before .before) .pre .1)))
+    (λ c. omega (arith, index-ln (c .before .q .given .1) (c .before .before .before .pre .1)))
     (λ c. search needs)
-    (λ c. omega (arith, index-gamma ((c .before) .q2 .given .1) ((c .before .before .before) .pre .1)))
+    (λ c. omega (arith, index-gamma (c .before .q2 .given .1) (c .before .before .before .pre .1)))
     (λ c. search needs)
-    (λ c. (omega (arith, index-ln ((c .before) .q .given .1) ((c .before .before .before) .pre .1)), λ i h r. let e = reads-ln ((c .before) .q .given .1) r in (omega (arith, e), omega (arith, e))))
-    (λ c. (omega (arith, index-gamma ((c .before) .q2 .given .1) ((c .before .before .before) .pre .1)), λ i h r. let e = reads-gamma ((c .before) .q2 .given .1) r in (omega (arith, e), omega (arith, e))))
+    (λ c. (omega (arith, index-ln (c .before .q .given .1) (c .before .before .before .pre .1)), λ i h r. let e = reads-ln (c .before .q .given .1) r in (omega (arith, e), omega (arith, e))))
+    (λ c. (omega (arith, index-gamma (c .before .q2 .given .1) (c .before .before .before .pre .1)), λ i h r. let e = reads-gamma (c .before .q2 .given .1) r in (omega (arith, e), omega (arith, e))))
     (λ c. (omega arith, λ i h r. (omega arith, h))))

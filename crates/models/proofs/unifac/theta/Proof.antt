@@ -18,7 +18,7 @@ abbrev μ-loop : tie.MeasureT-loop
 
 loop-again : tie.Need-loop-again Inv-loop μ-loop
 unfolding Unifac.theta
-loop-again c = filling-more (omega arith) ((c .before .before .before) .loop .inv) (rw ((c .before .before .before .before) .dot .ensures))
+loop-again c = filling-more (omega arith) (c .before .before .before .loop .inv) (rw (c .before .before .before .before .dot .ensures))
 
 pub theta-spec : {M : Type 1} → statement M
 theta-spec =
@@ -37,5 +37,5 @@ theta-spec =
     (λ c. omega arith)
     (λ c. omega arith)
     loop-again
-    (λ c. (c .before) .loop .inv .long)
-    (λ c. filling-done (c .loop-test .left) ((c .before) .loop .inv)))
+    (λ c. c .before .loop .inv .long)
+    (λ c. filling-done (c .loop-test .left) (c .before .loop .inv)))

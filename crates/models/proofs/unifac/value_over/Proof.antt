@@ -2,7 +2,6 @@
 use Prim.Native.Nat.{_+_, _≤_}
 use native.Mathlib.Omega.{arith}
 use denote.Ref.{now}
-use borrow.Author.Needs.{needs}
 use lib.ListN.{length}
 use Rattle.arithmetic.proofs.TableLaws.{from-length}
 use Rattle.models.specs.Values.{countsAt}
@@ -11,18 +10,18 @@ use Rattle.models.proofs.GroupListLaws.{listed-at}
 use Rattle.models.proofs.unifac.value_over.Statement.{statement}
 use Rattle.models.proofs.unifac.value_over.Tie as tie
 
--- Q ends before the counts
-before-counts : (c : tie.Start) → c .args .ng + c .args .ng ≤ length (now (c .args .values))
+-- Q ends before the counts, and these start within the values
+before-counts : (c : tie.Start) → let ng = c .args .ng in (ng + ng ≤ countsAt ng) × (countsAt ng ≤ length (now (c .args .values)))
 unfolding countsAt
-before-counts c = omega (arith, c .pre .0 .tables)
+before-counts c = (omega arith, c .pre .0 .tables)
 
 over-requires : tie.Need-over-requires
 over-requires c κs =
-    let start = (c .before .before .before .before .before .before .before .before .before) in
+    let start = c .before .before .before .before .before .before .before .before .before in
     let pre = start .pre in
     let all = pre .0 in (
       record {
-        listed = listed-at (now (start .args .values)) ((c .before .before) .counts-at .ensures .0) (all .listed);
+        listed = listed-at (now (start .args .values)) (c .before .before .counts-at .ensures .0) (all .listed);
         few = all .few;
         fewGroups = all .fewGroups;
         fractions = pre .3;
@@ -37,20 +36,20 @@ over-requires c κs =
     )
 
 returns : tie.Need-returns
-returns c = let pre = (c .before .before .before .before .before .before .before .before .before .before) .pre in value-from _ _ _ _ _ _ _ _ _ (pre .0) (pre .4) ((c .before .before .before) .counts-at .ensures .0) (c .over .ensures)
+returns c = let pre = c .before .before .before .before .before .before .before .before .before .before .pre in value-from _ _ _ _ _ _ _ _ _ (pre .0) (pre .4) (c .before .before .before .counts-at .ensures .0) (c .over .ensures)
 
 pub value-over-spec : {M : Type 1} → statement M
 value-over-spec =
     tie.close
     (tie.spec
-    (λ c κs. (c .before .before .before .before .before .before) .pre .0 .fewGroups)
-    (λ c. omega (arith, before-counts (c .before .before .before .before .before .before .before), (c .before .before .before .before .before .before .before) .pre .0 .tables, c .counts-at .ensures .0))
-    (λ c. omega (arith, before-counts (c .before .before .before .before .before .before .before), (c .before .before .before .before .before .before .before) .pre .0 .tables, c .counts-at .ensures .0))
-    (λ c. omega (arith, before-counts (c .before .before .before .before .before .before .before), (c .before .before .before .before .before .before .before) .pre .0 .tables, c .counts-at .ensures .0))
-    (λ c. omega (arith, before-counts (c .before .before .before .before .before .before .before), (c .before .before .before .before .before .before .before) .pre .0 .tables, c .counts-at .ensures .0))
-    (λ c. omega (arith, before-counts (c .before .before .before .before .before .before .before .before), (c .before .before .before .before .before .before .before .before) .pre .0 .tables, (c .before) .counts-at .ensures .0))
-    (λ c. omega (arith, before-counts (c .before .before .before .before .before .before .before .before), (c .before .before .before .before .before .before .before .before) .pre .0 .tables, (c .before) .counts-at .ensures .0))
-    (λ c. omega (arith, before-counts (c .before .before .before .before .before .before .before .before), (c .before .before .before .before .before .before .before .before) .pre .0 .tables, (c .before) .counts-at .ensures .0))
-    (λ c. omega (arith, before-counts (c .before .before .before .before .before .before .before .before), (c .before .before .before .before .before .before .before .before) .pre .0 .tables, (c .before) .counts-at .ensures .0))
+    (λ c κs. c .before .before .before .before .before .before .pre .0 .fewGroups)
+    (λ c. omega (arith, before-counts (c .before .before .before .before .before .before .before), c .counts-at .ensures .0))
+    (λ c. omega (arith, before-counts (c .before .before .before .before .before .before .before), c .counts-at .ensures .0))
+    (λ c. omega (arith, before-counts (c .before .before .before .before .before .before .before), c .counts-at .ensures .0))
+    (λ c. omega (arith, before-counts (c .before .before .before .before .before .before .before), c .counts-at .ensures .0))
+    (λ c. omega (arith, before-counts (c .before .before .before .before .before .before .before .before), c .before .counts-at .ensures .0))
+    (λ c. omega (arith, before-counts (c .before .before .before .before .before .before .before .before), c .before .counts-at .ensures .0))
+    (λ c. omega (arith, before-counts (c .before .before .before .before .before .before .before .before), c .before .counts-at .ensures .0))
+    (λ c. omega (arith, before-counts (c .before .before .before .before .before .before .before .before), c .before .counts-at .ensures .0))
     over-requires
     returns)
