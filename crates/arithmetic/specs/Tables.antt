@@ -6,6 +6,8 @@ use Prim.Native.Nat.{ℕ, _+_, _-_, _*_, _/_, _%_, _<_}
 use lib.Dec.{ltb}
 use lib.ListN.{length, getD, take, drop}
 use lib.Ieee.{Float, nan}
+use denote.Ref.{RefT, now}
+use denote.Triple.Both.{Both}
 
 -- numbers by one index, and by two
 abbrev pub Vector : Type 0
@@ -37,6 +39,11 @@ pub record Filled (F : ℕ → Float) (p : ℕ) (g : List Float) : Type 0 where
 -- the first n places as new says, the others as they were
 unfoldable pub upTo : ℕ → Vector → Vector → ℕ → Float
 upTo n new old k = cond (ltb k n) (new k) (old k)
+
+-- each of the first n places of a slice has taken its f
+abbrev pub Taken : (Float → Float) → ℕ → Both (RefT (List Float)) (RefT (List Float)) → Type 0
+Taken f n a =
+    Filled (upTo n (λ k. f (at (now (a .entry)) k)) (at (now (a .entry)))) (length (now (a .entry))) (now (a .exit))
 
 -- a table of rows of n, by its flat places
 unfoldable pub flat : ℕ → Table → ℕ → Float

@@ -52,7 +52,8 @@ pub fn float_at(s: &[u8], at: usize) -> f64
 // Puts the n floats from a place on at the start of a slice.
 pub fn fill_floats(a: &mut [f64], s: &[u8], at: usize, n: usize)
     requires { ⌜ (n ≤ length (now a)) × (at + 8 * n ≤ length (now s)) ⌝ }
-    ensures { λ _. ⌜ (n ≡ length (take n (now (a .exit)))) × (take n (now (a .exit)) ≡ floatsAt (now (s .entry)) at n) ⌝ }
+    ensures { λ _. ⌜ (n ≡ length (take n (now (a .exit))))
+        × (take n (now (a .exit)) ≡ floatsAt (now (s .entry)) at n) ⌝ }
 {
     for k in 0..n {
         a[k] = float_at(s, at + 8 * k);

@@ -10,9 +10,10 @@ ghost use lib.ListN.{length};
 ghost use Rattle.arithmetic.specs.Floats.{two^};
 ghost use Rattle.arithmetic.specs.steps.Nearest.{Easy};
 ghost use Rattle.arithmetic.specs.steps.Nearest.{nearest as Nearest·nearest};
-ghost use Rattle.arithmetic.specs.Tables.{at, Filled, upTo};
+ghost use Rattle.arithmetic.specs.Tables.{at, Taken};
 ghost use Rattle.arithmetic.specs.Exponential.{expOf, highest, lowest};
-ghost use Rattle.arithmetic.specs.Exponential.{exponent as Exp·exponent, correction as Exp·correction, reduced as Exp·reduced, scaled as Exp·scaled};
+ghost use Rattle.arithmetic.specs.Exponential.{exponent as Exp·exponent, correction as Exp·correction};
+ghost use Rattle.arithmetic.specs.Exponential.{reduced as Exp·reduced, scaled as Exp·scaled};
 
 // P1 to P5.
 const P: [f64; 5] = [
@@ -48,7 +49,7 @@ pub fn exp(v: f64) -> f64
 // Puts exp of each of the first n places there; side by side where all are easy.
 pub fn exp_each(a: &mut [f64], n: usize)
     requires { ⌜ n ≤ length (now a) ⌝ }
-    ensures { λ _. ⌜ Filled (upTo n (λ k. expOf (at (now (a .entry)) k)) (at (now (a .entry)))) (length (now (a .entry))) (now (a .exit)) ⌝ }
+    ensures { λ _. ⌜ Taken expOf n a ⌝ }
 {
     if count_hard(a, n) == 0 {
         return each_easy(a, n);
@@ -70,7 +71,7 @@ fn count_hard(a: &[f64], n: usize) -> u64
 
 fn each_easy(a: &mut [f64], n: usize)
     requires { ⌜ (n ≤ length (now a)) × ((k : ℕ) → k < n → Easy (at (now a) k)) ⌝ }
-    ensures { λ _. ⌜ Filled (upTo n (λ k. expOf (at (now (a .entry)) k)) (at (now (a .entry)))) (length (now (a .entry))) (now (a .exit)) ⌝ }
+    ensures { λ _. ⌜ Taken expOf n a ⌝ }
 {
     for k in 0..n {
         a[k] = easy_exp(a[k]);
@@ -79,14 +80,15 @@ fn each_easy(a: &mut [f64], n: usize)
 
 fn each_careful(a: &mut [f64], n: usize)
     requires { ⌜ n ≤ length (now a) ⌝ }
-    ensures { λ _. ⌜ Filled (upTo n (λ k. expOf (at (now (a .entry)) k)) (at (now (a .entry)))) (length (now (a .entry))) (now (a .exit)) ⌝ }
+    ensures { λ _. ⌜ Taken expOf n a ⌝ }
 {
     for k in 0..n {
         a[k] = exp(a[k]);
     }
 }
 
-// 0 where v is easy: from -500 to 500, and v over ln 2 no closer than 2^-30 to the middle between two whole numbers. Else 1.
+// 0 where v is easy: from -500 to 500, and v over ln 2 no closer than 2^-30 to the middle between two whole
+// numbers. Else 1.
 fn hard(v: f64) -> u64
     ensures { λ r. ⌜ (r ≤ 1) × (r ≡ 0 → Easy v) ⌝ }
 {

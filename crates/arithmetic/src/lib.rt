@@ -1,5 +1,5 @@
-// f64 arithmetic for the layers above: exp, log, the temperature-dependent parameter, left folds, floats in bytes.
-// Document 01, "Arithmetic".
+// f64 arithmetic for the layers above: exp, log, the temperature-dependent parameter, left folds, floats in
+// bytes. Document 01, "Arithmetic".
 pub mod bytes;
 pub mod exponential;
 pub mod logarithm;

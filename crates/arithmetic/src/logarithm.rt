@@ -5,7 +5,7 @@ ghost use Prim.Native.Nat.{ℕ, _^_, _≤_, _<_};
 ghost use lib.Dec.{ltb};
 ghost use lib.IntN.{pos};
 ghost use lib.ListN.{length};
-ghost use Rattle.arithmetic.specs.Tables.{at, Filled, upTo};
+ghost use Rattle.arithmetic.specs.Tables.{at, Taken};
 ghost use Rattle.arithmetic.specs.Logarithm.{logOf, logBy};
 ghost use Rattle.arithmetic.specs.Logarithm.{remainder as Log·remainder};
 ghost use Rattle.arithmetic.specs.steps.Digits.{fromDigits, Normal};
@@ -35,7 +35,7 @@ pub fn log(v: f64) -> f64
 // Puts log of each of the first n places there; side by side where all are easy.
 pub fn log_each(a: &mut [f64], n: usize)
     requires { ⌜ n ≤ length (now a) ⌝ }
-    ensures { λ _. ⌜ Filled (upTo n (λ k. logOf (at (now (a .entry)) k)) (at (now (a .entry)))) (length (now (a .entry))) (now (a .exit)) ⌝ }
+    ensures { λ _. ⌜ Taken logOf n a ⌝ }
 {
     if count_hard(a, n) == 0 {
         return each_easy(a, n);
@@ -57,7 +57,7 @@ fn count_hard(a: &[f64], n: usize) -> u64
 
 fn each_easy(a: &mut [f64], n: usize)
     requires { ⌜ (n ≤ length (now a)) × ((k : ℕ) → k < n → Normal (at (now a) k)) ⌝ }
-    ensures { λ _. ⌜ Filled (upTo n (λ k. logOf (at (now (a .entry)) k)) (at (now (a .entry)))) (length (now (a .entry))) (now (a .exit)) ⌝ }
+    ensures { λ _. ⌜ Taken logOf n a ⌝ }
 {
     for k in 0..n {
         a[k] = easy_log(a[k]);
@@ -66,7 +66,7 @@ fn each_easy(a: &mut [f64], n: usize)
 
 fn each_careful(a: &mut [f64], n: usize)
     requires { ⌜ n ≤ length (now a) ⌝ }
-    ensures { λ _. ⌜ Filled (upTo n (λ k. logOf (at (now (a .entry)) k)) (at (now (a .entry)))) (length (now (a .entry))) (now (a .exit)) ⌝ }
+    ensures { λ _. ⌜ Taken logOf n a ⌝ }
 {
     for k in 0..n {
         a[k] = log(a[k]);
@@ -139,7 +139,8 @@ fn from_digits(q: u64, x: u64) -> f64
     log_by(f64::from_bits(q + bias(q)), (x as i32) - shortfall(q))
 }
 
-// The exponent's field over the digits q: that of 1 where they are below M's, else that of 1/2, less the digit that q has.
+// The exponent's field over the digits q: that of 1 where they are below M's, else that of 1/2, less the
+// digit that q has.
 fn bias(q: u64) -> u64
     ensures { λ r. ⌜ r ≡ cond (ltb q 0x16_a09e_0000_0000) 0x3fe0_0000_0000_0000 0x3fd0_0000_0000_0000 ⌝ }
 {

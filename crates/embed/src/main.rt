@@ -1,5 +1,6 @@
-// The module in a Rattle program: lent memory, a head, and the calls in turn. It writes the load's answer, ln γ of acetone in
-// methanol by Wilson, as bits, with the number of cells worked, and then the number of a refusal.
+// The module in a Rattle program: lent memory, a head, and the calls in turn. It writes the load's answer, ln
+// γ of acetone in methanol by Wilson, as bits, with the number of cells worked, and then the number of a
+// refusal.
 use arithmetic::bytes::bits_of;
 use libc::STDOUT_FILENO;
 use mixture::Answer;

@@ -1,5 +1,5 @@
-// A record of the script: twelve words of eight bytes, the lowest first, and three rows: bytes, bytes, and floats of
-// eight bytes each.
+// A record of the script: twelve words of eight bytes, the lowest first, and three rows: bytes, bytes, and
+// floats of eight bytes each.
 ghost use mathlib.Core.Path.{_≡_};
 ghost use mathlib.Core.Bool.{true};
 ghost use Prim.Native.Nat.{_+_, _≤_};
@@ -7,8 +7,8 @@ ghost use lib.ListN.{length};
 ghost use Rattle.histories.specs.Rows.{Fitting};
 use arithmetic::bytes::word_at;
 
-// The kinds. Memory puts its rows in place of the memory. Kind 1, or any other, is a head in place of the one that the
-// last call returned. The rest are the mixture's calls.
+// The kinds. Memory puts its rows in place of the memory. Kind 1, or any other, is a head in place of the one
+// that the last call returned. The rest are the mixture's calls.
 pub const MEMORY: usize = 0;
 
 pub const OPEN: usize = 2;
@@ -21,7 +21,8 @@ pub const FRACTIONS: usize = 5;
 
 pub const QUERY: usize = 6;
 
-// How many places of values, cells and marks are lent; up to five numbers of the call; the lengths of the rows.
+// How many places of values, cells and marks are lent; up to five numbers of the call; the lengths of the
+// rows.
 pub struct Record {
     pub kind: usize,
     pub values: usize,

@@ -1,4 +1,5 @@
 -- The exported calls: a model by its number, 1 Wilson to 4 UNIFAC, and floats in bytes. docs/DECISIONS.md, "Exported byte slices".
+use mathlib.Core.Path.{_≡_}
 use mathlib.Core.Bool.{cond}
 use mathlib.Core.List.{List}
 use Prim.Native.Nat.{ℕ, _%_}
@@ -11,8 +12,9 @@ use Rattle.arithmetic.specs.Bytes.{floats}
 use Rattle.models.specs.declared.answers.Quantity.{Quantity}
 use Rattle.models.specs.declared.answers.Answer.{Answer}
 use Rattle.models.specs.declared.answers.Answer.the-variants.{Value, Refused}
+use Rattle.models.specs.Answers.{numberOf}
 use Rattle.models.specs.Faults.{between}
-use Rattle.models.specs.Model.{modelOf, ModelData}
+use Rattle.models.specs.Model.{modelOf, ModelData, modelData}
 use Rattle.models.specs.Plain.{plainCall}
 
 -- the answer where r bytes of the fractions are left over: 7 in place of a value
@@ -28,7 +30,7 @@ plainRest d T x q = withRest (length x % 8) (plainCall d T (floats x) q)
 unfoldable pub exported : ℕ → ℕ → ℕ → List ℕ → List ℕ → List ℕ → Float → List ℕ → Quantity → Answer
 exported m n ng lens groups values T x q =
     cond (eqb (length values % 8) 0) (cond (between 1 4 m)
-    (plainRest (record { model = modelOf m; n = n; ng = ng; lens = lens; groups = groups; values = floats values }) T x q)
+    (plainRest (modelData (modelOf m) n ng lens groups (floats values)) T x q)
     (Refused 2)) (Refused 2)
 
 -- the same of a call's arguments
@@ -40,3 +42,7 @@ exportedBy m n ng lens groups values T x q =
 unfoldable pub left : Answer → Float → Float
 left (Value v) old = v
 left (Refused k) old = old
+
+-- the number that it answers, and that result
+abbrev pub Gives : Answer → Both (RefT Float) (RefT Float) → ℕ → Type 0
+Gives a value r = (r ≡ numberOf a) × (now (value .exit) ≡ left a (now (value .entry)))

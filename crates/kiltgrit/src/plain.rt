@@ -8,10 +8,10 @@ ghost use lib.Dec.{eqb};
 ghost use lib.ListN.{length};
 ghost use Rattle.arithmetic.specs.Bytes.{floats};
 ghost use Rattle.arithmetic.specs.Sums.{total};
-ghost use Rattle.models.specs.Answers.{numberOf, first};
+ghost use Rattle.models.specs.Answers.{first};
 ghost use Rattle.models.specs.Faults.{indexFault, fractionsFault};
 ghost use Rattle.models.specs.Model.{given};
-ghost use Rattle.kiltgrit.specs.Exports.{plainRest, exportedBy, left};
+ghost use Rattle.kiltgrit.specs.Exports.{plainRest, exportedBy, Gives};
 use arithmetic::bytes;
 use models::Answer;
 use models::Model;
@@ -35,7 +35,8 @@ fn sum_floats(x: &[u8]) -> f64
 
 // 5, 6 and 7 of fractions in bytes.
 fn fractions_fault(n: usize, x: &[u8], q: Quantity) -> u8
-    ensures { λ r. ⌜ (r ≡ first (fractionsFault n (floats (now (x .entry))) q) (cond (eqb (length (now (x .entry)) % 8) 0) 0 7))
+    ensures { λ r. ⌜ (r ≡ first (fractionsFault n (floats (now (x .entry))) q)
+        (cond (eqb (length (now (x .entry)) % 8) 0) 0 7))
         × (r ≡ 0 → (length (now (x .entry)) ≡ 8 * n) × (indexFault n q ≡ 0)) ⌝ }
 {
     if x.len() < 8 {
@@ -120,7 +121,7 @@ fn call(
 
 // The answer's number; its value goes to `value`.
 fn give(a: Answer, value: &mut f64) -> u32
-    ensures { λ r. ⌜ (r ≡ numberOf a) × (now (value .exit) ≡ left a (now (value .entry))) ⌝ }
+    ensures { λ r. ⌜ Gives a value r ⌝ }
 {
     match a {
         Answer::Value(v) => {
@@ -144,8 +145,7 @@ pub extern "C" fn kiltgrit_ln_gamma(
     i: usize,
     value: &mut f64,
 ) -> u32
-    ensures { λ r. ⌜ (r ≡ numberOf (exportedBy model n ng lens groups values t x (Quantity.LnGamma i)))
-        × (now (value .exit) ≡ left (exportedBy model n ng lens groups values t x (Quantity.LnGamma i)) (now (value .entry))) ⌝ }
+    ensures { λ r. ⌜ Gives (exportedBy model n ng lens groups values t x (Quantity.LnGamma i)) value r ⌝ }
 {
     give(
         call(
@@ -176,8 +176,7 @@ pub extern "C" fn kiltgrit_gamma(
     i: usize,
     value: &mut f64,
 ) -> u32
-    ensures { λ r. ⌜ (r ≡ numberOf (exportedBy model n ng lens groups values t x (Quantity.Gamma i)))
-        × (now (value .exit) ≡ left (exportedBy model n ng lens groups values t x (Quantity.Gamma i)) (now (value .entry))) ⌝ }
+    ensures { λ r. ⌜ Gives (exportedBy model n ng lens groups values t x (Quantity.Gamma i)) value r ⌝ }
 {
     give(
         call(model, n, ng, lens, groups, values, t, x, Quantity::Gamma(i)),
@@ -197,8 +196,7 @@ pub extern "C" fn kiltgrit_excess_gibbs(
     x: &[u8],
     value: &mut f64,
 ) -> u32
-    ensures { λ r. ⌜ (r ≡ numberOf (exportedBy model n ng lens groups values t x Quantity.ExcessGibbs))
-        × (now (value .exit) ≡ left (exportedBy model n ng lens groups values t x Quantity.ExcessGibbs) (now (value .entry))) ⌝ }
+    ensures { λ r. ⌜ Gives (exportedBy model n ng lens groups values t x Quantity.ExcessGibbs) value r ⌝ }
 {
     give(
         call(

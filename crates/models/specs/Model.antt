@@ -29,7 +29,9 @@ pub record ModelData : Type 0 where
   pub groups : List ℕ
   pub values : List Float
 
--- the data in a call's arguments
+abbrev pub modelData : Model → ℕ → ℕ → List ℕ → List ℕ → List Float → ModelData
+modelData m n ng lens groups values = record { model = m; n = n; ng = ng; lens = lens; groups = groups; values = values }
+
+-- those in a call's arguments
 abbrev pub given : {A B C : Type 0} → Model → ℕ → ℕ → Both (RefT (List ℕ)) A → Both (RefT (List ℕ)) B → Both (RefT (List Float)) C → ModelData
-given m n ng lens groups values =
-    record { model = m; n = n; ng = ng; lens = now (lens .entry); groups = now (groups .entry); values = now (values .entry) }
+given m n ng lens groups values = modelData m n ng (now (lens .entry)) (now (groups .entry)) (now (values .entry))

@@ -1,5 +1,5 @@
-// UNIFAC's group lists: lens has their lengths; groups and counts stand list after list. A component's own list
-// is a part of both.
+// UNIFAC's group lists: lens has their lengths; groups and counts stand list after list. A component's own
+// list is a part of both.
 ghost use mathlib.Core.Path.{_≡_};
 ghost use Prim.Native.Nat.{_≤_};
 ghost use lib.ListN.{length};

@@ -5,7 +5,7 @@ ghost use Prim.Native.Nat.{_≤_};
 ghost use lib.ListN.{length};
 ghost use Rattle.arithmetic.specs.Tables.{at};
 ghost use Rattle.models.specs.Faults.{indexFault};
-ghost use Rattle.models.specs.Model.{byModel, modelOf, given};
+ghost use Rattle.models.specs.Model.{byModel, modelOf, modelData, given};
 ghost use Rattle.models.specs.Plain.{valueAt, plainCall};
 ghost use Rattle.models.specs.steps.Model.{Ready};
 use crate::answers::Answer;
@@ -82,7 +82,7 @@ pub fn value_at(
     x: &[f64],
     q: Quantity,
 ) -> f64
-    requires { ⌜ Ready (record { model = model; n = n; ng = ng; lens = now lens; groups = now groups; values = now values })
+    requires { ⌜ Ready (modelData model n ng (now lens) (now groups) (now values))
         × (n ≤ length (now x))
         × (indexFault n q ≡ 0) ⌝ }
     ensures { λ r. ⌜ r ≡ valueAt (given model n ng lens groups values) t (at (now (x .entry))) q ⌝ }

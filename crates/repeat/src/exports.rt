@@ -1,5 +1,5 @@
-// For a host that measures: a mixture asked again and again in one call, since a head doesn't cross the C boundary, or the
-// plain call again and again. An f64 stands as eight bytes, lowest first.
+// For a host that measures: a mixture asked again and again in one call, since a head doesn't cross the C
+// boundary, or the plain call again and again. An f64 stands as eight bytes, lowest first.
 ghost use mathlib.Core.Path.{_≡_};
 ghost use Prim.Native.Nat.{_+_, _-_, _*_, _/_, _≤_};
 ghost use lib.ListN.{length};
@@ -7,7 +7,8 @@ ghost use Rattle.mixture.specs.Memory.{before, later, left};
 ghost use Rattle.mixture.specs.Calls.{noHead};
 ghost use Rattle.models.specs.Model.{given as dataGiven};
 ghost use Rattle.models.specs.Plain.{plainCall};
-ghost use Rattle.repeat.specs.Exports.{quantityOf, valueOf, plainValue, settingOf, askedTimes, setTimes, turns, begun};
+ghost use Rattle.repeat.specs.Exports.{quantityOf, valueOf, plainValue, settingOf, askedTimes};
+ghost use Rattle.repeat.specs.Exports.{setTimes, turns, begun};
 ghost use Rattle.repeat.specs.Exports.{zeros, plainTurns, repeated, repeatedBytes, each, howMany};
 use arithmetic::TdParam;
 use arithmetic::bytes;
@@ -96,7 +97,8 @@ fn ask_each(
     q: Quantity,
     times: usize,
 ) -> f64
-    ensures { λ r. ⌜ r ≡ valueOf (askedTimes times q (left (before values cells marks) start) .reply .answer) ⌝ }
+    ensures { λ r. ⌜ r
+        ≡ valueOf (askedTimes times q (left (before values cells marks) start) .reply .answer) ⌝ }
 {
     let mut last = start;
     for _ in 0..times {
@@ -122,7 +124,8 @@ fn set_each(
 ) -> Reply
     requires { ⌜ (from ≤ to) × (8 * to ≤ length (now temperatures)) ⌝ }
     ensures { λ r. ⌜ left (later values cells marks) r
-        ≡ setTimes (to - from) change model v q (λ k. each temperatures (from + k)) (left (before values cells marks) start) ⌝ }
+        ≡ setTimes (to - from) change model v q (λ k. each temperatures (from + k))
+        (left (before values cells marks) start) ⌝ }
 {
     let mut head = start.head;
     let mut answer = start.answer;
@@ -140,7 +143,8 @@ fn set_each(
     }
 }
 
-// The first turn sets T and asks; the others ask, after the change's setting where there is one. The last value.
+// The first turn sets T and asks; the others ask, after the change's setting where there is one. The last
+// value.
 fn keep(
     values: &mut [f64],
     cells: &mut [f64],
@@ -234,7 +238,8 @@ fn plain_at(
     x: &[f64],
     q: Quantity,
 ) -> f64
-    ensures { λ r. ⌜ r ≡ plainValue (plainCall (dataGiven model n ng lens groups given) t (now (x .entry)) q) ⌝ }
+    ensures { λ r. ⌜ r
+        ≡ plainValue (plainCall (dataGiven model n ng lens groups given) t (now (x .entry)) q) ⌝ }
 {
     plain_value(plain(model, n, ng, lens, groups, given, t, x, q))
 }
@@ -251,7 +256,8 @@ fn plain_each(
     x: &[f64],
     q: Quantity,
 ) -> f64
-    ensures { λ r. ⌜ r ≡ plainTurns (howMany temperatures) (dataGiven model n ng lens groups given) (now (x .entry)) q
+    ensures { λ r. ⌜ r
+        ≡ plainTurns (howMany temperatures) (dataGiven model n ng lens groups given) (now (x .entry)) q
         (each temperatures) ⌝ }
 {
     let mut last = 0.0;
@@ -310,10 +316,11 @@ fn kept(
     )
 }
 
-// The last value over the temperatures; 0 where there are more values or fractions than any model has, or no temperature, or the last
-// query or plain call is refused. The first turn sets T and asks. The change says what each later turn sets before it asks: 0, nothing;
-// 2, T; 3, no mixture at all, but the plain call in every turn, the first too; any other, entry 0, 1 (UNIFAC's td entry, with a alone)
-// set to v. Bytes past the last whole eight are passed over.
+// The last value over the temperatures; 0 where there are more values or fractions than any model has, or no
+// temperature, or the last query or plain call is refused. The first turn sets T and asks. The change says
+// what each later turn sets before it asks: 0, nothing; 2, T; 3, no mixture at all, but the plain call in
+// every turn, the first too; any other, entry 0, 1 (UNIFAC's td entry, with a alone) set to v. Bytes past the
+// last whole eight are passed over.
 #[no_mangle]
 pub extern "C" fn kiltgrit_repeat(
     model: u8,
@@ -329,7 +336,8 @@ pub extern "C" fn kiltgrit_repeat(
     v: f64,
     temperatures: &[u8],
 ) -> f64
-    ensures { λ r. ⌜ r ≡ repeatedBytes model n ng (now (lens .entry)) (now (groups .entry)) (now (values .entry))
+    ensures { λ r. ⌜ r
+        ≡ repeatedBytes model n ng (now (lens .entry)) (now (groups .entry)) (now (values .entry))
         (now (x .entry)) asked i change v (now (temperatures .entry)) ⌝ }
 {
     let count = values.len() / 8;
@@ -377,7 +385,8 @@ fn repeat(
     temperatures: &[u8],
 ) -> f64
     requires { ⌜ 8 ≤ length (now temperatures) ⌝ }
-    ensures { λ r. ⌜ r ≡ repeated (howMany temperatures) (dataGiven model n ng lens groups given) (now (x .entry)) q change v
+    ensures { λ r. ⌜ r
+        ≡ repeated (howMany temperatures) (dataGiven model n ng lens groups given) (now (x .entry)) q change v
         (each temperatures) ⌝ }
 {
     if change == 3 {

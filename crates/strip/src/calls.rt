@@ -41,8 +41,8 @@ fn quantity_of(i: usize, j: usize) -> Quantity
     }
 }
 
-// Makes a record's load; one that doesn't fit is declined with 2. A strip has at most 8,191 floats and, of 12 bytes each, 5,461
-// kinds 13: the buffers hold those of any load.
+// Makes a record's load; one that doesn't fit is declined with 2. A strip has at most 8,191 floats and, of 12
+// bytes each, 5,461 kinds 13: the buffers hold those of any load.
 fn load(s: &[u8], r: Rec, values: &mut [f64], cells: &[f64], marks: &mut [u8], head: Head) -> Reply
     ensures { λ o. ⌜ left (later values cells marks) o
         ≡ made (now (s .entry)) r (before values cells marks) head (Load (dataOf (now (s .entry)) r)) ⌝ }

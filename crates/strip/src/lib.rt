@@ -1,4 +1,5 @@
-// A strip of 32-bit words: records, the calls that they make, and a line for each. Document 01, "Strip and program".
+// A strip of 32-bit words: records, the calls that they make, and a line for each. Document 01, "Strip and
+// program".
 mod calls;
 mod lists;
 mod records;

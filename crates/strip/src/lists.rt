@@ -103,8 +103,8 @@ fn store_float(a: &mut [f64], k: usize, m: usize, v: f64)
     }
 }
 
-// Stores the lengths of n lists in `lens`, their groups in `groups`, and their counts in `a` from place k on, as far as there is
-// room, up to the first word that is missing.
+// Stores the lengths of n lists in `lens`, their groups in `groups`, and their counts in `a` from place k on,
+// as far as there is room, up to the first word that is missing.
 pub fn fill_lists(
     lens: &mut [u8],
     groups: &mut [u8],

@@ -14,8 +14,8 @@ use crate::words::kind_of;
 use crate::words::rest_of;
 use arithmetic::bytes::word_at;
 
-// Whether the fields i and j are as the kind has them, how many floats follow the head word, and how many lists follow
-// these.
+// Whether the fields i and j are as the kind has them, how many floats follow the head word, and how many
+// lists follow these.
 pub struct Shape {
     pub formed: bool,
     pub floats: usize,

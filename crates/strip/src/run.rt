@@ -15,7 +15,8 @@ use mixture::faults::CELLS;
 use mixture::faults::MARKS;
 use mixture::faults::VALUES;
 
-// A line for each record, and `broken` at the first that is malformed or cut; of an over-long strip only that.
+// A line for each record, and `broken` at the first that is malformed or cut; of an over-long strip only
+// that.
 fn walk(
     s: &[u8],
     values: &mut [f64],
@@ -24,7 +25,8 @@ fn walk(
     head: Head,
     out: &mut [u8],
 ) -> usize
-    ensures { λ r. ⌜ Put (now (out .entry)) 0 (walked (now (s .entry)) (before values cells marks) head) r (now (out .exit))
+    ensures { λ r. ⌜ Put (now (out .entry)) 0 (walked (now (s .entry)) (before values cells marks) head) r
+        (now (out .exit))
         × (r ≤ mostText) ⌝ }
 {
     if MOST_BYTES < s.len() {

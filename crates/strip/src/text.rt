@@ -1,5 +1,5 @@
-// Lines. Where a text runs past the end of the buffer, that part of it is not written. Each function answers how long its
-// text is.
+// Lines. Where a text runs past the end of the buffer, that part of it is not written. Each function answers
+// how long its text is.
 ghost use Prim.Native.Nat.{_≤_};
 ghost use Rattle.strip.specs.Text.{Put, decimal, valueText, line};
 use mixture::Answer;
