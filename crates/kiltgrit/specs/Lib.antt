@@ -1,1 +1,5 @@
+pub mod Arguments
+pub mod Border
+pub mod Unknown
+pub mod Host
 pub mod Exports

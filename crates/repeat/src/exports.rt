@@ -1,5 +1,5 @@
-// For a host that measures: a mixture asked again and again in one call, since a head doesn't cross the C
-// boundary, or the plain call again and again. An f64 stands as eight bytes, lowest first.
+// For a host that measures: a mixture asked again and again in one call, without the price of the C boundary,
+// or the plain call again and again. An f64 stands as eight bytes, lowest first.
 ghost use mathlib.Core.Path.{_≡_};
 ghost use Prim.Native.Nat.{_+_, _-_, _*_, _/_, _≤_};
 ghost use lib.ListN.{length};

@@ -1,0 +1,55 @@
+/* The kept mixture in a C program: examples/acetone-methanol.charge, answered in the words of the program charge.
+ *
+ *     rt staticlib kiltgrit
+ *     gcc -std=c11 -O2 -Iinclude examples/embed.c target/staticlib/libkiltgrit.a -o target/embed_c && target/embed_c
+ *
+ * Its lines are those of `examples/run --strip examples/acetone-methanol.charge | target/bin/charge`. It is C++ too. */
+#include "kiltgrit.h"
+
+#include <inttypes.h>
+#include <stdio.h>
+#include <string.h>
+
+static kiltgrit_mixture still;
+
+static void said(kiltgrit_refusal r) {
+    if (r == KILTGRIT_OK)
+        puts("ok");
+    else
+        printf("refused %d\n", (int)r);
+}
+
+static void ask(kiltgrit_asked asked, size_t i) {
+    double value;
+    kiltgrit_counts counts;
+    uint64_t bits;
+    const kiltgrit_refusal r = kiltgrit_query(&still, asked, i, &value, &counts);
+    if (r != KILTGRIT_OK) {
+        said(r);
+        return;
+    }
+    memcpy(&bits, &value, sizeof bits);
+    if (value != value)
+        printf("nan %zu\n", counts.cells_worked);
+    else
+        printf("%016" PRIx64 " %zu\n", bits, counts.cells_worked);
+}
+
+int main(void) {
+    /* energies by rows in kelvin, then the molar volumes */
+    const double given[KILTGRIT_WILSON_VALUES(2)] = {0.0, -161.88 / 1.987204, 583.11 / 1.987204, 0.0, 74.05, 40.73};
+    const double x[3][2] = {{0.78, 0.22}, {0.01, 0.99}, {0.99, 0.01}};
+    memset(&still, 0xA5, sizeof still); /* whatever it held */
+    if (kiltgrit_open(&still) != KILTGRIT_OK) return 1;
+    said(kiltgrit_load(&still, KILTGRIT_WILSON, 2, given, KILTGRIT_WILSON_VALUES(2)));
+    said(kiltgrit_set(&still, kiltgrit_temperature(328.7)));
+    for (size_t k = 0; k < 3; k++) {
+        said(kiltgrit_fractions(&still, x[k], 2));
+        for (size_t i = 0; i < 2; i++) {
+            ask(KILTGRIT_LN_GAMMA, i);
+            ask(KILTGRIT_GAMMA, i);
+        }
+        ask(KILTGRIT_EXCESS_GIBBS, 0);
+    }
+    return 0;
+}

@@ -1,0 +1,204 @@
+/* kiltgrit.h: the kept mixture of solvent-recovery stills, for C11 and C++11 on x86-64 Linux. Link libkiltgrit.a.
+ *
+ * Memory     No heap, no file, no global that is written, no callback. The mixture is the caller's: one kiltgrit_mixture,
+ *            static or on a stack, with any content before kiltgrit_open.
+ * Threads    Calls on different mixtures may run at once. Calls on one mixture must not overlap.
+ * Answers    Every call returns for every argument. A refused call has changed nothing and says why.
+ * Floats     IEEE 754, round to nearest even, subnormals kept: leave MXCSR as the system sets it (no -ffast-math at
+ *            the link, no fesetround). A NaN's sign and payload are unspecified.
+ * Trusted    kiltgrit_mixture_* are proved, each by one equation over the mixture's own definitions. The inline functions
+ *            below, which hand them the mixture's parts, are not.
+ */
+#ifndef KILTGRIT_H
+#define KILTGRIT_H
+
+#include <stddef.h>
+#include <stdint.h>
+
+#ifdef __cplusplus
+extern "C" {
+#define KILTGRIT_STATIC_ASSERT(c, why) static_assert(c, why)
+#else
+#define KILTGRIT_STATIC_ASSERT(c, why) _Static_assert(c, why)
+#endif
+
+#define KILTGRIT_VERSION_MAJOR 1
+#define KILTGRIT_VERSION_MINOR 0
+#define KILTGRIT_VERSION_PATCH 0
+
+/* ---- sizes; cells and marks have room for what later versions lend */
+#define KILTGRIT_MAX_COMPONENTS 12
+#define KILTGRIT_MAX_GROUPS 32
+#define KILTGRIT_MAX_LIST 12
+#define KILTGRIT_VALUES 5328
+#define KILTGRIT_CELLS 1408
+#define KILTGRIT_MARKS 1036
+
+/* How many values a load takes. */
+#define KILTGRIT_WILSON_VALUES(n) ((n) * (n) + (n))                                /* a by rows, V */
+#define KILTGRIT_UNIQUAC_VALUES(n) ((n) * (n) + 2 * (n))                           /* a by rows, r, q */
+#define KILTGRIT_NRTL_VALUES(n) (6 * (n) * (n))                                    /* tau by rows, five each; alpha by rows */
+#define KILTGRIT_UNIFAC_VALUES(ng, listed) (2 * (ng) + 5 * (ng) * (ng) + (listed)) /* R, Q, a by rows, five each; counts */
+
+/* ---- what a call answers */
+typedef enum kiltgrit_refusal {
+    KILTGRIT_OK = 0,
+    KILTGRIT_BAD_MEMORY = 1,     /* a lent slice is short, or the head is out of range */
+    KILTGRIT_BAD_SHAPE = 2,      /* no such model; components, groups, a list or a slice's length out of range */
+    KILTGRIT_NO_GROUP = 3,
+    KILTGRIT_NEGATIVE_COUNT = 4,
+    KILTGRIT_NO_FRACTIONS = 5,
+    KILTGRIT_BAD_SUM = 6,        /* the fractions add up to something off 1 by more than 1e-6 */
+    KILTGRIT_NO_COMPONENT = 7,   /* not as many fractions as components, no such component, or no such quantity */
+    KILTGRIT_NO_MODEL = 8,
+    KILTGRIT_NOT_SET = 9,        /* temperature or fractions */
+    KILTGRIT_NO_PARAMETER = 10   /* this model has no such parameter, or no such kind of setting */
+} kiltgrit_refusal;
+
+typedef enum kiltgrit_model { KILTGRIT_WILSON = 1, KILTGRIT_UNIQUAC = 2, KILTGRIT_NRTL = 3, KILTGRIT_UNIFAC = 4 } kiltgrit_model;
+
+typedef enum kiltgrit_asked { KILTGRIT_LN_GAMMA = 0, KILTGRIT_GAMMA = 1, KILTGRIT_EXCESS_GIBBS = 2 } kiltgrit_asked;
+
+/* ---- what crosses by value. The fields are the library's: read none, write none.
+ * The head has the order and the offsets of the library's own. Flags are bytes, set where they are 1. form, changes and
+ * tolerance are kept for later versions: written 0 and not read, as the unused bytes. */
+typedef struct kiltgrit_head {
+    uint8_t model, form, unused[6];
+    size_t n, ng;
+    uint8_t lens[KILTGRIT_MAX_COMPONENTS], groups[KILTGRIT_MAX_COMPONENTS * KILTGRIT_MAX_LIST];
+    uint32_t changes;
+    double t, x[KILTGRIT_MAX_COMPONENTS];
+    uint8_t has_t, has_x, also_unused[6];
+    double tolerance;
+} kiltgrit_head;
+
+/* A refusal has the head as it came, its number, and 0 in the other fields. */
+typedef struct kiltgrit_reply {
+    kiltgrit_head head;
+    double value;
+    size_t cells_worked, renewed;
+    uint32_t refused, unused;
+} kiltgrit_reply;
+
+/* Of a call that leaves the head: the value and the exponentials that were worked out. */
+typedef struct kiltgrit_answer {
+    double value;
+    size_t cells_worked, renewed;
+    uint32_t refused, unused;
+} kiltgrit_answer;
+
+typedef struct kiltgrit_counts {
+    size_t cells_worked, renewed; /* renewed is kept for later: 0 */
+} kiltgrit_counts;
+
+/* A setting; kiltgrit_temperature, _entry, _td, _size and _count below make one. */
+typedef struct kiltgrit_setting {
+    double v[5];
+    size_t i, j;
+    uint32_t kind, unused;
+} kiltgrit_setting;
+
+KILTGRIT_STATIC_ASSERT(sizeof(size_t) == 8 && sizeof(double) == 8, "64-bit words");
+KILTGRIT_STATIC_ASSERT(sizeof(kiltgrit_head) == 304, "the head as the library has it");
+KILTGRIT_STATIC_ASSERT(offsetof(kiltgrit_head, changes) == 180 && offsetof(kiltgrit_head, has_t) == 288, "no padding");
+KILTGRIT_STATIC_ASSERT(sizeof(kiltgrit_reply) == 336, "the reply as the library has it");
+KILTGRIT_STATIC_ASSERT(sizeof(kiltgrit_answer) == 32, "the answer as the library has it");
+KILTGRIT_STATIC_ASSERT(sizeof(kiltgrit_setting) == 64, "the setting as the library has it");
+
+/* ---- the raw calls. A slice is a pointer, never NULL, and how many. A slice that is written overlaps no other. */
+kiltgrit_reply kiltgrit_mixture_open(const double *values, size_t values_len, const double *cells, size_t cells_len,
+                                     const uint8_t *marks, size_t marks_len, kiltgrit_head head);
+kiltgrit_reply kiltgrit_mixture_load(double *values, size_t values_len, const double *cells, size_t cells_len,
+                                     uint8_t *marks, size_t marks_len, kiltgrit_head head, uint32_t model,
+                                     uint32_t form /* kept for later: 0 */, size_t n, size_t ng, const uint8_t *lens, size_t lens_len, const uint8_t *groups,
+                                     size_t groups_len, const double *given, size_t given_len);
+kiltgrit_reply kiltgrit_mixture_set(double *values, size_t values_len, const double *cells, size_t cells_len,
+                                    uint8_t *marks, size_t marks_len, kiltgrit_head head, kiltgrit_setting s);
+kiltgrit_reply kiltgrit_mixture_fractions(const double *values, size_t values_len, const double *cells, size_t cells_len,
+                                          const uint8_t *marks, size_t marks_len, kiltgrit_head head, const double *x,
+                                          size_t x_len);
+kiltgrit_answer kiltgrit_mixture_query(const double *values, size_t values_len, double *cells, size_t cells_len,
+                                       uint8_t *marks, size_t marks_len, kiltgrit_head head, uint32_t asked, size_t i);
+
+/* ---- the mixture as one object */
+typedef struct kiltgrit_mixture {
+    double values[KILTGRIT_VALUES], cells[KILTGRIT_CELLS];
+    kiltgrit_head head;
+    uint8_t marks[KILTGRIT_MARKS], unused[4];
+} kiltgrit_mixture;
+KILTGRIT_STATIC_ASSERT(sizeof(kiltgrit_mixture) == 55232, "the mixture");
+#define KILTGRIT_LENT_(m) (m)->values, KILTGRIT_VALUES, (m)->cells, KILTGRIT_CELLS, (m)->marks, KILTGRIT_MARKS
+
+static inline kiltgrit_refusal kiltgrit_took_(kiltgrit_mixture *m, const kiltgrit_reply *r) {
+    m->head = r->head;
+    return (kiltgrit_refusal)r->refused;
+}
+
+/* Whatever the memory holds, m is then a mixture with no model. */
+static inline kiltgrit_refusal kiltgrit_open(kiltgrit_mixture *m) {
+    const kiltgrit_reply r = kiltgrit_mixture_open(KILTGRIT_LENT_(m), m->head);
+    return kiltgrit_took_(m, &r);
+}
+
+/* Wilson, UNIQUAC or NRTL. */
+static inline kiltgrit_refusal kiltgrit_load(kiltgrit_mixture *m, kiltgrit_model model, size_t n, const double *given,
+                                             size_t given_len) {
+    const uint8_t none = 0;
+    const kiltgrit_reply r =
+        kiltgrit_mixture_load(KILTGRIT_LENT_(m), m->head, (uint32_t)model, 0, n, 0, &none, 0, &none, 0, given, given_len);
+    return kiltgrit_took_(m, &r);
+}
+
+/* UNIFAC: lens[i] groups of component i stand in `groups`, list after list; their counts end `given`. */
+static inline kiltgrit_refusal kiltgrit_load_unifac(kiltgrit_mixture *m, size_t n, size_t ng, const uint8_t *lens,
+                                                    const uint8_t *groups, size_t listed, const double *given,
+                                                    size_t given_len) {
+    const kiltgrit_reply r =
+        kiltgrit_mixture_load(KILTGRIT_LENT_(m), m->head, KILTGRIT_UNIFAC, 0, n, ng, lens, n, groups, listed, given, given_len);
+    return kiltgrit_took_(m, &r);
+}
+
+static inline kiltgrit_setting kiltgrit_setting_(uint32_t kind, size_t i, size_t j, double v) {
+    const kiltgrit_setting s = {{v, 0.0, 0.0, 0.0, 0.0}, i, j, kind, 0};
+    return s;
+}
+static inline kiltgrit_setting kiltgrit_temperature(double kelvin) { return kiltgrit_setting_(5, 0, 0, kelvin); }
+/* a_ij in kelvin, or NRTL's alpha_ij (one way) */
+static inline kiltgrit_setting kiltgrit_entry(size_t i, size_t j, double v) { return kiltgrit_setting_(7, i, j, v); }
+/* NRTL's tau_ij or UNIFAC's a_mn: a + b/T + c log T + d T + e/T^2 */
+static inline kiltgrit_setting kiltgrit_td(size_t i, size_t j, double a, double b, double c, double d, double e) {
+    const kiltgrit_setting s = {{a, b, c, d, e}, i, j, 8, 0};
+    return s;
+}
+/* which: 0 for V, r or R, 1 for q or Q */
+static inline kiltgrit_setting kiltgrit_size(size_t i, size_t which, double v) { return kiltgrit_setting_(9, i, which, v); }
+static inline kiltgrit_setting kiltgrit_count(size_t i, size_t place, double v) { return kiltgrit_setting_(10, i, place, v); }
+
+static inline kiltgrit_refusal kiltgrit_set(kiltgrit_mixture *m, kiltgrit_setting s) {
+    const kiltgrit_reply r = kiltgrit_mixture_set(KILTGRIT_LENT_(m), m->head, s);
+    return kiltgrit_took_(m, &r);
+}
+
+static inline kiltgrit_refusal kiltgrit_fractions(kiltgrit_mixture *m, const double *x, size_t n) {
+    const kiltgrit_reply r = kiltgrit_mixture_fractions(KILTGRIT_LENT_(m), m->head, x, n);
+    return kiltgrit_took_(m, &r);
+}
+
+/* *value, and *counts unless that is NULL, are written only where KILTGRIT_OK is returned. i doesn't count for the excess energy. */
+static inline kiltgrit_refusal kiltgrit_query(kiltgrit_mixture *m, kiltgrit_asked asked, size_t i, double *value,
+                                              kiltgrit_counts *counts) {
+    const kiltgrit_answer a = kiltgrit_mixture_query(KILTGRIT_LENT_(m), m->head, (uint32_t)asked, i);
+    if (a.refused == KILTGRIT_OK) {
+        *value = a.value;
+        if (counts) {
+            counts->cells_worked = a.cells_worked;
+            counts->renewed = a.renewed;
+        }
+    }
+    return (kiltgrit_refusal)a.refused;
+}
+
+#ifdef __cplusplus
+}
+#endif
+#endif
