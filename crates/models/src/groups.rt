@@ -102,7 +102,7 @@ fn amounts(n: usize, lens: &[u8], groups: &[u8], counts: &[f64], x: &[f64], num:
 }
 
 // Writes the first ng numbers over d.
-fn over(ng: usize, num: &[f64], d: f64, out: &mut [f64])
+fn divide(ng: usize, num: &[f64], d: f64, out: &mut [f64])
     requires { ⌜ (ng ≤ length (now num)) × (ng ≤ length (now out)) ⌝ }
     ensures { λ _. ⌜ Filled (λ k. vectorOf num k ⊘ d) ng (now (out .exit)) ⌝ }
 {
@@ -129,7 +129,7 @@ pub fn group_fractions(
     let mut num = [0.0; GROUPS];
     let denom = amounts(n, lens, groups, counts, x, &mut num[..]);
     if denom > 0.0 {
-        over(ng, &num[..], denom, xg);
+        divide(ng, &num[..], denom, xg);
     }
 }
 
@@ -142,7 +142,7 @@ pub fn group_fractions_pure(ng: usize, list: &[u8], counts: &[f64], xg: &mut [f6
 {
     let mut num = [0.0; GROUPS];
     put_counts(list, counts, &mut num[..]);
-    over(ng, &num[..], arithmetic::sum(counts), xg);
+    divide(ng, &num[..], arithmetic::sum(counts), xg);
 }
 
 // The sum of count·(m - p) over a list: m has ln Γ in the mixture, p in the pure component.

@@ -382,7 +382,7 @@ fn excess_gibbs(
 }
 
 // The quantity from the sizes R and Q, the counts, a table of exponentials and one of pure ln Γ.
-fn over(
+fn value_from(
     n: usize,
     ng: usize,
     lens: &[u8],
@@ -442,7 +442,7 @@ pub fn value_over(
         (tableOf ng psi) (tableOf ng pure) (vectorOf x) q ⌝ }
 {
     let place = crate::groups::counts_at(ng);
-    over(
+    value_from(
         n,
         ng,
         lens,

@@ -12,7 +12,7 @@ amounts-requires c κs = let pre = c .before .before .before .before .before .be
 returns : tie.Need-returns
 returns c =
     let sum = c .before .before .before .before .before .before .before in
-    fraction-over _ _ _ _ 32 (sum .amounts .ensures .0) (c .before .before .before .before .before .if1 .taken) (c .before .before .before .before .before .before .before .before .before .before .before .before .before .before .pre .0 .fewGroups) (sum .amounts .ensures .1) (c .before .before .over .ensures)
+    fraction-over _ _ _ _ 32 (sum .amounts .ensures .0) (c .before .before .before .before .before .if1 .taken) (c .before .before .before .before .before .before .before .before .before .before .before .before .before .before .pre .0 .fewGroups) (sum .amounts .ensures .1) (c .before .before .divide .ensures)
 
 returns-2 : tie.Need-returns-2
 returns-2 c = fraction-none _ _ _ _ (c .before .before .amounts .ensures .0) (c .if1 .left) (c .before .before .before .before .before .before .before .before .before .pre .2)
@@ -25,6 +25,6 @@ group-fractions-spec =
     amounts-requires
     (λ c. search needs)
     (λ c κs. (omega (arith, c .before .before .before .before .before .before .before .before .before .before .before .pre .0 .fewGroups, c .before .before .before .before .amounts .kept .1 .1 .1 .1 .1 .0), c .before .before .before .before .before .before .before .before .before .before .before .pre .1))
-    (λ c. c .before .before .over .kept .1 .1 .1 .0)
+    (λ c. c .before .before .divide .kept .1 .1 .1 .0)
     returns
     returns-2)

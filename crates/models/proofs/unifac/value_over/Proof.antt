@@ -15,8 +15,8 @@ before-counts : (c : tie.Start) → let ng = c .args .ng in (ng + ng ≤ countsA
 unfolding countsAt
 before-counts c = (omega arith, c .pre .0 .tables)
 
-over-requires : tie.Need-over-requires
-over-requires c κs =
+value-from-requires : tie.Need-value-from-requires
+value-from-requires c κs =
     let start = c .before .before .before .before .before .before .before .before .before in
     let pre = start .pre in
     let all = pre .0 in (
@@ -36,7 +36,7 @@ over-requires c κs =
     )
 
 returns : tie.Need-returns
-returns c = let pre = c .before .before .before .before .before .before .before .before .before .before .pre in value-from _ _ _ _ _ _ _ _ _ (pre .0) (pre .4) (c .before .before .before .counts-at .ensures .0) (c .over .ensures)
+returns c = let pre = c .before .before .before .before .before .before .before .before .before .before .pre in value-from _ _ _ _ _ _ _ _ _ (pre .0) (pre .4) (c .before .before .before .counts-at .ensures .0) (c .value-from .ensures)
 
 pub value-over-spec : {M : Type 1} → statement M
 value-over-spec =
@@ -51,5 +51,5 @@ value-over-spec =
     (λ c. omega (arith, before-counts (c .before .before .before .before .before .before .before .before), c .before .counts-at .ensures .0))
     (λ c. omega (arith, before-counts (c .before .before .before .before .before .before .before .before), c .before .counts-at .ensures .0))
     (λ c. omega (arith, before-counts (c .before .before .before .before .before .before .before .before), c .before .counts-at .ensures .0))
-    over-requires
+    value-from-requires
     returns)

@@ -6,8 +6,8 @@ use lib.ListN.{length}
 use Rattle.arithmetic.specs.Tables.{at}
 use Rattle.arithmetic.specs.Floats.{_⊘_}
 use Rattle.arithmetic.proofs.TableLaws.{Filling, filling-none, filling-more, filling-done}
-use Rattle.models.proofs.groups.over.Statement.{statement}
-use Rattle.models.proofs.groups.over.Tie as tie
+use Rattle.models.proofs.groups.divide.Statement.{statement}
+use Rattle.models.proofs.groups.divide.Tie as tie
 
 abbrev Inv-loop : tie.InvT-loop
 Inv-loop ng num d out₀ g₀ out g = Filling (λ k. at num k ⊘ d) ng (length out₀) g out
@@ -18,8 +18,8 @@ abbrev μ-loop : tie.MeasureT-loop
 loop-again : tie.Need-loop-again Inv-loop μ-loop
 loop-again c = filling-more (omega arith) (c .before .before .loop .inv) refl
 
-pub over-spec : {M : Type 1} → statement M
-over-spec =
+pub divide-spec : {M : Type 1} → statement M
+divide-spec =
     tie.close
     (tie.spec
     Inv-loop

@@ -11,8 +11,8 @@ use Rattle.models.proofs.GroupListLaws.{listed-less, listed-wider}
 use Rattle.models.proofs.UnifacLaws.{listed-same, ln-from, unifac-ln, unifac-gamma, unifac-excess}
 use mathlib.Core.List.{List}
 use lib.Ieee.{Float}
-use Rattle.models.proofs.unifac.over.Statement.{statement}
-use Rattle.models.proofs.unifac.over.Tie as tie
+use Rattle.models.proofs.unifac.value_from.Statement.{statement}
+use Rattle.models.proofs.unifac.value_from.Tie as tie
 
 grouped : (c : tie.Start) {theta : List Float} → length theta ≡ 32 → Grouped (c .args .ng) (now (c .args .q)) theta (now (c .args .psi))
 grouped c long = let pre = c .pre in record { few = pre .0 .fewGroups; sizes = pre .1 .qs; thetas = omega (arith, pre .0 .fewGroups, long); square = pre .1 .square }
@@ -57,8 +57,8 @@ returns-3 c =
     let pre = c .before .before .before .before .before .before .before .before .before .before .before .before .before .before .before .before .pre in
     unifac-excess _ _ _ _ _ _ _ _ (c .before .before .before .before .before .before .before .share .ensures) (c .before .before .before .before .before .theta-mixed .ensures) (listed-same (pre .0 .listed)) (c .before .before .enum-told .given .1) (pre .2) (c .excess-gibbs .ensures)
 
-pub over-spec : {M : Type 1} → statement M
-over-spec =
+pub value-from-spec : {M : Type 1} → statement M
+value-from-spec =
     tie.close
     (tie.spec
     share-requires
