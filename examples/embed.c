@@ -12,6 +12,9 @@
 
 static kiltgrit_mixture still;
 
+/* energies by rows in kelvin, then the molar volumes */
+static const double given[KILTGRIT_WILSON_VALUES(2)] = {0.0, -161.88 / 1.987204, 583.11 / 1.987204, 0.0, 74.05, 40.73};
+
 static void said(kiltgrit_refusal r) {
     if (r == KILTGRIT_OK)
         puts("ok");
@@ -19,8 +22,9 @@ static void said(kiltgrit_refusal r) {
         printf("refused %d\n", (int)r);
 }
 
-static void ask(kiltgrit_asked asked, size_t i) {
-    double value;
+/* A query of the mixture, and the plain call, which keeps nothing and gives the same bits. */
+static void ask(kiltgrit_asked asked, size_t i, const double *x) {
+    double value, plain;
     kiltgrit_counts counts;
     uint64_t bits;
     const kiltgrit_refusal r = kiltgrit_query(&still, asked, i, &value, &counts);
@@ -28,6 +32,9 @@ static void ask(kiltgrit_asked asked, size_t i) {
         said(r);
         return;
     }
+    if (kiltgrit_value_at(KILTGRIT_WILSON, 2, given, KILTGRIT_WILSON_VALUES(2), 328.7, x, asked, i, &plain) != KILTGRIT_OK ||
+        memcmp(&plain, &value, sizeof plain) != 0)
+        puts("the plain call differs");
     memcpy(&bits, &value, sizeof bits);
     if (value != value)
         printf("nan %zu\n", counts.cells_worked);
@@ -36,9 +43,11 @@ static void ask(kiltgrit_asked asked, size_t i) {
 }
 
 int main(void) {
-    /* energies by rows in kelvin, then the molar volumes */
-    const double given[KILTGRIT_WILSON_VALUES(2)] = {0.0, -161.88 / 1.987204, 583.11 / 1.987204, 0.0, 74.05, 40.73};
     const double x[3][2] = {{0.78, 0.22}, {0.01, 0.99}, {0.99, 0.01}};
+    if (!kiltgrit_floats_ok()) {
+        fputs("floats are not rounded to nearest, or subnormals not kept\n", stderr);
+        return 1;
+    }
     memset(&still, 0xA5, sizeof still); /* whatever it held */
     if (kiltgrit_open(&still) != KILTGRIT_OK) return 1;
     said(kiltgrit_load(&still, KILTGRIT_WILSON, 2, given, KILTGRIT_WILSON_VALUES(2)));
@@ -46,10 +55,10 @@ int main(void) {
     for (size_t k = 0; k < 3; k++) {
         said(kiltgrit_fractions(&still, x[k], 2));
         for (size_t i = 0; i < 2; i++) {
-            ask(KILTGRIT_LN_GAMMA, i);
-            ask(KILTGRIT_GAMMA, i);
+            ask(KILTGRIT_LN_GAMMA, i, x[k]);
+            ask(KILTGRIT_GAMMA, i, x[k]);
         }
-        ask(KILTGRIT_EXCESS_GIBBS, 0);
+        ask(KILTGRIT_EXCESS_GIBBS, 0, x[k]);
     }
     return 0;
 }

@@ -1,12 +1,22 @@
-/* kiltgrit.h: the kept mixture of solvent-recovery stills, for C11 and C++11 on x86-64 Linux. Link libkiltgrit.a.
+/* kiltgrit.h: activity coefficients for solvent-recovery stills (Wilson, UNIQUAC, NRTL, UNIFAC), for C11 and C++11 on
+ * x86-64 Linux. Link libkiltgrit.a; beside it the code needs memcpy and memset alone.
+ *
+ *     kiltgrit_mixture m;                                           any content before kiltgrit_open
+ *     kiltgrit_open(&m);
+ *     kiltgrit_load(&m, KILTGRIT_WILSON, 2, given, KILTGRIT_WILSON_VALUES(2));
+ *     kiltgrit_set(&m, kiltgrit_temperature(328.7));
+ *     kiltgrit_fractions(&m, x, 2);
+ *     kiltgrit_query(&m, KILTGRIT_LN_GAMMA, 0, &value, NULL);       works out only what has changed since the last one
  *
  * Memory     No heap, no file, no global that is written, no callback. The mixture is the caller's: one kiltgrit_mixture,
  *            static or on a stack, with any content before kiltgrit_open.
  * Threads    Calls on different mixtures may run at once. Calls on one mixture must not overlap.
  * Answers    Every call returns for every argument. A refused call has changed nothing and says why.
  * Floats     IEEE 754, round to nearest even, subnormals kept: leave MXCSR as the system sets it (no -ffast-math at
- *            the link, no fesetround). A NaN's sign and payload are unspecified.
- * Trusted    kiltgrit_mixture_* are proved, each by one equation over the mixture's own definitions. The inline functions
+ *            the link, no fesetround). kiltgrit_floats_ok says whether that is so; ask it at the start. A NaN's sign and
+ *            payload are unspecified.
+ * Stack      A call takes up to 8 KB of its own, a load or a plain call 16 KB, kiltgrit_run 134 KB.
+ * Trusted    kiltgrit_mixture_* and kiltgrit_plain are proved, each by one equation over the mixture's own definitions. The inline functions
  *            below, which hand them the mixture's parts, are not.
  */
 #ifndef KILTGRIT_H
@@ -120,6 +130,24 @@ kiltgrit_reply kiltgrit_mixture_fractions(const double *values, size_t values_le
 kiltgrit_answer kiltgrit_mixture_query(const double *values, size_t values_len, double *cells, size_t cells_len,
                                        uint8_t *marks, size_t marks_len, kiltgrit_head head, uint32_t asked, size_t i);
 
+/* ---- a plain call takes everything at once and keeps nothing */
+typedef struct kiltgrit_value {
+    double value;
+    uint32_t refused, unused;
+} kiltgrit_value;
+KILTGRIT_STATIC_ASSERT(sizeof(kiltgrit_value) == 16, "the value as the library has it");
+
+kiltgrit_value kiltgrit_plain(uint32_t model, uint32_t form /* kept for later: 0 */, size_t n, size_t ng, const uint8_t *lens,
+                              size_t lens_len, const uint8_t *groups, size_t groups_len, const double *given,
+                              size_t given_len, double t, const double *x, size_t x_len, uint32_t asked, size_t i);
+
+/* ---- the exponential and the logarithm of the models, with the same bits everywhere */
+double kiltgrit_exp(double v);
+double kiltgrit_log(double v);
+
+/* ---- a strip of records run whole: its text goes to out as far as it fits, its length comes back */
+size_t kiltgrit_run(const uint8_t *strip, size_t strip_len, uint8_t *out, size_t out_len);
+
 /* ---- the mixture as one object */
 typedef struct kiltgrit_mixture {
     double values[KILTGRIT_VALUES], cells[KILTGRIT_CELLS];
@@ -196,6 +224,37 @@ static inline kiltgrit_refusal kiltgrit_query(kiltgrit_mixture *m, kiltgrit_aske
         }
     }
     return (kiltgrit_refusal)a.refused;
+}
+
+/* The same at once, of Wilson, UNIQUAC or NRTL; *value is written only where KILTGRIT_OK is returned. */
+static inline kiltgrit_refusal kiltgrit_value_at(kiltgrit_model model, size_t n, const double *given, size_t given_len,
+                                                 double kelvin, const double *x, kiltgrit_asked asked, size_t i,
+                                                 double *value) {
+    const uint8_t none = 0;
+    const kiltgrit_value a = kiltgrit_plain((uint32_t)model, 0, n, 0, &none, 0, &none, 0, given, given_len, kelvin, x, n,
+                                            (uint32_t)asked, i);
+    if (a.refused == KILTGRIT_OK) *value = a.value;
+    return (kiltgrit_refusal)a.refused;
+}
+
+/* And of UNIFAC. */
+static inline kiltgrit_refusal kiltgrit_unifac_value_at(size_t n, size_t ng, const uint8_t *lens, const uint8_t *groups,
+                                                        size_t listed, const double *given, size_t given_len,
+                                                        double kelvin, const double *x, kiltgrit_asked asked, size_t i,
+                                                        double *value) {
+    const kiltgrit_value a = kiltgrit_plain(KILTGRIT_UNIFAC, 0, n, ng, lens, n, groups, listed, given, given_len, kelvin, x, n,
+                                            (uint32_t)asked, i);
+    if (a.refused == KILTGRIT_OK) *value = a.value;
+    return (kiltgrit_refusal)a.refused;
+}
+
+/* 1 where floats are rounded to nearest even and subnormals kept, which every answer rests on: half of the least normal
+ * number, two sums that nearest even rounds down and up, and exp and log on known bits. */
+static inline int kiltgrit_floats_ok(void) {
+    volatile double least = 2.2250738585072014e-308, one = 1.0, ulp = 2.2204460492503131e-16;
+    const double half = least * 0.5, down = one + ulp * 0.5, up = (one + ulp) + ulp * 0.5, minus = -one - ulp * 0.5;
+    return half > 0.0 && half + half == least && down == 1.0 && up == 1.0 + 2.0 * ulp && minus == -1.0 &&
+           kiltgrit_exp(-1.0) == 0.36787944117144233 && kiltgrit_log(3.0) == 1.0986122886681096;
 }
 
 #ifdef __cplusplus

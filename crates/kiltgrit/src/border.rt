@@ -2,7 +2,7 @@
 ghost use mathlib.Core.Path.{_≡_};
 ghost use mathlib.Core.Bool.{cond};
 ghost use Rattle.mixture.specs.Answers.{numberOf};
-ghost use Rattle.kiltgrit.specs.Border.{headOf, cHead, valueOf, countOf, replyOf, answerOf};
+ghost use Rattle.kiltgrit.specs.Border.{headOf, cHead, valueOf, countOf, replyOf, answerOf, valueOr};
 use mixture::Answer;
 use mixture::Head;
 use mixture::Reply;
@@ -47,6 +47,14 @@ pub struct CAnswer {
     pub value: f64,
     pub cells_worked: usize,
     pub renewed: usize,
+    pub refused: u32,
+    pub unused: u32,
+}
+
+// Of a plain call.
+#[repr(C)]
+pub struct CValue {
+    pub value: f64,
     pub refused: u32,
     pub unused: u32,
 }
@@ -169,5 +177,22 @@ pub fn answer_of(a: Answer) -> CAnswer
         renewed: 0,
         refused: number_of(a),
         unused: 0,
+    }
+}
+
+pub fn value_or(a: models::Answer) -> CValue
+    ensures { λ r. ⌜ r ≡ valueOr a ⌝ }
+{
+    match a {
+        models::Answer::Value(v) => CValue {
+            value: v,
+            refused: 0,
+            unused: 0,
+        },
+        models::Answer::Refused(k) => CValue {
+            value: 0.0,
+            refused: k as u32,
+            unused: 0,
+        },
     }
 }

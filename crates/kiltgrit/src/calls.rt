@@ -1,9 +1,10 @@
-// The five calls of document 01's mixture. Each does what the mixture's own definition says of the head that
+// The five calls of document 01's mixture, and the plain call. Each does what the mixture's own definition says of the head that
 // crossed, and writes what it writes.
 ghost use mathlib.Core.Path.{_≡_};
+ghost use Rattle.models.specs.Plain.{plainCall};
 ghost use Rattle.mixture.specs.Memory.{before, later};
 ghost use Rattle.mixture.specs.Calls.{afterOpen, afterLoad, afterSetting, afterFractions, afterQuery};
-ghost use Rattle.kiltgrit.specs.Border.{headOf, left, replied, answered};
+ghost use Rattle.kiltgrit.specs.Border.{headOf, left, replied, answered, valueOr};
 ghost use Rattle.kiltgrit.specs.Arguments.{loadOf, settingOf, quantityOf};
 use crate::arguments::CSetting;
 use crate::arguments::known_n;
@@ -12,15 +13,18 @@ use crate::arguments::setting_of;
 use crate::border::CAnswer;
 use crate::border::CHead;
 use crate::border::CReply;
+use crate::border::CValue;
 use crate::border::answer_of;
 use crate::border::head_of;
 use crate::border::reply_of;
+use crate::border::value_or;
 use mixture::fractions::fractions;
 use mixture::load::load;
 use mixture::open::open;
 use mixture::query::query;
 use mixture::set::set;
 use models::model::model_numbered;
+use models::model::plain;
 
 // A query leaves the head, so it gives the answer alone.
 #[no_mangle]
@@ -118,4 +122,35 @@ pub extern "C" fn kiltgrit_mixture_load(
             given,
         ),
     )
+}
+
+// The plain call: everything at once, and nothing is kept.
+#[no_mangle]
+pub extern "C" fn kiltgrit_plain(
+    model: u32,
+    form: u32,
+    n: usize,
+    ng: usize,
+    lens: &[u8],
+    groups: &[u8],
+    values: &[f64],
+    t: f64,
+    x: &[f64],
+    asked: u32,
+    i: usize,
+) -> CValue
+    ensures { λ r. ⌜ r ≡ valueOr (plainCall (loadOf model form n ng (now (lens .entry)) (now (groups .entry))
+        (now (values .entry))) t (now (x .entry)) (quantityOf asked i)) ⌝ }
+{
+    value_or(plain(
+        model_numbered(model as usize),
+        known_n(model, form, n),
+        ng,
+        lens,
+        groups,
+        values,
+        t,
+        x,
+        quantity_of(asked, i),
+    ))
 }

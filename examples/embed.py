@@ -1,0 +1,119 @@
+#!/usr/bin/env python3
+"""The kept mixture from Python: examples/acetone-methanol.charge, answered in the words of the program charge.
+
+    rt staticlib kiltgrit
+    gcc -shared -Wl,--whole-archive target/staticlib/libkiltgrit.a -Wl,--no-whole-archive -o target/libkiltgrit.so
+    python3 examples/embed.py target/libkiltgrit.so
+
+The structs are those of include/kiltgrit.h; the calls take and give them by value.
+"""
+import ctypes
+import struct
+import sys
+from ctypes import POINTER, Structure, c_double, c_size_t, c_uint8, c_uint32
+
+VALUES, CELLS, MARKS = 5328, 1408, 1036
+LN_GAMMA, GAMMA, EXCESS_GIBBS = range(3)
+WILSON = 1
+TEMPERATURE = 5
+
+
+class Head(Structure):
+    _fields_ = [
+        ("model", c_uint8), ("form", c_uint8), ("unused", c_uint8 * 6), ("n", c_size_t), ("ng", c_size_t),
+        ("lens", c_uint8 * 12), ("groups", c_uint8 * 144), ("changes", c_uint32), ("t", c_double), ("x", c_double * 12),
+        ("has_t", c_uint8), ("has_x", c_uint8), ("also_unused", c_uint8 * 6), ("tolerance", c_double),
+    ]
+
+
+class Answer(Structure):
+    _fields_ = [("value", c_double), ("cells_worked", c_size_t), ("renewed", c_size_t), ("refused", c_uint32), ("unused", c_uint32)]
+
+
+class Reply(Structure):
+    _fields_ = [("head", Head), *Answer._fields_]
+
+
+class Setting(Structure):
+    _fields_ = [("v", c_double * 5), ("i", c_size_t), ("j", c_size_t), ("kind", c_uint32), ("unused", c_uint32)]
+
+
+class Refused(Exception):
+    """A call was refused, with document 01's number; it has changed nothing."""
+
+
+class Mixture:
+    """A mixture in memory of its own, opened."""
+
+    def __init__(self, library):
+        floats, bytes_ = POINTER(c_double), POINTER(c_uint8)
+        lent = [floats, c_size_t, floats, c_size_t, bytes_, c_size_t, Head]
+        of = {
+            "open": (Reply, []),
+            "load": (Reply, [c_uint32, c_uint32, c_size_t, c_size_t, bytes_, c_size_t, bytes_, c_size_t, floats, c_size_t]),
+            "set": (Reply, [Setting]),
+            "fractions": (Reply, [floats, c_size_t]),
+            "query": (Answer, [c_uint32, c_size_t]),
+        }
+        self.calls = {}
+        for name, (gives, takes) in of.items():
+            call = getattr(library, f"kiltgrit_mixture_{name}")
+            call.restype, call.argtypes = gives, lent + takes
+            self.calls[name] = call
+        self.values, self.cells, self.marks, self.head = (c_double * VALUES)(), (c_double * CELLS)(), (c_uint8 * MARKS)(), Head()
+        self._call("open")
+
+    def _call(self, name, *arguments):
+        given = self.calls[name](self.values, VALUES, self.cells, CELLS, self.marks, MARKS, self.head, *arguments)
+        if name != "query":
+            self.head = given.head
+        if given.refused:
+            raise Refused(given.refused)
+        return given
+
+    def load(self, model, n, given, ng=0, lens=b"", groups=b""):
+        def as_bytes(b):
+            return (c_uint8 * max(len(b), 1)).from_buffer_copy(bytes(b) or b"\0"), len(b)
+
+        self._call("load", model, 0, n, ng, *as_bytes(lens), *as_bytes(groups), (c_double * len(given))(*given), len(given))
+
+    def set_temperature(self, kelvin):
+        self._call("set", Setting((c_double * 5)(kelvin), 0, 0, TEMPERATURE, 0))
+
+    def fractions(self, x):
+        self._call("fractions", (c_double * len(x))(*x), len(x))
+
+    def query(self, asked, i=0):
+        """The value, and how many exponentials were worked out for it."""
+        given = self._call("query", asked, i)
+        return given.value, given.cells_worked
+
+
+def say(call, *arguments):
+    try:
+        call(*arguments)
+        print("ok")
+    except Refused as refused:
+        print("refused", refused)
+
+
+def ask(still, asked, i=0):
+    value, cells = still.query(asked, i)
+    print("nan" if value != value else struct.pack(">d", value).hex(), cells)
+
+
+def main():
+    still = Mixture(ctypes.CDLL(sys.argv[1]))
+    # energies by rows in kelvin, then the molar volumes
+    say(still.load, WILSON, 2, [0.0, -161.88 / 1.987204, 583.11 / 1.987204, 0.0, 74.05, 40.73])
+    say(still.set_temperature, 328.7)
+    for x in ([0.78, 0.22], [0.01, 0.99], [0.99, 0.01]):
+        say(still.fractions, x)
+        for i in range(2):
+            ask(still, LN_GAMMA, i)
+            ask(still, GAMMA, i)
+        ask(still, EXCESS_GIBBS)
+
+
+if __name__ == "__main__":
+    main()
