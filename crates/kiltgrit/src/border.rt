@@ -9,9 +9,9 @@ use mixture::Reply;
 use models::limits::COMPONENTS;
 use models::limits::PLACES;
 
-// The fields stand as Head's own do, each at the same offset. A flag is set where its byte is 1, so that no bits
-// of a caller's are out of range. Form, changes and tolerance are kept for later: written 0 and not read, as the
-// unused bytes.
+// The fields stand as Head's own do, each at the same offset. A flag is set where its byte is 1, so that no
+// bits of a caller's are out of range. Form, changes and tolerance are kept for later: written 0 and not
+// read, as the unused bytes.
 #[repr(C)]
 pub struct CHead {
     pub model: u8,

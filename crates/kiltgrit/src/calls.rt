@@ -1,5 +1,5 @@
-// The five calls of document 01's mixture, and the plain call. Each does what the mixture's own definition says of the head that
-// crossed, and writes what it writes.
+// The five calls of document 01's mixture, and the plain call. Each does what the mixture's own definition
+// says of the head that crossed, and writes what it writes.
 ghost use mathlib.Core.Path.{_≡_};
 ghost use Rattle.models.specs.Plain.{plainCall};
 ghost use Rattle.mixture.specs.Memory.{before, later};

@@ -1,5 +1,6 @@
-// What a host in Rust or C links, all in one static library: the kept mixture, whose slices pass as a pointer and
-// a length and whose head goes in and comes back by value; exp and log; the plain calls; the run of a strip.
+// What a host in Rust or C links, all in one static library: the kept mixture, whose slices pass as a pointer
+// and a length and whose head goes in and comes back by value; exp and log; the plain calls; the run of a
+// strip.
 pub mod arguments;
 pub mod border;
 pub mod calls;

@@ -16,7 +16,7 @@ use Rattle.models.specs.declared.answers.Quantity.{Quantity}
 use Rattle.models.specs.declared.answers.Quantity.the-variants.{LnGamma, Gamma, ExcessGibbs}
 use Rattle.models.specs.declared.answers.Answer.the-variants.{Value, Refused}
 use Rattle.models.specs.Answers.{numberOf, valuesOf, answer, first, firstTo, quantity, reads}
-use Rattle.models.specs.Faults.{indexFault, shapeFault}
+use Rattle.models.specs.Faults.{indexFault, shapeFault, fractionsFault}
 
 in-range : (n i : ℕ) → _≡_ {A = ℕ} (cond (ltb i n) 0 7) 0 → i < n
 in-range n i = by-test (ltb i n) refl
@@ -133,3 +133,15 @@ pub shaped : (n : ℕ) {s size : ℕ} (values : List Float) → (n ≤ 12 → s 
     (k ≡ shapeFault n s values) × (k ≡ 0 → (1 ≤ n) × (n ≤ 12) × (length values ≡ s)) →
     (k ≡ shapeFault n size values) × (k ≡ 0 → (n ≤ 12) × (size ≤ length values))
 shaped n {s} {size} values e p = (p .0 ∙ shape-size n s size values e, λ z. let q = p .1 z in (q .1, omega (arith, q .2, e (q .1))))
+
+-- what a plain call of Wilson, UNIQUAC or NRTL answers, s being the size that its code works out
+module _ (n : ℕ) {s size : ℕ} (values : List Float) (e : n ≤ 12 → s ≡ size) (x : List Float) (q : Quantity) {k : ℕ}
+    (f : k ≡ first (shapeFault n s values) (fractionsFault n x q)) where
+  fault : k ≡ first (shapeFault n size values) (fractionsFault n x q)
+  fault = f ∙ ap (λ (f : ℕ). first f (fractionsFault n x q)) (shape-size n s size values e)
+
+  pub plain-refused : (v : Float) → (k ≡ 0 → ⊥) → Refused k ≡ answer (first (shapeFault n size values) (fractionsFault n x q)) v
+  plain-refused v ne = answer-refused v fault ne
+
+  pub plain-value : {v w : Float} → k ≡ 0 → w ≡ v → Value w ≡ answer (first (shapeFault n size values) (fractionsFault n x q)) v
+  plain-value z p = answer-value fault z p

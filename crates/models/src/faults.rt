@@ -4,6 +4,7 @@ ghost use mathlib.Core.Bool.{true, _&&_};
 ghost use Prim.Native.Nat.{ℕ, _≤_, _<_};
 ghost use lib.Dec.{leb};
 ghost use lib.ListN.{length, getD};
+ghost use Rattle.models.specs.Answers.{first};
 ghost use Rattle.models.specs.Limits.{mostComponents, mostGroups, mostListed};
 ghost use Rattle.models.specs.Faults.{tolerance, sumFault, compositionFault, mixFault, indexFault};
 ghost use Rattle.models.specs.Faults.{fractionsFault};
@@ -109,6 +110,20 @@ pub fn shape_fault(n: usize, size: usize, values: &[f64]) -> u8
         return 2;
     }
     0
+}
+
+// What a plain call of Wilson, UNIQUAC or NRTL declines: 2, then 5, 6 and 7.
+pub fn plain_fault(n: usize, size: usize, values: &[f64], x: &[f64], q: Quantity) -> u8
+    ensures { λ r. ⌜ (r
+        ≡ first (shapeFault n size (now (values .entry))) (fractionsFault n (now (x .entry)) q))
+        × (r ≡ 0 → (1 ≤ n) × (n ≤ mostComponents) × (length (now (values .entry)) ≡ size)
+        × (length (now (x .entry)) ≡ n) × (indexFault n q ≡ 0)) ⌝ }
+{
+    let fault = shape_fault(n, size, values);
+    if fault != 0 {
+        return fault;
+    }
+    fractions_fault(n, x, q)
 }
 
 // Whether none of the first n lists is over 12.

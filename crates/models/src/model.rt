@@ -95,7 +95,7 @@ pub fn value_at(
     }
 }
 
-// The plain call.
+// The plain call. It asks for the model once, so that each has its fault and its value in one go.
 pub fn plain(
     model: Model,
     n: usize,
@@ -109,13 +109,38 @@ pub fn plain(
 ) -> Answer
     ensures { λ r. ⌜ r ≡ plainCall (given model n ng lens groups values) t (now (x .entry)) q ⌝ }
 {
-    let fault = faults::data_fault(model, n, ng, lens, groups, values);
-    if fault != 0 {
-        return Answer::Refused(fault);
+    match model {
+        Model::Wilson => {
+            let fault = faults::plain_fault(n, wilson::size(n), values, x, q);
+            if fault != 0 {
+                return Answer::Refused(fault);
+            }
+            Answer::Value(wilson::value_at(n, values, t, x, q))
+        }
+        Model::Uniquac => {
+            let fault = faults::plain_fault(n, uniquac::size(n), values, x, q);
+            if fault != 0 {
+                return Answer::Refused(fault);
+            }
+            Answer::Value(uniquac::value_at(n, values, t, x, q))
+        }
+        Model::Nrtl => {
+            let fault = faults::plain_fault(n, nrtl::size(n), values, x, q);
+            if fault != 0 {
+                return Answer::Refused(fault);
+            }
+            Answer::Value(nrtl::value_at(n, values, t, x, q))
+        }
+        Model::Unifac => {
+            let fault = faults::unifac_fault(n, ng, lens, groups, values);
+            if fault != 0 {
+                return Answer::Refused(fault);
+            }
+            let fault = faults::fractions_fault(n, x, q);
+            if fault != 0 {
+                return Answer::Refused(fault);
+            }
+            Answer::Value(unifac::value_at(n, ng, lens, groups, values, t, x, q))
+        }
     }
-    let fault = faults::fractions_fault(n, x, q);
-    if fault != 0 {
-        return Answer::Refused(fault);
-    }
-    Answer::Value(value_at(model, n, ng, lens, groups, values, t, x, q))
 }
