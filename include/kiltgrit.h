@@ -15,7 +15,7 @@
  * Floats     IEEE 754, round to nearest even, subnormals kept: leave MXCSR as the system sets it (no -ffast-math at
  *            the link, no fesetround). kiltgrit_floats_ok says whether that is so; ask it at the start. A NaN's sign and
  *            payload are unspecified.
- * Stack      A call takes up to 8 KB of its own, a load or a plain call 16 KB, kiltgrit_run 134 KB.
+ * Stack      A query takes up to 8 KB, a plain call 16 KB, kiltgrit_run 134 KB, any other call 2 KB.
  * Trusted    kiltgrit_mixture_* and kiltgrit_plain are proved, each by one equation over the mixture's own definitions. The inline functions
  *            below, which hand them the mixture's parts, are not.
  */
