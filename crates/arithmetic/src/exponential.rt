@@ -12,7 +12,8 @@ ghost use Rattle.arithmetic.specs.steps.Nearest.{Easy};
 ghost use Rattle.arithmetic.specs.steps.Nearest.{nearest as Nearest·nearest};
 ghost use Rattle.arithmetic.specs.Tables.{at, Taken};
 ghost use Rattle.arithmetic.specs.Exponential.{expOf, highest, lowest};
-ghost use Rattle.arithmetic.specs.Exponential.{exponent as Exp·exponent, correction as Exp·correction};
+ghost use Rattle.arithmetic.specs.Exponential.{exponent as Exp·exponent};
+ghost use Rattle.arithmetic.specs.Exponential.{correction as Exp·correction};
 ghost use Rattle.arithmetic.specs.Exponential.{reduced as Exp·reduced, scaled as Exp·scaled};
 
 // P1 to P5.

@@ -142,7 +142,8 @@ fn from_digits(q: u64, x: u64) -> f64
 // The exponent's field over the digits q: that of 1 where they are below M's, else that of 1/2, less the
 // digit that q has.
 fn bias(q: u64) -> u64
-    ensures { λ r. ⌜ r ≡ cond (ltb q 0x16_a09e_0000_0000) 0x3fe0_0000_0000_0000 0x3fd0_0000_0000_0000 ⌝ }
+    ensures { λ r. ⌜ r
+        ≡ cond (ltb q 0x16_a09e_0000_0000) 0x3fe0_0000_0000_0000 0x3fd0_0000_0000_0000 ⌝ }
 {
     if q < 0x16_a09e_0000_0000 {
         return 0x3fe0_0000_0000_0000;

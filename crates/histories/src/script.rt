@@ -24,7 +24,9 @@ pub struct Turn {
 
 // The rows in place of the memory: marks, values and cells.
 fn put_memory(rows: &[u8], values: &mut [f64], cells: &mut [f64], marks: &mut [u8])
-    requires { ⌜ (65536 ≤ length (now rows)) × (5400 ≤ length (now values)) × (1100 ≤ length (now cells)) ⌝ }
+    requires { ⌜ (65536 ≤ length (now rows))
+        × (5400 ≤ length (now values))
+        × (1100 ≤ length (now cells)) ⌝ }
 {
     calls::put_bytes(marks, rows);
     fill_floats(values, rows, 1100, 5400);

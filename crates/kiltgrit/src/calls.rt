@@ -139,8 +139,9 @@ pub extern "C" fn kiltgrit_plain(
     asked: u32,
     i: usize,
 ) -> CValue
-    ensures { λ r. ⌜ r ≡ valueOr (plainCall (loadOf model form n ng (now (lens .entry)) (now (groups .entry))
-        (now (values .entry))) t (now (x .entry)) (quantityOf asked i)) ⌝ }
+    ensures { λ r. ⌜ r ≡ valueOr (plainCall
+        (loadOf model form n ng (now (lens .entry)) (now (groups .entry)) (now (values .entry)))
+        t (now (x .entry)) (quantityOf asked i)) ⌝ }
 {
     value_or(plain(
         model_numbered(model as usize),

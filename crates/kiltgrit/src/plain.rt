@@ -145,7 +145,8 @@ pub extern "C" fn kiltgrit_ln_gamma(
     i: usize,
     value: &mut f64,
 ) -> u32
-    ensures { λ r. ⌜ Gives (exportedBy model n ng lens groups values t x (Quantity.LnGamma i)) value r ⌝ }
+    ensures { λ r. ⌜ Gives (exportedBy model n ng lens groups values t x (Quantity.LnGamma i))
+        value r ⌝ }
 {
     give(
         call(
@@ -196,7 +197,8 @@ pub extern "C" fn kiltgrit_excess_gibbs(
     x: &[u8],
     value: &mut f64,
 ) -> u32
-    ensures { λ r. ⌜ Gives (exportedBy model n ng lens groups values t x Quantity.ExcessGibbs) value r ⌝ }
+    ensures { λ r. ⌜ Gives (exportedBy model n ng lens groups values t x Quantity.ExcessGibbs)
+        value r ⌝ }
 {
     give(
         call(

@@ -157,7 +157,8 @@ fn count_fault(lens: &[u8], k: usize, i: usize, j: usize, v: f64) -> u8
 // 4 and 10 of a count, for a head whose n is in range.
 fn list_fault(n: usize, lens: [u8; COMPONENTS], model: Model, i: usize, j: usize, v: f64) -> u8
     requires { ⌜ n ≤ mostComponents ⌝ }
-    ensures { λ r. ⌜ r ≡ cond (below i (byModel model 0 0 0 n) j (getD lens i 0)) (cond (lt v +0) 4 0) 10 ⌝ }
+    ensures { λ r. ⌜ r
+        ≡ cond (below i (byModel model 0 0 0 n) j (getD lens i 0)) (cond (lt v +0) 4 0) 10 ⌝ }
 {
     let k = by_model(model, 0, 0, 0, n);
     count_fault(&lens[..], k, i, j, v)
@@ -204,7 +205,8 @@ pub fn setting_fault(lv: usize, lc: usize, lm: usize, head: Head, s: Setting) ->
 
 // What fractions are declined for. Memory counts by its lengths alone.
 pub fn fractions_fault(lv: usize, lc: usize, lm: usize, head: Head, x: &[f64]) -> u8
-    ensures { λ r. ⌜ ((m : Memory) → OfLengths lv lc lm m → r ≡ fractionsFault m head (now (x .entry))) ⌝ }
+    ensures { λ r. ⌜ ((m : Memory) → OfLengths lv lc lm m
+        → r ≡ fractionsFault m head (now (x .entry))) ⌝ }
 {
     let fault = head_fault(lv, lc, lm, head);
     if fault != 0 {

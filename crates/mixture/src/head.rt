@@ -26,7 +26,8 @@ pub struct Head {
 // The bytes in the first places.
 fn copy_bytes(r: &mut [u8], s: &[u8])
     requires { ⌜ length (now s) ≤ length (now r) ⌝ }
-    ensures { λ _. ⌜ now (r .exit) ≡ now (s .entry) ++ drop (length (now (s .entry))) (now (r .entry)) ⌝ }
+    ensures { λ _. ⌜ now (r .exit)
+        ≡ now (s .entry) ++ drop (length (now (s .entry))) (now (r .entry)) ⌝ }
 {
     for k in 0..s.len() {
         r[k] = s[k];

@@ -10,7 +10,8 @@ use crate::head::no_head;
 
 // Writes no lent place and leaves no model.
 pub fn open(values: &[f64], cells: &[f64], marks: &[u8], head: Head) -> Reply
-    ensures { λ r. ⌜ left (before values cells marks) r ≡ afterOpen (before values cells marks) head ⌝ }
+    ensures { λ r. ⌜ left (before values cells marks) r
+        ≡ afterOpen (before values cells marks) head ⌝ }
 {
     let fault = memory_fault(values.len(), cells.len(), marks.len());
     if fault != 0 {

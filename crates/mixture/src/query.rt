@@ -99,8 +99,8 @@ fn uniquac(
     Worked { value, count }
 }
 
-// NRTL's value and count, with a table that τ at T is written to: no cell keeps it, and it is worked out once
-// for both.
+// NRTL's value and count, with a table that τ at T is written to: no cell keeps it, and it is worked out
+// once for both.
 fn nrtl_over(
     n: usize,
     t: f64,
@@ -204,7 +204,8 @@ fn unifac(
 // Refills and answers by the head's model.
 fn solve(values: &[f64], cells: &mut [f64], marks: &mut [u8], head: Head, q: Quantity) -> Worked
     requires { ⌜ queryFault (memory (now values) (now cells) (now marks)) head q ≡ 0 ⌝ }
-    ensures { λ r. ⌜ Answered (before values cells marks) head q (now (cells .exit)) (now (marks .exit)) r ⌝ }
+    ensures { λ r. ⌜ Answered (before values cells marks) head q
+        (now (cells .exit)) (now (marks .exit)) r ⌝ }
 {
     let n = head.n;
     let t = head.t;
@@ -240,7 +241,8 @@ fn answered(values: &[f64], cells: &mut [f64], marks: &mut [u8], head: Head, q: 
 // puts this function into its callers. It is handed the head itself and a copy goes back, so that a caller
 // that asks again and again needn't put the head together in memory for each query.
 pub fn query(values: &[f64], cells: &mut [f64], marks: &mut [u8], head: Head, q: Quantity) -> Reply
-    ensures { λ r. ⌜ left (later values cells marks) r ≡ afterQuery (before values cells marks) head q ⌝ }
+    ensures { λ r. ⌜ left (later values cells marks) r
+        ≡ afterQuery (before values cells marks) head q ⌝ }
 {
     let back = head;
     if head.has_t {

@@ -29,8 +29,8 @@ pub struct Rows {
 // The mark of a fresh cell.
 const FRESH: u8 = 1;
 
-// What entry j of row i is the exp of. `row` starts at the row's energies, α or td entries; `tau` at its τ at
-// T, which only NRTL reads.
+// What entry j of row i is the exp of. `row` starts at the row's energies, α or td entries; `tau` at its τ
+// at T, which only NRTL reads.
 fn argument(rows: Rows, row: &[f64], tau: &[f64], i: usize, j: usize) -> f64
     requires { ⌜ (i < length (now row)) × (j * 5 + 5 ≤ length (now row)) × (j < length (now tau)) ⌝ }
     ensures { λ r. ⌜ r ≡ argumentIn rows (now (row .entry)) (now (tau .entry)) i j ⌝ }
@@ -85,7 +85,8 @@ fn refill_cells(
     cells: &mut [f64],
     marks: &mut [u8],
 ) -> usize
-    requires { ⌜ RowFits (rows .w) i (now row) (now tau) (now cells) × (rows .w ≤ length (now marks)) ⌝ }
+    requires { ⌜ RowFits (rows .w) i (now row) (now tau) (now cells)
+        × (rows .w ≤ length (now marks)) ⌝ }
     ensures { λ r. ⌜ RowRefilled rows row tau i cells marks r ⌝ }
 {
     let model = rows.model;
@@ -158,7 +159,9 @@ fn gather_row(
 
 // Puts what was gathered to the stale cells of row i, one after the other.
 fn put_stale(model: Model, w: usize, worked: &[f64], i: usize, cells: &mut [f64], marks: &mut [u8])
-    requires { ⌜ (w ≤ length (now worked)) × (w ≤ length (now cells)) × (w ≤ length (now marks)) ⌝ }
+    requires { ⌜ (w ≤ length (now worked))
+        × (w ≤ length (now cells))
+        × (w ≤ length (now marks)) ⌝ }
     ensures { λ _.
         let stale = staleIn model (now (marks .entry)) i in
         ⌜ RowTaken model w (packed stale (now (worked .entry))) i cells marks ⌝ }
@@ -198,7 +201,8 @@ fn refill_row(
     cells: &mut [f64],
     marks: &mut [u8],
 ) -> usize
-    requires { ⌜ RowFits (rows .w) i (now row) (now tau) (now cells) × (rows .w ≤ length (now marks)) ⌝ }
+    requires { ⌜ RowFits (rows .w) i (now row) (now tau) (now cells)
+        × (rows .w ≤ length (now marks)) ⌝ }
     ensures { λ r. ⌜ RowRefilled rows row tau i cells marks r ⌝ }
 {
     let model = rows.model;
@@ -334,7 +338,9 @@ fn exp_off_diagonal(w: usize, count: usize, a: &mut [f64])
 
 // Takes the stale cells of row i over from its exponentials.
 fn take_stale(model: Model, w: usize, worked: &[f64], i: usize, cells: &mut [f64], marks: &mut [u8])
-    requires { ⌜ (w ≤ length (now worked)) × (w ≤ length (now cells)) × (w ≤ length (now marks)) ⌝ }
+    requires { ⌜ (w ≤ length (now worked))
+        × (w ≤ length (now cells))
+        × (w ≤ length (now marks)) ⌝ }
     ensures { λ _. ⌜ RowTaken model w (at (now (worked .entry))) i cells marks ⌝ }
 {
     for j in 0..w {

@@ -249,7 +249,8 @@ fn reply_by(head: Head, fault: u8, s: Setting) -> Reply
 // same on purpose, as in `query`; `change` is handed a copy of the head, so that the head itself needn't be
 // put together in memory before it goes back.
 pub fn set(values: &mut [f64], cells: &[f64], marks: &mut [u8], head: Head, s: Setting) -> Reply
-    ensures { λ r. ⌜ left (later values cells marks) r ≡ afterSetting (before values cells marks) head s ⌝ }
+    ensures { λ r. ⌜ left (later values cells marks) r
+        ≡ afterSetting (before values cells marks) head s ⌝ }
 {
     let copy = head;
     if head.has_t {

@@ -42,7 +42,9 @@ pub fn fill_arguments(row: &[f64], t: f64, n: usize, i: usize, out: &mut [f64])
 // Writes the table of a model whose values begin with its energies: every argument first, then exp of them
 // all at once.
 pub fn fill_energies(values: &[f64], t: f64, n: usize, out: &mut [f64])
-    requires { ⌜ (n ≤ mostComponents) × (n * n ≤ length (now values)) × (n * n ≤ length (now out)) ⌝ }
+    requires { ⌜ (n ≤ mostComponents)
+        × (n * n ≤ length (now values))
+        × (n * n ≤ length (now out)) ⌝ }
     ensures { λ _.
         ⌜ Filled (flat n (E·energy (energies n (now (values .entry))) t)) (n * n) (now (out .exit)) ⌝ }
 {

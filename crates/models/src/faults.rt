@@ -8,7 +8,8 @@ ghost use Rattle.models.specs.Answers.{first};
 ghost use Rattle.models.specs.Limits.{mostComponents, mostGroups, mostListed};
 ghost use Rattle.models.specs.Faults.{tolerance, sumFault, compositionFault, mixFault, indexFault};
 ghost use Rattle.models.specs.Faults.{fractionsFault};
-ghost use Rattle.models.specs.Faults.{between, shapeFault, allTo, listsFault, groupsFault, unifacFault};
+ghost use Rattle.models.specs.Faults.{between, shapeFault, allTo, listsFault, groupsFault};
+ghost use Rattle.models.specs.Faults.{unifacFault};
 ghost use Rattle.models.specs.Faults.{dataFault};
 ghost use Rattle.models.specs.Model.{given};
 ghost use Rattle.models.specs.steps.GroupLists.{Sized, Loaded};
@@ -60,7 +61,8 @@ pub fn sum_fault(tolerance: f64, total: f64) -> u8
 
 // 5 and 6 of the composition; 7, its length is not n.
 pub fn mix_fault(n: usize, x: &[f64]) -> u8
-    ensures { λ r. ⌜ (r ≡ mixFault n (now (x .entry))) × (r ≡ 0 → length (now (x .entry)) ≡ n) ⌝ }
+    ensures { λ r. ⌜ (r ≡ mixFault n (now (x .entry)))
+        × (r ≡ 0 → length (now (x .entry)) ≡ n) ⌝ }
 {
     let fault = check_composition(x);
     if fault != 0 {
@@ -161,7 +163,8 @@ fn in_range(n: usize, ng: usize) -> bool
 
 // 2: n outside 1–12, ng outside 1–32, a list over 12, or a slice of the wrong length.
 fn lists_fault(n: usize, ng: usize, lens: &[u8], groups: &[u8], values: &[f64]) -> u8
-    ensures { λ r. ⌜ (r ≡ listsFault n ng (now (lens .entry)) (now (groups .entry)) (now (values .entry)))
+    ensures { λ r. ⌜ (r ≡ listsFault n ng
+        (now (lens .entry)) (now (groups .entry)) (now (values .entry)))
         × (r ≡ 0 → Sized n ng (now (lens .entry)) (now (groups .entry)) (now (values .entry))) ⌝ }
 {
     if !in_range(n, ng) {
@@ -188,7 +191,8 @@ fn lists_fault(n: usize, ng: usize, lens: &[u8], groups: &[u8], values: &[f64]) 
 fn groups_fault(ng: usize, groups: &[u8], counts: &[f64]) -> u8
     requires { ⌜ length (now groups) ≤ length (now counts) ⌝ }
     ensures { λ r. ⌜ (r ≡ groupsFault ng (now (groups .entry)) (now (counts .entry)))
-        × (r ≡ 0 → ((p : ℕ) → p < length (now (groups .entry)) → getD (now (groups .entry)) p 0 < ng)) ⌝ }
+        × (r ≡ 0 → ((p : ℕ) → p < length (now (groups .entry))
+        → getD (now (groups .entry)) p 0 < ng)) ⌝ }
 {
     for p in 0..groups.len() {
         if ng <= (groups[p] as usize) {
@@ -203,7 +207,8 @@ fn groups_fault(ng: usize, groups: &[u8], counts: &[f64]) -> u8
 
 // What UNIFAC declines of its lists and values: 2, then 3 or 4 at the first place at fault.
 pub fn unifac_fault(n: usize, ng: usize, lens: &[u8], groups: &[u8], values: &[f64]) -> u8
-    ensures { λ r. ⌜ (r ≡ unifacFault n ng (now (lens .entry)) (now (groups .entry)) (now (values .entry)))
+    ensures { λ r. ⌜ (r ≡ unifacFault n ng
+        (now (lens .entry)) (now (groups .entry)) (now (values .entry)))
         × (r ≡ 0 → Loaded n ng (now (lens .entry)) (now (groups .entry)) (now (values .entry))) ⌝ }
 {
     let fault = lists_fault(n, ng, lens, groups, values);

@@ -42,7 +42,8 @@ fn size(list: &[u8], counts: &[f64], s: &[f64]) -> f64
 
 // The size of each component.
 pub fn sizes(n: usize, lens: &[u8], groups: &[u8], counts: &[f64], s: &[f64]) -> [f64; COMPONENTS]
-    requires { ⌜ Listed n (length (now s)) (now lens) (now groups) (now counts) × (n ≤ mostComponents) ⌝ }
+    requires { ⌜ Listed n (length (now s)) (now lens) (now groups) (now counts)
+        × (n ≤ mostComponents) ⌝ }
     ensures { λ r. ⌜ Filled (Unifac·size (listsOf lens groups counts) (vectorOf s)) n r ⌝ }
 {
     let mut sizes = [0.0; COMPONENTS];
@@ -124,7 +125,8 @@ pub fn group_fractions(
     requires { ⌜ Mixed n ng (now lens) (now groups) (now counts) (now x)
         × (ng ≤ length (now xg))
         × Filled (λ _. +0) ng (now xg) ⌝ }
-    ensures { λ _. ⌜ Filled (fraction n (listsOf lens groups counts) (vectorOf x)) ng (now (xg .exit)) ⌝ }
+    ensures { λ _. ⌜ Filled (fraction n (listsOf lens groups counts) (vectorOf x)) ng
+        (now (xg .exit)) ⌝ }
 {
     let mut num = [0.0; GROUPS];
     let denom = amounts(n, lens, groups, counts, x, &mut num[..]);
@@ -147,7 +149,8 @@ pub fn group_fractions_pure(ng: usize, list: &[u8], counts: &[f64], xg: &mut [f6
 
 // The sum of count·(m - p) over a list: m has ln Γ in the mixture, p in the pure component.
 pub fn residual(list: &[u8], counts: &[f64], m: &[f64], p: &[f64]) -> f64
-    requires { ⌜ Paired (length (now m)) (now list) (now counts) × (length (now m) ≤ length (now p)) ⌝ }
+    requires { ⌜ Paired (length (now m)) (now list) (now counts)
+        × (length (now m) ≤ length (now p)) ⌝ }
     ensures { λ r. ⌜ r ≡ Unifac·residual (ownList list counts) (vectorOf m) (λ _. vectorOf p) 0 ⌝ }
 {
     let mut resid = 0.0;

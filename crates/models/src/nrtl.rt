@@ -39,8 +39,11 @@ pub fn size(n: usize) -> usize
 
 // τ at T, by rows of n: the five of entry k stand from place 5·k on.
 pub fn fill_taus(n: usize, values: &[f64], t: f64, out: &mut [f64])
-    requires { ⌜ (n ≤ mostComponents) × (nrtlSize n ≤ length (now values)) × (n * n ≤ length (now out)) ⌝ }
-    ensures { λ _. ⌜ Filled (λ k. tdAt (fiveAt (now (values .entry)) (k * 5)) t) (n * n) (now (out .exit)) ⌝ }
+    requires { ⌜ (n ≤ mostComponents)
+        × (nrtlSize n ≤ length (now values))
+        × (n * n ≤ length (now out)) ⌝ }
+    ensures { λ _. ⌜ Filled (λ k. tdAt (fiveAt (now (values .entry)) (k * 5)) t) (n * n)
+        (now (out .exit)) ⌝ }
 {
     parameters::fill_values(values, n * n, t, out);
 }
@@ -62,7 +65,9 @@ pub fn exponential(alpha: f64, tau: f64) -> f64
 // Writes what the first count entries of G are the exp of, those of the diagonal as well, which count in no
 // sum.
 pub fn fill_arguments(alpha: &[f64], tau: &[f64], count: usize, out: &mut [f64])
-    requires { ⌜ (count ≤ length (now alpha)) × (count ≤ length (now tau)) × (count ≤ length (now out)) ⌝ }
+    requires { ⌜ (count ≤ length (now alpha))
+        × (count ≤ length (now tau))
+        × (count ≤ length (now out)) ⌝ }
     ensures { λ _.
         let α = at (now (alpha .entry)) in
         ⌜ Filled (λ k. neg (α k) ⊗ at (now (tau .entry)) k) count (now (out .exit)) ⌝ }
@@ -74,7 +79,9 @@ pub fn fill_arguments(alpha: &[f64], tau: &[f64], count: usize, out: &mut [f64])
 
 // Writes the first count entries of G: every argument first, then exp of them all at once.
 fn fill_exponentials(alpha: &[f64], tau: &[f64], count: usize, out: &mut [f64])
-    requires { ⌜ (count ≤ length (now alpha)) × (count ≤ length (now tau)) × (count ≤ length (now out)) ⌝ }
+    requires { ⌜ (count ≤ length (now alpha))
+        × (count ≤ length (now tau))
+        × (count ≤ length (now out)) ⌝ }
     ensures { λ _.
         let α = at (now (alpha .entry)) in
         ⌜ Filled (λ k. expOf (neg (α k) ⊗ at (now (tau .entry)) k)) count (now (out .exit)) ⌝ }
@@ -93,8 +100,8 @@ fn add_products(n: usize, x: f64, g: &[f64], tau: &[f64], sums: &mut [f64])
     }
 }
 
-// Adds x·G_ij·τ_ij to sums[j] for each j below n; g and tau are row i of their tables. The row runs without a
-// test for the diagonal, then place i, where G is 1 and τ is 0, is put right.
+// Adds x·G_ij·τ_ij to sums[j] for each j below n; g and tau are row i of their tables. The row runs
+// without a test for the diagonal, then place i, where G is 1 and τ is 0, is put right.
 fn add_terms(n: usize, x: f64, g: &[f64], tau: &[f64], i: usize, sums: &mut [f64])
     requires { ⌜ (n ≤ length (now g))
         × (n ≤ length (now tau))
@@ -110,8 +117,8 @@ fn add_terms(n: usize, x: f64, g: &[f64], tau: &[f64], i: usize, sums: &mut [f64
     sums[i] = own;
 }
 
-// For each j the numerator Σ_m x_m G_mj τ_mj in u and the denominator Σ_m x_m G_mj in d; both have zeros at
-// first.
+// For each j the numerator Σ_m x_m G_mj τ_mj in u and the denominator Σ_m x_m G_mj in d; both have zeros
+// at first.
 fn column_sums(n: usize, tau: &[f64], g: &[f64], x: &[f64], u: &mut [f64], d: &mut [f64])
     requires { ⌜ NrtlFits n (now tau) (now g) (now x)
         × NrtlSums n (now u) (now d)
@@ -144,7 +151,8 @@ fn second(n: usize, tau: &[f64], g: &[f64], u: &[f64], d: &[f64], x: &[f64], i: 
         let G = unitAt i (at (now (g .entry))) in
         let τ = tauAt i (at (now (tau .entry))) in
         let D = at (now (d .entry)) in
-        ⌜ r ≡ sum n (λ j. at (now (x .entry)) j ⊗ G j ⊘ D j ⊗ (τ j ⊖ at (now (u .entry)) j ⊘ D j)) ⌝ }
+        ⌜ r ≡ sum n (λ j. at (now (x .entry)) j ⊗ G j ⊘ D j
+        ⊗ (τ j ⊖ at (now (u .entry)) j ⊘ D j)) ⌝ }
 {
     let mut terms = [0.0; COMPONENTS];
     for j in 0..n {
@@ -162,7 +170,8 @@ fn ln_gamma(n: usize, tau: &[f64], g: &[f64], u: &[f64], d: &[f64], x: &[f64], i
         let τ = Nrtl·tau (grid n (now (tau .entry))) in
         let U = at (now (u .entry)) in
         let D = at (now (d .entry)) in
-        ⌜ r ≡ U i ⊘ D i ⊕ sum n (λ j. at (now (x .entry)) j ⊗ G i j ⊘ D j ⊗ (τ i j ⊖ U j ⊘ D j)) ⌝ }
+        ⌜ r ≡ U i ⊘ D i
+        ⊕ sum n (λ j. at (now (x .entry)) j ⊗ G i j ⊘ D j ⊗ (τ i j ⊖ U j ⊘ D j)) ⌝ }
 {
     let start = i * n;
     u[i] / d[i] + second(n, &tau[start..], &g[start..], u, d, x, i)
@@ -172,7 +181,8 @@ fn ln_gamma(n: usize, tau: &[f64], g: &[f64], u: &[f64], d: &[f64], x: &[f64], i
 fn excess_by(n: usize, u: &[f64], d: &[f64], x: &[f64]) -> f64
     requires { ⌜ (n ≤ length (now u)) × (n ≤ length (now d)) × (n ≤ length (now x)) ⌝ }
     ensures { λ r.
-        ⌜ r ≡ sum n (λ i. at (now (x .entry)) i ⊗ at (now (u .entry)) i ⊘ at (now (d .entry)) i) ⌝ }
+        ⌜ r ≡ sum n (λ i. at (now (x .entry)) i ⊗ at (now (u .entry)) i
+        ⊘ at (now (d .entry)) i) ⌝ }
 {
     let mut s = 0.0;
     for i in 0..n {

@@ -24,8 +24,11 @@ pub fn five_at(l: &[f64], s: usize) -> TdParam
 
 // The values at T of the first count entries of five, which stand from place 5·k on; ln is log(T).
 pub fn fill_values_by(fives: &[f64], count: usize, t: f64, ln: f64, out: &mut [f64])
-    requires { ⌜ (count * 5 ≤ length (now fives)) × (count ≤ length (now out)) × (count ≤ tableSize) ⌝ }
-    ensures { λ _. ⌜ Filled (λ k. tdBy (fiveAt (now (fives .entry)) (k * 5)) t ln) count (now (out .exit)) ⌝ }
+    requires { ⌜ (count * 5 ≤ length (now fives))
+        × (count ≤ length (now out))
+        × (count ≤ tableSize) ⌝ }
+    ensures { λ _. ⌜ Filled (λ k. tdBy (fiveAt (now (fives .entry)) (k * 5)) t ln) count
+        (now (out .exit)) ⌝ }
 {
     for k in 0..count {
         out[k] = five_at(fives, k * 5).value_by(t, ln);
@@ -34,8 +37,11 @@ pub fn fill_values_by(fives: &[f64], count: usize, t: f64, ln: f64, out: &mut [f
 
 // The same, with log(T) worked out here.
 pub fn fill_values(fives: &[f64], count: usize, t: f64, out: &mut [f64])
-    requires { ⌜ (count * 5 ≤ length (now fives)) × (count ≤ length (now out)) × (count ≤ tableSize) ⌝ }
-    ensures { λ _. ⌜ Filled (λ k. tdAt (fiveAt (now (fives .entry)) (k * 5)) t) count (now (out .exit)) ⌝ }
+    requires { ⌜ (count * 5 ≤ length (now fives))
+        × (count ≤ length (now out))
+        × (count ≤ tableSize) ⌝ }
+    ensures { λ _. ⌜ Filled (λ k. tdAt (fiveAt (now (fives .entry)) (k * 5)) t) count
+        (now (out .exit)) ⌝ }
 {
     fill_values_by(fives, count, t, arithmetic::log(t), out);
 }

@@ -16,7 +16,8 @@ ghost use Rattle.models.specs.Answers.{reads};
 ghost use Rattle.models.specs.steps.GroupLists.{Listed, Loaded, Named, Paired, ListedRows};
 ghost use Rattle.models.specs.steps.GroupLists.{ownList, listsOf, heldLists};
 ghost use Rattle.models.specs.Plain.{unifacPlain};
-ghost use Rattle.models.specs.Unifac.{theta as Unifac·theta, pure as Unifac·pure, fraction, lnGroup};
+ghost use Rattle.models.specs.Unifac.{theta as Unifac·theta, pure as Unifac·pure, fraction};
+ghost use Rattle.models.specs.Unifac.{lnGroup};
 ghost use Rattle.models.specs.Unifac.{combinatorialBy, residual, unifac, unifacBy, unifacAt};
 ghost use Rattle.models.specs.steps.Unifac.{Grouped, Mixed, Pure, Tables, Shares};
 ghost use Rattle.models.specs.steps.Unifac.{psiBy, combinatorialFrom, lnFrom, vectorOf, tableOf};
@@ -72,8 +73,11 @@ pub fn fill_arguments(row: &[f64], t: f64, ln: f64, ng: usize, out: &mut [f64])
 
 // Writes Ψ by full rows of ng: every a at T first, then exp(-a/T) of them all at once.
 fn fill_table(ng: usize, values: &[f64], t: f64, table: &mut [f64])
-    requires { ⌜ (ng ≤ mostGroups) × (countsAt ng ≤ length (now values)) × (ng * ng ≤ length (now table)) ⌝ }
-    ensures { λ _. ⌜ Filled (flat ng (groupEnergy (λ m k. tdAt (groupAs ng (now (values .entry)) m k) t) t))
+    requires { ⌜ (ng ≤ mostGroups)
+        × (countsAt ng ≤ length (now values))
+        × (ng * ng ≤ length (now table)) ⌝ }
+    ensures { λ _. ⌜ Filled
+        (flat ng (groupEnergy (λ m k. tdAt (groupAs ng (now (values .entry)) m k) t) t))
         (ng * ng) (now (table .exit)) ⌝ }
 {
     let five = ng + ng;
@@ -359,7 +363,8 @@ fn excess_gibbs(
     requires { ⌜ Mixed n ng (now lens) (now groups) (now counts) (now x)
         × Grouped ng (now q) (now theta) (now psi)
         × (n * ng ≤ length (now pure)) ⌝ }
-    ensures { λ r. ⌜ r ≡ sum n (λ i. vectorOf x i ⊗ lnFrom s ng (listsOf lens groups counts) (vectorOf q)
+    ensures { λ r. ⌜ r ≡ sum n
+        (λ i. vectorOf x i ⊗ lnFrom s ng (listsOf lens groups counts) (vectorOf q)
         (tableOf ng psi) (vectorOf theta) (tableOf ng pure) i) ⌝ }
 {
     let mut gamma = [0.0; GROUPS];
@@ -466,7 +471,8 @@ pub struct Span {
 // Those that a quantity goes by.
 fn span_of(n: usize, q: Quantity) -> Span
     requires { ⌜ (n ≤ mostComponents) × (indexFault n q ≡ 0) ⌝ }
-    ensures { λ r. ⌜ (r .last ≤ n) × ((i : ℕ) → i < n → reads q i ≡ true → (r .first ≤ i) × (i < r .last)) ⌝ }
+    ensures { λ r. ⌜ (r .last ≤ n)
+        × ((i : ℕ) → i < n → reads q i ≡ true → (r .first ≤ i) × (i < r .last)) ⌝ }
 {
     match q {
         Quantity::LnGamma(i) => Span {

@@ -37,7 +37,8 @@ pub fn size(n: usize) -> usize
 // Writes x_i s_i / Σ_j x_j s_j for each i: θ for s = q.
 fn shares(n: usize, s: &[f64], x: &[f64], shares: &mut [f64])
     requires { ⌜ (n ≤ length (now s)) × (n ≤ length (now x)) × (n ≤ length (now shares)) ⌝ }
-    ensures { λ _. ⌜ Filled (share n (at (now (s .entry))) (at (now (x .entry)))) n (now (shares .exit)) ⌝ }
+    ensures { λ _. ⌜ Filled (share n (at (now (s .entry))) (at (now (x .entry)))) n
+        (now (shares .exit)) ⌝ }
 {
     let sum = arithmetic::dot(x, s, n);
     for i in 0..n {
@@ -56,7 +57,8 @@ fn l(r: f64, q: f64) -> f64
 fn l_sum(n: usize, r: &[f64], q: &[f64], x: &[f64]) -> f64
     requires { ⌜ (n ≤ length (now r)) × (n ≤ length (now q)) × (n ≤ length (now x)) ⌝ }
     ensures { λ v.
-        ⌜ v ≡ sum n (λ j. at (now (x .entry)) j ⊗ U·l (at (now (r .entry))) (at (now (q .entry))) j) ⌝ }
+        ⌜ v ≡ sum n (λ j. at (now (x .entry)) j
+        ⊗ U·l (at (now (r .entry))) (at (now (q .entry))) j) ⌝ }
 {
     let mut s = 0.0;
     for j in 0..n {
@@ -65,7 +67,8 @@ fn l_sum(n: usize, r: &[f64], q: &[f64], x: &[f64]) -> f64
     s
 }
 
-// The combinatorial part of ln γ_i, from r_i, q_i, φ_i/x_i, the logs of φ_i/x_i and θ_i/φ_i, and Σ_j x_j l_j.
+// The combinatorial part of ln γ_i, from r_i, q_i, φ_i/x_i, the logs of φ_i/x_i and θ_i/φ_i, and
+// Σ_j x_j l_j.
 fn combinatorial(r: f64, q: f64, segment: f64, ln_segment: f64, ln_area: f64, lx: f64) -> f64
     ensures { λ v.
         let lᵢ = half ⊗ U·Z ⊗ (r ⊖ q) ⊖ (r ⊖ one) in
@@ -93,7 +96,8 @@ fn residual(
     ensures { λ v.
         let θ = at (now (theta .entry)) in
         let S = at (now (sums .entry)) in
-        ⌜ v ≡ q ⊗ (one ⊖ «ln_sum» ⊖ sum n (λ j. θ j ⊗ unitAt i (at (now (row .entry))) j ⊘ S j)) ⌝ }
+        ⌜ v ≡ q ⊗ (one ⊖ «ln_sum»
+        ⊖ sum n (λ j. θ j ⊗ unitAt i (at (now (row .entry))) j ⊘ S j)) ⌝ }
 {
     let mut terms = [0.0; COMPONENTS];
     for j in 0..n {
@@ -260,7 +264,8 @@ pub fn value_at(n: usize, values: &[f64], t: f64, x: &[f64], k: Quantity) -> f64
 
 // The plain calls: the values are a by rows, then the r's and the q's.
 pub fn ln_gamma_at(n: usize, values: &[f64], t: f64, x: &[f64], i: usize) -> Answer
-    ensures { λ v. ⌜ v ≡ uniquacPlain n (now (values .entry)) t (now (x .entry)) (Quantity.LnGamma i) ⌝ }
+    ensures { λ v. ⌜ v ≡ uniquacPlain n (now (values .entry)) t (now (x .entry))
+        (Quantity.LnGamma i) ⌝ }
 {
     plain(
         Model::Uniquac,
@@ -292,7 +297,8 @@ pub fn gamma_at(n: usize, values: &[f64], t: f64, x: &[f64], i: usize) -> Answer
 }
 
 pub fn reduced_excess_gibbs_at(n: usize, values: &[f64], t: f64, x: &[f64]) -> Answer
-    ensures { λ v. ⌜ v ≡ uniquacPlain n (now (values .entry)) t (now (x .entry)) Quantity.ExcessGibbs ⌝ }
+    ensures { λ v. ⌜ v ≡ uniquacPlain n (now (values .entry)) t (now (x .entry))
+        Quantity.ExcessGibbs ⌝ }
 {
     plain(
         Model::Uniquac,

@@ -71,7 +71,8 @@ fn lambda(n: usize, v: &[f64], e: &[f64], i: usize, j: usize) -> f64
         × (n * n ≤ length (now e))
         × (i < n)
         × (j < n) ⌝ }
-    ensures { λ r. ⌜ r ≡ at (now (v .entry)) j ⊘ at (now (v .entry)) i ⊗ grid n (now (e .entry)) i j ⌝ }
+    ensures { λ r. ⌜ r ≡ at (now (v .entry)) j ⊘ at (now (v .entry)) i
+        ⊗ grid n (now (e .entry)) i j ⌝ }
 {
     v[j] / v[i] * e[i * n + j]
 }
@@ -82,7 +83,8 @@ fn ln_gamma(n: usize, v: &[f64], e: &[f64], x: &[f64], sums: &[f64], i: usize) -
         × (i < n)
         × (n ≤ length (now sums))
         × Filled (rowSum n (at (now v)) (grid n (now e)) (at (now x))) n (now sums) ⌝ }
-    ensures { λ r. ⌜ r ≡ lnGamma n (at (now (v .entry))) (grid n (now (e .entry))) (at (now (x .entry))) i ⌝ }
+    ensures { λ r. ⌜ r
+        ≡ lnGamma n (at (now (v .entry))) (grid n (now (e .entry))) (at (now (x .entry))) i ⌝ }
 {
     let mut terms = [0.0; COMPONENTS];
     for k in 0..n {
@@ -95,7 +97,8 @@ fn ln_gamma(n: usize, v: &[f64], e: &[f64], x: &[f64], sums: &[f64], i: usize) -
 // The excess energy, from the row sums, which take their logs first.
 fn excess_gibbs(n: usize, x: &[f64], sums: &mut [f64]) -> f64
     requires { ⌜ (n ≤ length (now x)) × (n ≤ length (now sums)) ⌝ }
-    ensures { λ r. ⌜ r ≡ fold n +0 (λ i s. s ⊖ at (now (x .entry)) i ⊗ logOf (at (now (sums .entry)) i)) ⌝ }
+    ensures { λ r. ⌜ r
+        ≡ fold n +0 (λ i s. s ⊖ at (now (x .entry)) i ⊗ logOf (at (now (sums .entry)) i)) ⌝ }
 {
     arithmetic::log_each(sums, n);
     let mut s = 0.0;
@@ -138,7 +141,8 @@ pub fn value_at(n: usize, values: &[f64], t: f64, x: &[f64], q: Quantity) -> f64
 
 // The plain calls: the values are a by rows, then V.
 pub fn ln_gamma_at(n: usize, values: &[f64], t: f64, x: &[f64], i: usize) -> Answer
-    ensures { λ r. ⌜ r ≡ wilsonPlain n (now (values .entry)) t (now (x .entry)) (Quantity.LnGamma i) ⌝ }
+    ensures { λ r. ⌜ r ≡ wilsonPlain n (now (values .entry)) t (now (x .entry))
+        (Quantity.LnGamma i) ⌝ }
 {
     plain(
         Model::Wilson,
@@ -170,7 +174,8 @@ pub fn gamma_at(n: usize, values: &[f64], t: f64, x: &[f64], i: usize) -> Answer
 }
 
 pub fn reduced_excess_gibbs_at(n: usize, values: &[f64], t: f64, x: &[f64]) -> Answer
-    ensures { λ r. ⌜ r ≡ wilsonPlain n (now (values .entry)) t (now (x .entry)) Quantity.ExcessGibbs ⌝ }
+    ensures { λ r. ⌜ r ≡ wilsonPlain n (now (values .entry)) t (now (x .entry))
+        Quantity.ExcessGibbs ⌝ }
 {
     plain(
         Model::Wilson,

@@ -208,7 +208,8 @@ fn begin(
     x: &[f64],
 ) -> Reply
     ensures { λ r. ⌜ left (later values cells marks) r
-        ≡ begun (before values cells marks) head (dataGiven model n ng lens groups given) (now (x .entry)) ⌝ }
+        ≡ begun (before values cells marks) head (dataGiven model n ng lens groups given)
+        (now (x .entry)) ⌝ }
 {
     let opened = open(values, cells, marks, head);
     let loaded = load(
@@ -386,8 +387,8 @@ fn repeat(
 ) -> f64
     requires { ⌜ 8 ≤ length (now temperatures) ⌝ }
     ensures { λ r. ⌜ r
-        ≡ repeated (howMany temperatures) (dataGiven model n ng lens groups given) (now (x .entry)) q change v
-        (each temperatures) ⌝ }
+        ≡ repeated (howMany temperatures) (dataGiven model n ng lens groups given) (now (x .entry)) q
+        change v (each temperatures) ⌝ }
 {
     if change == 3 {
         return plain_each(model, n, ng, lens, groups, given, temperatures, x, q);
