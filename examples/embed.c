@@ -32,7 +32,7 @@ static void ask(kiltgrit_asked asked, size_t i, const double *x) {
         said(r);
         return;
     }
-    if (kiltgrit_value_at(KILTGRIT_WILSON, 2, given, KILTGRIT_WILSON_VALUES(2), 328.7, x, asked, i, &plain) != KILTGRIT_OK ||
+    if (kiltgrit_value_at(KILTGRIT_WILSON, 2, given, KILTGRIT_WILSON_VALUES(2), 328.7, x, asked, i, &plain) != 0 ||
         memcmp(&plain, &value, sizeof plain) != 0)
         puts("the plain call differs");
     memcpy(&bits, &value, sizeof bits);
@@ -49,7 +49,11 @@ int main(void) {
         return 1;
     }
     memset(&still, 0xA5, sizeof still); /* whatever it held */
-    if (kiltgrit_open(&still) != KILTGRIT_OK) return 1;
+    const kiltgrit_refusal opened = kiltgrit_open(&still);
+    if (opened != KILTGRIT_OK) {
+        fprintf(stderr, "%s\n", kiltgrit_words(opened));
+        return 1;
+    }
     said(kiltgrit_load(&still, KILTGRIT_WILSON, 2, given, KILTGRIT_WILSON_VALUES(2)));
     said(kiltgrit_set(&still, kiltgrit_temperature(328.7)));
     for (size_t k = 0; k < 3; k++) {

@@ -218,7 +218,8 @@ static void load_it(void) {
     const kiltgrit_reply r = kiltgrit_mixture_load(LENT, model, form, n, ng, lens, lens_len, groups, places, given, told);
     if (refused(LOAD, expected, &r)) return;
     head = r.head;
-    must(head.model == model && head.n == n && head.ng == (model == 4 ? ng : 0) && head.has_t == 0 && head.has_x == 0, "load", "the head");
+    must(head.model == model && head.n == n && head.ng == (model == 4 ? ng : 0), "load", "the head's model");
+    must(head.has_t == 0 && head.has_x == 0, "load", "the head's flags");
     kept("load", 0, 1, 0);
     for (size_t k = 0; k < told; k++) must(holds(values[k], given[k]), "load", "a value");
     must(same(values + told, old_values + told, (VALUES - told) * sizeof values[0]), "load", "values past its own");
@@ -243,7 +244,9 @@ static void set_it(void) {
     must(r.head.has_x == (head.has_x == 1) && same(r.head.x, head.x, sizeof head.x), "set", "the fractions");
     kept("set", 0, 1, 0);
     for (size_t k = 0; k < VALUES; k++)
-        must(k >= at && k < at + count ? holds(values[k], s.v[k - at]) : same(&values[k], &old_values[k], sizeof values[k]), "set", "a value");
+        must(k >= at && k < at + count ? holds(values[k], s.v[k - at])
+                                       : same(&values[k], &old_values[k], sizeof values[k]),
+             "set", "a value");
     for (size_t c = 0; c < MARKS; c++) {
         const size_t i = w ? c / w : 0, j = w ? c % w : 0;
         const int own = i == s.i && j == s.j, row = head.model < 3 && s.i == s.j && i == s.i;
@@ -265,7 +268,8 @@ static void fractions_it(void) {
     if (refused(FRACTIONS, expected, &r)) return;
     kept("fractions", 1, 1, 1);
     same_model(FRACTIONS, &r.head);
-    must(same(&r.head.t, &head.t, sizeof head.t) && r.head.has_t == (head.has_t == 1) && r.head.has_x == 1, "fractions", "the head");
+    must(same(&r.head.t, &head.t, sizeof head.t), "fractions", "T");
+    must(r.head.has_t == (head.has_t == 1) && r.head.has_x == 1, "fractions", "the head's flags");
     for (size_t k = 0; k < 12; k++) must(holds(r.head.x[k], k < len ? x[k] : 0.0), "fractions", "a fraction");
     head = r.head;
 }

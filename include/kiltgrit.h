@@ -8,16 +8,17 @@
  *     kiltgrit_fractions(&m, x, 2);
  *     kiltgrit_query(&m, KILTGRIT_LN_GAMMA, 0, &value, NULL);       works out only what has changed since the last one
  *
- * Memory     No heap, no file, no global that is written, no callback. The mixture is the caller's: one kiltgrit_mixture,
- *            static or on a stack, with any content before kiltgrit_open.
+ * Memory     No heap, no file, no global that is written, no callback. The mixture is the caller's: one
+ *            kiltgrit_mixture, static or on a stack, with any content before kiltgrit_open.
  * Threads    Calls on different mixtures may run at once. Calls on one mixture must not overlap.
  * Answers    Every call returns for every argument. A refused call has changed nothing and says why.
  * Floats     IEEE 754, round to nearest even, subnormals kept: leave MXCSR as the system sets it (no -ffast-math at
- *            the link, no fesetround). kiltgrit_floats_ok says whether that is so; ask it at the start. A NaN's sign and
- *            payload are unspecified.
+ *            the link, no fesetround). kiltgrit_floats_ok says whether that is so; ask it at the start. A NaN's sign
+ *            and payload are unspecified.
  * Stack      A query takes up to 8 KB, a plain call 16 KB, kiltgrit_run 134 KB, any other call 2 KB.
- * Trusted    kiltgrit_mixture_* and kiltgrit_plain are proved, each by one equation over the mixture's own definitions. The inline functions
- *            below, which hand them the mixture's parts, are not.
+ * Pointers   None is NULL, but for a query's counts.
+ * Trusted    The calls of the archive are proved, each by one equation. The inline functions below, which hand them the
+ *            mixture's parts, are not: they are tested.
  */
 #ifndef KILTGRIT_H
 #define KILTGRIT_H
@@ -47,25 +48,48 @@ extern "C" {
 /* How many values a load takes. */
 #define KILTGRIT_WILSON_VALUES(n) ((n) * (n) + (n))                                /* a by rows, V */
 #define KILTGRIT_UNIQUAC_VALUES(n) ((n) * (n) + 2 * (n))                           /* a by rows, r, q */
-#define KILTGRIT_NRTL_VALUES(n) (6 * (n) * (n))                                    /* tau by rows, five each; alpha by rows */
-#define KILTGRIT_UNIFAC_VALUES(ng, listed) (2 * (ng) + 5 * (ng) * (ng) + (listed)) /* R, Q, a by rows, five each; counts */
+#define KILTGRIT_NRTL_VALUES(n) (6 * (n) * (n))                                    /* tau by rows, five each; alpha */
+#define KILTGRIT_UNIFAC_VALUES(ng, listed) (2 * (ng) + 5 * (ng) * (ng) + (listed)) /* R, Q, a by rows, five; counts */
 
 /* ---- what a call answers */
 typedef enum kiltgrit_refusal {
     KILTGRIT_OK = 0,
     KILTGRIT_BAD_MEMORY = 1,     /* a lent slice is short, or the head is out of range */
     KILTGRIT_BAD_SHAPE = 2,      /* no such model; components, groups, a list or a slice's length out of range */
-    KILTGRIT_NO_GROUP = 3,
-    KILTGRIT_NEGATIVE_COUNT = 4,
-    KILTGRIT_NO_FRACTIONS = 5,
+    KILTGRIT_NO_GROUP = 3,       /* a list names a group that isn't there */
+    KILTGRIT_NEGATIVE_COUNT = 4, /* a count of a group below 0 */
+    KILTGRIT_NO_FRACTIONS = 5,   /* no fractions at all */
     KILTGRIT_BAD_SUM = 6,        /* the fractions add up to something off 1 by more than 1e-6 */
     KILTGRIT_NO_COMPONENT = 7,   /* not as many fractions as components, no such component, or no such quantity */
-    KILTGRIT_NO_MODEL = 8,
-    KILTGRIT_NOT_SET = 9,        /* temperature or fractions */
+    KILTGRIT_NO_MODEL = 8,       /* nothing is loaded */
+    KILTGRIT_NOT_SET = 9,        /* temperature or fractions, since the load */
     KILTGRIT_NO_PARAMETER = 10   /* this model has no such parameter, or no such kind of setting */
 } kiltgrit_refusal;
 
-typedef enum kiltgrit_model { KILTGRIT_WILSON = 1, KILTGRIT_UNIQUAC = 2, KILTGRIT_NRTL = 3, KILTGRIT_UNIFAC = 4 } kiltgrit_model;
+/* The same in words, for a display or a log. */
+static inline const char *kiltgrit_words(kiltgrit_refusal refusal) {
+    switch (refusal) {
+    case KILTGRIT_OK: return "ok";
+    case KILTGRIT_BAD_MEMORY: return "memory or head out of range";
+    case KILTGRIT_BAD_SHAPE: return "model, size or length out of range";
+    case KILTGRIT_NO_GROUP: return "no such group";
+    case KILTGRIT_NEGATIVE_COUNT: return "negative count of a group";
+    case KILTGRIT_NO_FRACTIONS: return "no fractions";
+    case KILTGRIT_BAD_SUM: return "fractions do not add up to 1";
+    case KILTGRIT_NO_COMPONENT: return "no such component or quantity";
+    case KILTGRIT_NO_MODEL: return "no model loaded";
+    case KILTGRIT_NOT_SET: return "temperature or fractions not set";
+    case KILTGRIT_NO_PARAMETER: return "no such parameter in this model";
+    }
+    return "unknown";
+}
+
+typedef enum kiltgrit_model {
+    KILTGRIT_WILSON = 1,
+    KILTGRIT_UNIQUAC = 2,
+    KILTGRIT_NRTL = 3,
+    KILTGRIT_UNIFAC = 4
+} kiltgrit_model;
 
 typedef enum kiltgrit_asked { KILTGRIT_LN_GAMMA = 0, KILTGRIT_GAMMA = 1, KILTGRIT_EXCESS_GIBBS = 2 } kiltgrit_asked;
 
@@ -115,18 +139,20 @@ KILTGRIT_STATIC_ASSERT(sizeof(kiltgrit_reply) == 336, "the reply as the library 
 KILTGRIT_STATIC_ASSERT(sizeof(kiltgrit_answer) == 32, "the answer as the library has it");
 KILTGRIT_STATIC_ASSERT(sizeof(kiltgrit_setting) == 64, "the setting as the library has it");
 
-/* ---- the raw calls. A slice is a pointer, never NULL, and how many. A slice that is written overlaps no other. */
+/* ---- the raw calls, for a host that lays out its own memory. A slice is a pointer and how many; one that is written
+ * overlaps no other. Each call takes the head that the last one gave back; a query leaves it. A form is kept for later:
+ * 0. */
 kiltgrit_reply kiltgrit_mixture_open(const double *values, size_t values_len, const double *cells, size_t cells_len,
                                      const uint8_t *marks, size_t marks_len, kiltgrit_head head);
 kiltgrit_reply kiltgrit_mixture_load(double *values, size_t values_len, const double *cells, size_t cells_len,
                                      uint8_t *marks, size_t marks_len, kiltgrit_head head, uint32_t model,
-                                     uint32_t form /* kept for later: 0 */, size_t n, size_t ng, const uint8_t *lens, size_t lens_len, const uint8_t *groups,
-                                     size_t groups_len, const double *given, size_t given_len);
+                                     uint32_t form, size_t n, size_t ng, const uint8_t *lens, size_t lens_len,
+                                     const uint8_t *groups, size_t groups_len, const double *given, size_t given_len);
 kiltgrit_reply kiltgrit_mixture_set(double *values, size_t values_len, const double *cells, size_t cells_len,
                                     uint8_t *marks, size_t marks_len, kiltgrit_head head, kiltgrit_setting s);
-kiltgrit_reply kiltgrit_mixture_fractions(const double *values, size_t values_len, const double *cells, size_t cells_len,
-                                          const uint8_t *marks, size_t marks_len, kiltgrit_head head, const double *x,
-                                          size_t x_len);
+kiltgrit_reply kiltgrit_mixture_fractions(const double *values, size_t values_len, const double *cells,
+                                          size_t cells_len, const uint8_t *marks, size_t marks_len, kiltgrit_head head,
+                                          const double *x, size_t x_len);
 kiltgrit_answer kiltgrit_mixture_query(const double *values, size_t values_len, double *cells, size_t cells_len,
                                        uint8_t *marks, size_t marks_len, kiltgrit_head head, uint32_t asked, size_t i);
 
@@ -137,9 +163,9 @@ typedef struct kiltgrit_value {
 } kiltgrit_value;
 KILTGRIT_STATIC_ASSERT(sizeof(kiltgrit_value) == 16, "the value as the library has it");
 
-kiltgrit_value kiltgrit_plain(uint32_t model, uint32_t form /* kept for later: 0 */, size_t n, size_t ng, const uint8_t *lens,
-                              size_t lens_len, const uint8_t *groups, size_t groups_len, const double *given,
-                              size_t given_len, double t, const double *x, size_t x_len, uint32_t asked, size_t i);
+kiltgrit_value kiltgrit_plain(uint32_t model, uint32_t form, size_t n, size_t ng, const uint8_t *lens, size_t lens_len,
+                              const uint8_t *groups, size_t groups_len, const double *given, size_t given_len, double t,
+                              const double *x, size_t x_len, uint32_t asked, size_t i);
 
 /* ---- the exponential and the logarithm of the models, with the same bits everywhere */
 double kiltgrit_exp(double v);
@@ -168,21 +194,21 @@ static inline kiltgrit_refusal kiltgrit_open(kiltgrit_mixture *m) {
     return kiltgrit_took_(m, &r);
 }
 
-/* Wilson, UNIQUAC or NRTL. */
+/* Loads Wilson, UNIQUAC or NRTL; temperature and fractions are unset by it. */
 static inline kiltgrit_refusal kiltgrit_load(kiltgrit_mixture *m, kiltgrit_model model, size_t n, const double *given,
                                              size_t given_len) {
     const uint8_t none = 0;
-    const kiltgrit_reply r =
-        kiltgrit_mixture_load(KILTGRIT_LENT_(m), m->head, (uint32_t)model, 0, n, 0, &none, 0, &none, 0, given, given_len);
+    const kiltgrit_reply r = kiltgrit_mixture_load(KILTGRIT_LENT_(m), m->head, (uint32_t)model, 0, n, 0, &none, 0, &none,
+                                                   0, given, given_len);
     return kiltgrit_took_(m, &r);
 }
 
-/* UNIFAC: lens[i] groups of component i stand in `groups`, list after list; their counts end `given`. */
+/* Loads UNIFAC: lens[i] groups of component i stand in `groups`, list after list; their counts end `given`. */
 static inline kiltgrit_refusal kiltgrit_load_unifac(kiltgrit_mixture *m, size_t n, size_t ng, const uint8_t *lens,
                                                     const uint8_t *groups, size_t listed, const double *given,
                                                     size_t given_len) {
-    const kiltgrit_reply r =
-        kiltgrit_mixture_load(KILTGRIT_LENT_(m), m->head, KILTGRIT_UNIFAC, 0, n, ng, lens, n, groups, listed, given, given_len);
+    const kiltgrit_reply r = kiltgrit_mixture_load(KILTGRIT_LENT_(m), m->head, KILTGRIT_UNIFAC, 0, n, ng, lens, n,
+                                                   groups, listed, given, given_len);
     return kiltgrit_took_(m, &r);
 }
 
@@ -190,6 +216,7 @@ static inline kiltgrit_setting kiltgrit_setting_(uint32_t kind, size_t i, size_t
     const kiltgrit_setting s = {{v, 0.0, 0.0, 0.0, 0.0}, i, j, kind, 0};
     return s;
 }
+/* T in kelvin */
 static inline kiltgrit_setting kiltgrit_temperature(double kelvin) { return kiltgrit_setting_(5, 0, 0, kelvin); }
 /* a_ij in kelvin, or NRTL's alpha_ij (one way) */
 static inline kiltgrit_setting kiltgrit_entry(size_t i, size_t j, double v) { return kiltgrit_setting_(7, i, j, v); }
@@ -198,21 +225,29 @@ static inline kiltgrit_setting kiltgrit_td(size_t i, size_t j, double a, double 
     const kiltgrit_setting s = {{a, b, c, d, e}, i, j, 8, 0};
     return s;
 }
-/* which: 0 for V, r or R, 1 for q or Q */
-static inline kiltgrit_setting kiltgrit_size(size_t i, size_t which, double v) { return kiltgrit_setting_(9, i, which, v); }
-static inline kiltgrit_setting kiltgrit_count(size_t i, size_t place, double v) { return kiltgrit_setting_(10, i, place, v); }
+/* of component or group i, which: 0 for V, r or R, 1 for q or Q */
+static inline kiltgrit_setting kiltgrit_size(size_t i, size_t which, double v) {
+    return kiltgrit_setting_(9, i, which, v);
+}
+/* how often the group at a place of component i's list is in it */
+static inline kiltgrit_setting kiltgrit_count(size_t i, size_t place, double v) {
+    return kiltgrit_setting_(10, i, place, v);
+}
 
+/* Replaces one parameter or the temperature; the next query works out again only what that changes. */
 static inline kiltgrit_refusal kiltgrit_set(kiltgrit_mixture *m, kiltgrit_setting s) {
     const kiltgrit_reply r = kiltgrit_mixture_set(KILTGRIT_LENT_(m), m->head, s);
     return kiltgrit_took_(m, &r);
 }
 
+/* The mole fractions of the n components; they add up to 1 within 1e-6. */
 static inline kiltgrit_refusal kiltgrit_fractions(kiltgrit_mixture *m, const double *x, size_t n) {
     const kiltgrit_reply r = kiltgrit_mixture_fractions(KILTGRIT_LENT_(m), m->head, x, n);
     return kiltgrit_took_(m, &r);
 }
 
-/* *value, and *counts unless that is NULL, are written only where KILTGRIT_OK is returned. i doesn't count for the excess energy. */
+/* *value, and *counts unless that is NULL, are written only where KILTGRIT_OK is returned. i doesn't count for the
+ * excess energy. */
 static inline kiltgrit_refusal kiltgrit_query(kiltgrit_mixture *m, kiltgrit_asked asked, size_t i, double *value,
                                               kiltgrit_counts *counts) {
     const kiltgrit_answer a = kiltgrit_mixture_query(KILTGRIT_LENT_(m), m->head, (uint32_t)asked, i);
@@ -231,8 +266,8 @@ static inline kiltgrit_refusal kiltgrit_value_at(kiltgrit_model model, size_t n,
                                                  double kelvin, const double *x, kiltgrit_asked asked, size_t i,
                                                  double *value) {
     const uint8_t none = 0;
-    const kiltgrit_value a = kiltgrit_plain((uint32_t)model, 0, n, 0, &none, 0, &none, 0, given, given_len, kelvin, x, n,
-                                            (uint32_t)asked, i);
+    const kiltgrit_value a = kiltgrit_plain((uint32_t)model, 0, n, 0, &none, 0, &none, 0, given, given_len, kelvin, x,
+                                            n, (uint32_t)asked, i);
     if (a.refused == KILTGRIT_OK) *value = a.value;
     return (kiltgrit_refusal)a.refused;
 }
@@ -242,8 +277,8 @@ static inline kiltgrit_refusal kiltgrit_unifac_value_at(size_t n, size_t ng, con
                                                         size_t listed, const double *given, size_t given_len,
                                                         double kelvin, const double *x, kiltgrit_asked asked, size_t i,
                                                         double *value) {
-    const kiltgrit_value a = kiltgrit_plain(KILTGRIT_UNIFAC, 0, n, ng, lens, n, groups, listed, given, given_len, kelvin, x, n,
-                                            (uint32_t)asked, i);
+    const kiltgrit_value a = kiltgrit_plain(KILTGRIT_UNIFAC, 0, n, ng, lens, n, groups, listed, given, given_len,
+                                            kelvin, x, n, (uint32_t)asked, i);
     if (a.refused == KILTGRIT_OK) *value = a.value;
     return (kiltgrit_refusal)a.refused;
 }
