@@ -15,7 +15,7 @@ use Rattle.models.specs.declared.model.Model.the-variants.{Wilson, Uniquac, Nrt
 use Rattle.mixture.specs.Lists.{written}
 use Rattle.mixture.specs.Holdings.{Held, held}
 use Rattle.mixture.specs.Cells.{width, isCell}
-use Rattle.models.specs.Model.{ModelData, byModel}
+use Rattle.models.specs.Model.{ModelData, byModel, tableWidth, hasGroups}
 use Rattle.mixture.specs.Layout.{cellAt}
 use Rattle.mixture.specs.steps.Blocks.{inBlock, block}
 use Rattle.mixture.proofs.ListLaws.{written-same}
@@ -30,11 +30,11 @@ rows-lt w c some =
       | inr h ↦ lt-ltb c (w * w) (omega (arith, div-add-mod' c w, cell-lt w w (c / w) (c % w) h (mod-lt c some))) ∙ sym (lt-ltb (c / w) w h)
     ]
 
-cell-is : (d : Held) (i j : ℕ) → isCell d i j ≡ (byModel (d .model) false false false true || not (eqb i j))
+cell-is : (d : Held) (i j : ℕ) → isCell d i j ≡ (hasGroups (d .model) || not (eqb i j))
 unfolding isCell
 cell-is d i j = go (d .model) refl
   where
-    go : (k : Model) → d .model ≡ k → isCell d i j ≡ (byModel (d .model) false false false true || not (eqb i j))
+    go : (k : Model) → d .model ≡ k → isCell d i j ≡ (hasGroups (d .model) || not (eqb i j))
     go Wilson e = rw e
     go Uniquac e = rw e
     go Nrtl e = rw e
@@ -53,7 +53,7 @@ one true true c l h = rw (h refl) (sym (and-true c))
 one true false c l h = sym (and-false (l && c))
 one false b c l h = sym (and-false (l && c))
 
-module _ (d : Held) (w : ℕ) (diagonal : Bool) (e : w ≡ width d) (f : diagonal ≡ byModel (d .model) false false false true) (some : 1 ≤ w) where
+module _ (d : Held) (w : ℕ) (diagonal : Bool) (e : w ≡ width d) (f : diagonal ≡ hasGroups (d .model)) (some : 1 ≤ w) where
   cell-at : (c : ℕ) → cellAt d c ≡ (ltb (c / w) w && (diagonal || not (eqb (c / w) (c % w))))
   unfolding cellAt
   cell-at c = rw (← e, rows-lt w c some, cell-is d (c / w) (c % w), f)
@@ -88,11 +88,11 @@ module _ (d : Held) (w : ℕ) (diagonal : Bool) (e : w ≡ width d) (f : diagona
 -- ---- marks made stale
 
 module _ (d : ModelData) {model : Model} {n ng w : ℕ} (so : (d .model ≡ model) × (d .n ≡ n) × (d .ng ≡ ng)) where
-  wide : w ≡ byModel model n n n ng → w ≡ width (held d)
+  wide : w ≡ tableWidth model n ng → w ≡ width (held d)
   unfolding width
   wide e = rw (so .0, so .1, so .2) e
 
-  pub cells-stale : {diagonal : Bool} → w ≡ byModel model n n n ng → diagonal ≡ byModel model false false false true → 1 ≤ w → (l : List ℕ) {r : List ℕ}
+  pub cells-stale : {diagonal : Bool} → w ≡ tableWidth model n ng → diagonal ≡ hasGroups model → 1 ≤ w → (l : List ℕ) {r : List ℕ}
       → r ≡ written (inBlock w diagonal (block 0 w 0 w)) (λ c. 0) l
       → r ≡ written (cellAt (held d)) (λ c. 0) l
   cells-stale {diagonal} e f some l s = s ∙ written-same _ _ (λ c. 0) l (all-cells (held d) w diagonal (wide e) (rw (so .0) f) some)

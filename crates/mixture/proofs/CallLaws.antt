@@ -19,7 +19,7 @@ use Rattle.mixture.specs.declared.answers.Answer.the-variants.{Refused, 
 use Rattle.mixture.specs.Lists.{written}
 use Rattle.mixture.specs.Holdings.{held}
 use Rattle.mixture.specs.Cells.{width}
-use Rattle.models.specs.Model.{ModelData, byModel}
+use Rattle.models.specs.Model.{ModelData, byModel, tableWidth}
 use Rattle.mixture.specs.Memory.{Memory, memory, leastValues, leastMarks, short, isShort, After, after}
 use Rattle.mixture.specs.Layout.{dataIn, cellAt}
 use Rattle.mixture.specs.Calls.{outcome, loadedHead, loadedMemory, afterLoad}
@@ -173,7 +173,7 @@ sound-range d s = go (d .model) refl
 pub record Fits (m : Memory) (d : ModelData) : Type 0 where
   pub values : length (d .values) ≤ length (m .values)
   pub marks : 1024 ≤ length (m .marks)
-  pub width : (1 ≤ byModel (d .model) (d .n) (d .n) (d .n) (d .ng)) × (byModel (d .model) (d .n) (d .n) (d .n) (d .ng) ≤ 32)
+  pub width : (1 ≤ tableWidth (d .model) (d .n) (d .ng)) × (tableWidth (d .model) (d .n) (d .ng) ≤ 32)
   pub lists : d .model ≡ Unifac → (length (d .lens) ≤ 12) × (length (d .groups) ≤ 144)
 
 pub load-fits : (m : Memory) (d : ModelData) → memoryFault m ≡ 0 → dataFault d ≡ 0 → Fits m d

@@ -21,11 +21,11 @@ use Rattle.models.specs.declared.model.Model.the-variants.{Wilson, Uniquac, Nrt
 use Rattle.mixture.specs.declared.setting.Setting.{Setting}
 use Rattle.mixture.specs.declared.setting.Setting.the-variants.{Temperature, Entry, TdEntry, Size, Count}
 use Rattle.mixture.specs.Holdings.{held, name, named}
-use Rattle.models.specs.Model.{ModelData}
+use Rattle.models.specs.Model.{ModelData, sizeOf}
 use Rattle.mixture.specs.Faults.{below, hasEntry, hasTdEntry, hasSize, hasCount, caseFault}
 use Rattle.mixture.specs.Layout.{place}
 use Rattle.mixture.specs.Pins.{FractionsAlike, Over, ValuesNamed, Within}
-use Rattle.mixture.proofs.PlaceLaws.{both, had, sizeOf, store-in, D, entry-places, size-places, count-places, td-places, td-entry, entry-size, size-td, td-count, size-count, entry-count}
+use Rattle.mixture.proofs.PlaceLaws.{both, had, store-in, D, entry-places, size-places, count-places, td-places, td-entry, entry-size, size-td, td-count, size-count, entry-count}
 use Rattle.mixture.proofs.history.RangeLaws.{sound}
 use Rattle.mixture.proofs.RowLaws.{before-table, before-lens, InRow, in-row}
 

@@ -23,7 +23,7 @@ use Rattle.models.specs.declared.model.Model.the-variants.{Wilson, Uniquac, Nrt
 use Rattle.mixture.specs.declared.setting.Setting.{Setting}
 use Rattle.mixture.specs.declared.setting.Setting.the-variants.{Temperature, Entry, TdEntry, Size, Count}
 use Rattle.mixture.specs.Holdings.{held, entries, tdEntries, sizes}
-use Rattle.models.specs.Model.{ModelData, byModel}
+use Rattle.models.specs.Model.{ModelData, byModel, sizeOf}
 use Rattle.mixture.specs.Faults.{below, hasEntry, hasTdEntry, hasSize, hasCount, caseFault}
 use Rattle.mixture.specs.Layout.{place, numbers}
 use Rattle.mixture.proofs.ListLaws.{never}
@@ -141,10 +141,7 @@ five-within l p P h = rw (first, w 1 (omega arith), w 2 (omega arith), w 3 (omeg
     first : at (sets l p (fiveOf P)) p ≡ P .a
     first = rw (add-zero p) at (w 0 (omega arith))
 
--- ---- how many values a model has
-
-abbrev pub sizeOf : ModelData → ℕ
-sizeOf d = byModel (d .model) (wilsonSize (d .n)) (uniquacSize (d .n)) (nrtlSize (d .n)) (unifacSize (d .ng) (start (d .lens) (d .n)))
+-- ---- the places of a model's values
 
 -- a place of the lists, one after the other, is another's only where component and place are
 list-once : (lens : List ℕ) (i j r s : ℕ) → j < getD lens i 0 → s < getD lens r 0 → start lens i + j ≡ start lens r + s → (i ≡ r) × (j ≡ s)

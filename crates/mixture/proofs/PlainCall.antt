@@ -32,14 +32,14 @@ use Rattle.mixture.specs.declared.answers.Answer.the-variants.{Done, Val
 use Rattle.mixture.specs.Answers.{numberOf, valuesOf, countsOf, unless}
 use Rattle.mixture.specs.Lists.{row, rows}
 use Rattle.mixture.specs.Holdings.{Held, held, entries, tdEntries, sizes}
-use Rattle.models.specs.Model.{ModelData, byModel}
+use Rattle.models.specs.Model.{ModelData, byModel, sizeOf}
 use Rattle.mixture.specs.Faults.{hasEntry, hasTdEntry, hasSize, hasCount, caseFault}
 use Rattle.mixture.specs.Calls.{exponential}
 use Rattle.mixture.specs.Book.{Call, Open, Load, Set, Fractions, Query, Book, empty, replaced, holding, setIn, setModel, bookAfter, plain, having, touchedCells, settingAnswer, queryAnswer, bookAnswer, accepted, since, bookAnswers, bookOf, pastOf}
 use Rattle.mixture.specs.PlainCall.{OneMore, PlainCall}
 use Rattle.mixture.specs.WrittenBack.{fives, valuesIn, dataOf}
 use Rattle.mixture.proofs.ListLaws.{never}
-use Rattle.mixture.proofs.PlaceLaws.{passed, spared, nought, below-is, sizeOf}
+use Rattle.mixture.proofs.PlaceLaws.{passed, spared, nought, below-is}
 use Rattle.mixture.proofs.history.AgreeLaws.{Agrees, set-alike}
 use Rattle.mixture.proofs.history.RangeLaws.{first-is, firstTo-none, at-all, Sound, sound}
 use Rattle.mixture.proofs.history.CellLaws.{exponential-same, valueBy-same, plain-is}
@@ -312,11 +312,8 @@ by-model Unifac p q r s = s refl
 data-passes : (d : Held) → Proper d → dataFault (dataOf d) ≡ 0
 unfolding dataFault
 data-passes d p =
-    by-model (d .model)
-    (λ e. shape-passes (d .n) (wilsonSize (d .n)) (valuesIn d) (p .some) (p .few) (length-values d ∙ rw e))
-    (λ e. shape-passes (d .n) (uniquacSize (d .n)) (valuesIn d) (p .some) (p .few) (length-values d ∙ rw e))
-    (λ e. shape-passes (d .n) (nrtlSize (d .n)) (valuesIn d) (p .some) (p .few) (length-values d ∙ rw e))
-    (λ e. unifac-passes d e p)
+    let shape = shape-passes (d .n) (sizeOf (dataOf d)) (valuesIn d) (p .some) (p .few) (length-values d) in
+    by-model (d .model) (λ e. shape) (λ e. shape) (λ e. shape) (λ e. unifac-passes d e p)
 
 -- ---- the plain call and its value
 

@@ -18,10 +18,10 @@ use Rattle.arithmetic.proofs.Tests.{le-or}
 use Rattle.arithmetic.proofs.TableLaws.{by-place, row-end, row-next, from-length, cell-row, cell-column}
 use Rattle.models.specs.declared.model.Model.{Model}
 use Rattle.models.specs.declared.model.Model.the-variants.{Wilson, Uniquac, Nrtl, Unifac}
-use Rattle.models.specs.Model.{byModel}
+use Rattle.models.specs.Model.{byModel, hasGroups}
 use Rattle.mixture.specs.Lists.{written, howMany}
 use Rattle.mixture.specs.declared.refill.Rows.{Rows}
-use Rattle.mixture.specs.steps.Refills.{staleCell, cellIn, cellOf, staleIn, staleOf, hasDiagonal, RowFits, TableFits, Refilled}
+use Rattle.mixture.specs.steps.Refills.{staleCell, cellIn, cellOf, staleIn, staleOf, RowFits, TableFits, Refilled}
 use Rattle.mixture.proofs.ListLaws.{never, length-written, length-as, getD-written, getD-kept, written-same, written-as, written-none, written-set, howMany-le, howMany-none, howMany-add, howMany-same}
 
 -- ---- a writable part, back
@@ -79,11 +79,11 @@ module _ (mark i j : ℕ) where
       go Unifac = refl
 
   -- only UNIFAC has cells on the diagonal
-  pub stale-diagonal : {k : Model} (l : Model) → k ≡ l → (mark ≡ 1 → ⊥) → i ≡ j → hasDiagonal l ≡ staleCell k mark i j
+  pub stale-diagonal : (k : Model) → (mark ≡ 1 → ⊥) → i ≡ j → hasGroups k ≡ staleCell k mark i j
   unfolding staleCell
-  stale-diagonal l q f e = rw (q, ne-eqb mark 1 f, eq-eqb i j e) (go l)
+  stale-diagonal k f e = rw (ne-eqb mark 1 f, eq-eqb i j e) (go k)
     where
-      go : (k : Model) → byModel k false false false true ≡ (byModel k false false false true && true)
+      go : (k : Model) → hasGroups k ≡ (hasGroups k && true)
       go Wilson = refl
       go Uniquac = refl
       go Nrtl = refl

@@ -27,7 +27,7 @@ use Rattle.mixture.specs.declared.stale.Block.{Block}
 use Rattle.mixture.specs.Lists.{written}
 use Rattle.mixture.specs.Holdings.{Held, held}
 use Rattle.mixture.specs.Cells.{width, isCell}
-use Rattle.models.specs.Model.{byModel, modelOf}
+use Rattle.models.specs.Model.{byModel, tableWidth, hasGroups, modelOf}
 use Rattle.mixture.specs.Faults.{below, hasEntry, hasTdEntry, hasSize, hasCount, caseFault, inRange, headFault, settingFault}
 use Rattle.mixture.specs.Memory.{Memory, memory, leastValues, leastMarks, After, after, left}
 use Rattle.mixture.specs.Layout.{dataIn, place, numbers, cellAt}
@@ -39,13 +39,9 @@ use Rattle.mixture.proofs.history.RangeLaws.{first-is, bounds}
 use Rattle.mixture.proofs.CallLaws.{refused, in-range, head-passed}
 use Rattle.mixture.proofs.BlockLaws.{one-cell, one-row, no-cells, every-cell}
 
--- how many rows and columns a model's tables have
-abbrev wide : ℕ → ℕ → Model → ℕ
-wide n ng t = byModel t n n n ng
-
 -- ---- what a setting is declined for
 
-module _ (m : Memory) (h : Head) {model : Model} (e : model ≡ modelOf (h .model)) {w : ℕ} (f : w ≡ wide (h .n) (h .ng) model) {s : Setting} where
+module _ (m : Memory) (h : Head) {model : Model} (e : model ≡ modelOf (h .model)) {w : ℕ} (f : w ≡ tableWidth model (h .n) (h .ng)) {s : Setting} where
   pub temperature-case : {T : Float} → s ≡ Temperature T → 0 ≡ caseFault (held (dataIn m h)) s
   unfolding caseFault
   temperature-case g = rw g
@@ -54,7 +50,7 @@ module _ (m : Memory) (h : Head) {model : Model} (e : model ≡ modelOf (h .mode
   unfolding caseFault hasEntry
   entry-case {i} {j} g p q = q ∙ rw (g, p, f, ← e) (go model)
     where
-      go : (t : Model) → let v = wide (h .n) (h .ng) t in
+      go : (t : Model) → let v = tableWidth t (h .n) (h .ng) in
           cond {A = ℕ} (below i (byModel t v v v 0) j (byModel t v v v 0)) 0 10 ≡ cond (byModel t (below i (h .n) j (h .n)) (below i (h .n) j (h .n)) (below i (h .n) j (h .n)) false) 0 10
       go Wilson = refl
       go Uniquac = refl
@@ -65,7 +61,7 @@ module _ (m : Memory) (h : Head) {model : Model} (e : model ≡ modelOf (h .mode
   unfolding caseFault hasTdEntry
   td-case {i} {j} g p q = q ∙ rw (g, p, f, ← e) (go model)
     where
-      go : (t : Model) → let v = wide (h .n) (h .ng) t in
+      go : (t : Model) → let v = tableWidth t (h .n) (h .ng) in
           cond {A = ℕ} (below i (byModel t 0 0 v v) j (byModel t 0 0 v v)) 0 10 ≡ cond (byModel t false false (below i (h .n) j (h .n)) (below i (h .ng) j (h .ng))) 0 10
       go Wilson = rw (le-ltb i 0 (omega arith))
       go Uniquac = rw (le-ltb i 0 (omega arith))
@@ -76,7 +72,7 @@ module _ (m : Memory) (h : Head) {model : Model} (e : model ≡ modelOf (h .mode
   unfolding caseFault hasSize
   size-case {i} {which} g p q = q ∙ rw (g, p, f, ← e) (go model)
     where
-      go : (t : Model) → cond {A = ℕ} (below i (wide (h .n) (h .ng) t) which (byModel t 1 2 0 2)) 0 10
+      go : (t : Model) → cond {A = ℕ} (below i (tableWidth t (h .n) (h .ng)) which (byModel t 1 2 0 2)) 0 10
           ≡ cond (byModel t (below i (h .n) which 1) (below i (h .n) which 2) false (below i (h .ng) which 2)) 0 10
       go Wilson = refl
       go Uniquac = refl
@@ -98,39 +94,39 @@ module _ (m : Memory) (h : Head) {model : Model} (e : model ≡ modelOf (h .mode
 -- ---- by model
 
 module _ (n ng i j : ℕ) where
-  entry-below : (t : Model) → byModel t (below i n j n) (below i n j n) (below i n j n) false ≡ true → (i < wide n ng t) × (j < wide n ng t)
+  entry-below : (t : Model) → byModel t (below i n j n) (below i n j n) (below i n j n) false ≡ true → (i < tableWidth t n ng) × (j < tableWidth t n ng)
   entry-below Wilson h = below-is i n j n h
   entry-below Uniquac h = below-is i n j n h
   entry-below Nrtl h = below-is i n j n h
   entry-below Unifac h = never (sym h)
 
-  td-below : (t : Model) → byModel t false false (below i n j n) (below i ng j ng) ≡ true → (i < wide n ng t) × (j < wide n ng t)
+  td-below : (t : Model) → byModel t false false (below i n j n) (below i ng j ng) ≡ true → (i < tableWidth t n ng) × (j < tableWidth t n ng)
   td-below Wilson h = never (sym h)
   td-below Uniquac h = never (sym h)
   td-below Nrtl h = below-is i n j n h
   td-below Unifac h = below-is i ng j ng h
 
-  size-below : (t : Model) → byModel t (below i n j 1) (below i n j 2) false (below i ng j 2) ≡ true → (i < wide n ng t) × (j < 2)
+  size-below : (t : Model) → byModel t (below i n j 1) (below i n j 2) false (below i ng j 2) ≡ true → (i < tableWidth t n ng) × (j < 2)
   size-below Wilson h = let b = below-is i n j 1 h in (b .0, omega arith)
   size-below Uniquac h = below-is i n j 2 h
   size-below Nrtl h = never (sym h)
   size-below Unifac h = below-is i ng j 2 h
 
-  entry-where : (t : Model) → byModel t (below i n j n) (below i n j n) (below i n j n) false ≡ true → let w = wide n ng t in
+  entry-where : (t : Model) → byModel t (below i n j n) (below i n j n) (below i n j n) false ≡ true → let w = tableWidth t n ng in
       byModel t 0 0 (w * w * 5) 0 + (i * w + j) ≡ byModel t (i * n + j) (i * n + j) (n * n * 5 + (i * n + j)) 0
   entry-where Wilson h = zero-add (i * n + j)
   entry-where Uniquac h = zero-add (i * n + j)
   entry-where Nrtl h = refl
   entry-where Unifac h = never (sym h)
 
-  td-where : (t : Model) → byModel t false false (below i n j n) (below i ng j ng) ≡ true → let w = wide n ng t in
+  td-where : (t : Model) → byModel t false false (below i n j n) (below i ng j ng) ≡ true → let w = tableWidth t n ng in
       byModel t 0 0 0 (w + w) + (i * w + j) * 5 ≡ byModel t 0 0 ((i * n + j) * 5) (ng + ng + (i * ng + j) * 5)
   td-where Wilson h = never (sym h)
   td-where Uniquac h = never (sym h)
   td-where Nrtl h = zero-add ((i * n + j) * 5)
   td-where Unifac h = refl
 
-  size-where : (t : Model) → byModel t (below i n j 1) (below i n j 2) false (below i ng j 2) ≡ true → let w = wide n ng t in
+  size-where : (t : Model) → byModel t (below i n j 1) (below i n j 2) false (below i ng j 2) ≡ true → let w = tableWidth t n ng in
       byModel t (w * w) (w * w) 0 0 + (j * w + i) ≡ byModel t (n * n + i) (n * n + (j * n + i)) 0 (j * ng + i)
   size-where Wilson h = let z : j ≡ 0 = omega (arith, below-is i n j 1 h .1) in rw (z, zero-mul n, zero-add i)
   size-where Uniquac h = refl
@@ -145,7 +141,7 @@ unifac-alone Unifac a h = (refl, h)
 
 -- ---- where its numbers stand
 
-module _ (h : Head) {s : Setting} (ok : Settable h s) {model : Model} (e : model ≡ modelOf (h .model)) {w : ℕ} (f : w ≡ wide (h .n) (h .ng) model) where
+module _ (h : Head) {s : Setting} (ok : Settable h s) {model : Model} (e : model ≡ modelOf (h .model)) {w : ℕ} (f : w ≡ tableWidth model (h .n) (h .ng)) where
   width-in : (1 ≤ w) × (w ≤ 32)
   unfolding width
   width-in = rw (f, e) (bounds (headOnly h) (ok .range) .wide)
@@ -247,7 +243,7 @@ module _ (m : Memory) (h : Head) where
 
 -- ---- the cells that it makes stale
 
-module _ (h : Head) {model : Model} (e : model ≡ modelOf (h .model)) {w : ℕ} (f : w ≡ wide (h .n) (h .ng) model) where
+module _ (h : Head) {model : Model} (e : model ≡ modelOf (h .model)) {w : ℕ} (f : w ≡ tableWidth model (h .n) (h .ng)) where
   block-fits : (s : Setting) → Settable h s → (blockOf model w s .top + blockOf model w s .rows ≤ w) × (blockOf model w s .left + blockOf model w s .columns ≤ w)
   unfolding blockOf
   block-fits (Temperature T) ok = (omega arith, omega arith)
@@ -266,12 +262,12 @@ module _ (h : Head) {model : Model} (e : model ≡ modelOf (h .model)) {w : ℕ}
   block-fits (Size i which v) ok = (omega arith, omega arith)
   block-fits (Count i j v) ok = (omega arith, omega arith)
 
-  module _ {diagonal : Bool} (g : diagonal ≡ byModel model false false false true) where
+  module _ {diagonal : Bool} (g : diagonal ≡ hasGroups model) where
     at-width : w ≡ width (held (headOnly h))
     unfolding width
     at-width = f ∙ rw e
 
-    at-diagonal : diagonal ≡ byModel (modelOf (h .model)) false false false true
+    at-diagonal : diagonal ≡ hasGroups (modelOf (h .model))
     at-diagonal = g ∙ rw e
 
     block-stales : (s : Setting) → Settable h s → (c : ℕ) → inBlock w diagonal (blockOf model w s) c ≡ stalesAt (held (headOnly h)) s c

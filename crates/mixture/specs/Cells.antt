@@ -4,13 +4,13 @@ use mathlib.Core.List.{List, [], _∷_}
 use Prim.Native.Nat.{ℕ}
 use lib.Dec.{eqb}
 use Rattle.models.specs.declared.model.Model.{Model}
-use Rattle.models.specs.Model.{byModel}
+use Rattle.models.specs.Model.{byModel, tableWidth}
 use Rattle.mixture.specs.Holdings.{Held, Name, temperature, entry, tdEntry}
 
 -- ---- cells: E_ij or G_ij off the diagonal, n·(n - 1) cells, or Ψ_mn, ng·ng cells
 
 unfoldable pub width : Held → ℕ
-width d = byModel (d .model) (d .n) (d .n) (d .n) (d .ng)
+width d = tableWidth (d .model) (d .n) (d .ng)
 
 unfoldable pub isCell : Held → ℕ → ℕ → Bool
 isCell d i j = byModel (d .model) (not (eqb i j)) (not (eqb i j)) (not (eqb i j)) true

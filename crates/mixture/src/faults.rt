@@ -25,6 +25,7 @@ use models::limits::PLACES;
 use models::limits::TABLE;
 use models::model::by_model;
 use models::model::model_of;
+use models::model::table_width;
 
 // The least lengths of the three lent slices.
 pub const VALUES: usize = models::limits::VALUES;
@@ -170,7 +171,7 @@ fn case_fault(head: Head, s: Setting) -> u8
     ensures { λ r. ⌜ ((m : Memory) → r ≡ caseFault (held (dataIn m head)) s) ⌝ }
 {
     let model = model_of(head.model);
-    let w = by_model(model, head.n, head.n, head.n, head.ng);
+    let w = table_width(model, head.n, head.ng);
     match s {
         Setting::Temperature(_) => 0,
         Setting::Entry(i, j, _) => {

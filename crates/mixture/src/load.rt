@@ -8,7 +8,7 @@ ghost use Rattle.models.specs.declared.model.Model.the-variants.{Unifac};
 ghost use Rattle.mixture.specs.Lists.{written};
 ghost use Rattle.mixture.specs.Holdings.{held};
 ghost use Rattle.models.specs.Limits.{mostComponents, mostGroups, mostPlaces};
-ghost use Rattle.models.specs.Model.{byModel, ModelData};
+ghost use Rattle.models.specs.Model.{tableWidth, ModelData};
 ghost use Rattle.models.specs.Model.{given as dataGiven};
 ghost use Rattle.mixture.specs.Memory.{before, later, left, leastMarks};
 ghost use Rattle.mixture.specs.Layout.{cellAt};
@@ -22,8 +22,8 @@ use crate::head::listed_head;
 use crate::stale::Block;
 use crate::stale::stale;
 use models::Model;
-use models::model::by_model;
-use models::model::has_diagonal;
+use models::model::has_groups;
+use models::model::table_width;
 
 // The given values in the first places.
 fn copy(given: &[f64], values: &mut [f64])
@@ -39,14 +39,14 @@ fn copy(given: &[f64], values: &mut [f64])
 
 // Writes 0 to the marks of all the model's cells.
 fn stale_cells(model: Model, n: usize, ng: usize, marks: &mut [u8])
-    requires { ⌜ (1 ≤ byModel model n n n ng)
-        × (byModel model n n n ng ≤ mostGroups)
+    requires { ⌜ (1 ≤ tableWidth model n ng)
+        × (tableWidth model n ng ≤ mostGroups)
         × (leastMarks ≤ length (now marks)) ⌝ }
     ensures { λ _. ⌜ ((d : ModelData) → (d .model ≡ model) × (d .n ≡ n) × (d .ng ≡ ng)
         → now (marks .exit) ≡ written (cellAt (held d)) (λ c. 0) (now (marks .entry))) ⌝ }
 {
-    let w = by_model(model, n, n, n, ng);
-    let diagonal = has_diagonal(model);
+    let w = table_width(model, n, ng);
+    let diagonal = has_groups(model);
     let all = Block {
         top: 0,
         rows: w,

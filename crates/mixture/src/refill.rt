@@ -5,16 +5,18 @@ ghost use Prim.Native.Nat.{_+_, _*_, _-_, _≤_, _<_};
 ghost use lib.ListN.{length};
 ghost use Rattle.arithmetic.specs.Tables.{at, Filled};
 ghost use Rattle.models.specs.Limits.{mostComponents, mostGroups, tableSize};
+ghost use Rattle.models.specs.Model.{hasGroups};
 ghost use Rattle.mixture.specs.Lists.{howMany};
-ghost use Rattle.mixture.specs.steps.Refills.{argumentIn, argumentOf, cellIn, hasDiagonal, packed};
+ghost use Rattle.mixture.specs.steps.Refills.{argumentIn, argumentOf, cellIn, packed};
 ghost use Rattle.mixture.specs.steps.Refills.{rowCount, staleCell, staleIn, tableCount, unmarked};
 ghost use Rattle.mixture.specs.steps.Refills.{AllStale, Laid, Lifted, OffDiagonalTaken, RowFits};
 ghost use Rattle.mixture.specs.steps.Refills.{RowGathered, RowRefilled, RowTaken, TableFits};
 ghost use Rattle.mixture.specs.steps.Refills.{TableRefilled, TableTaken};
 use models::Model;
+use models::limits::COMPONENTS;
 use models::limits::GROUPS;
 use models::limits::PAIRS;
-use models::model::has_diagonal;
+use models::model::has_groups;
 
 // What goes with every row of a table: the model, the number w of rows, how far apart they start in the
 // inputs, T, and log(T), which only UNIFAC reads.
@@ -68,12 +70,7 @@ fn is_stale(model: Model, mark: u8, i: usize, j: usize) -> bool
     if i != j {
         return true;
     }
-    match model {
-        Model::Wilson => false,
-        Model::Uniquac => false,
-        Model::Nrtl => false,
-        Model::Unifac => true,
-    }
+    has_groups(model)
 }
 
 // Works out the stale cells of row i one by one, and counts them. All four slices start at that row.
@@ -149,7 +146,7 @@ fn gather_row(
     ensures { λ _. ⌜ RowGathered rows row tau marks i out count ⌝ }
 {
     let model = rows.model;
-    if has_diagonal(model) {
+    if has_groups(model) {
         if count == rows.w {
             return models::unifac::fill_arguments(row, rows.t, rows.ln, rows.w, out);
         }
@@ -182,7 +179,7 @@ fn count_row(model: Model, w: usize, marks: &[u8], i: usize) -> usize
     ensures { λ r. ⌜ r ≡ rowCount model w (now (marks .entry)) i ⌝ }
 {
     let count = count_unmarked(w, marks) as usize;
-    if has_diagonal(model) {
+    if has_groups(model) {
         return count;
     }
     if marks[i] == FRESH {
@@ -262,7 +259,7 @@ fn count_table(model: Model, w: usize, marks: &[u8]) -> usize
     ensures { λ r. ⌜ r ≡ tableCount model w (now (marks .entry)) ⌝ }
 {
     let count = count_unmarked(w * w, marks) as usize;
-    if has_diagonal(model) {
+    if has_groups(model) {
         return count;
     }
     count - (count_diagonal(w, marks) as usize)
@@ -424,12 +421,12 @@ fn is_whole(model: Model, w: usize, count: usize) -> bool
     requires { ⌜ (1 ≤ w) × (w ≤ mostGroups) ⌝ }
     ensures { λ r. ⌜ (r ≡ true → (w ≤ mostComponents)
         × (count ≡ (w - 1) * w)
-        × (hasDiagonal model ≡ false)) ⌝ }
+        × (hasGroups model ≡ false)) ⌝ }
 {
-    if has_diagonal(model) {
+    if has_groups(model) {
         return false;
     }
-    if 12 < w {
+    if COMPONENTS < w {
         return false;
     }
     count == (w - 1) * w

@@ -26,8 +26,9 @@ use crate::stale::stale;
 use models::Model;
 use models::limits::COMPONENTS;
 use models::model::by_model;
-use models::model::has_diagonal;
+use models::model::has_groups;
 use models::model::model_of;
+use models::model::table_width;
 
 // Where entry i, j stands in rows of w.
 fn entry_at(model: Model, w: usize, i: usize, j: usize) -> usize
@@ -68,7 +69,7 @@ fn store_at(head: Head, s: Setting) -> usize
     ensures { λ r. ⌜ r ≡ place (headOnly head) s ⌝ }
 {
     let model = model_of(head.model);
-    let w = by_model(model, head.n, head.n, head.n, head.ng);
+    let w = table_width(model, head.n, head.ng);
     match s {
         Setting::Temperature(_) => 0,
         Setting::Entry(i, j, _) => entry_at(model, w, i, j),
@@ -168,8 +169,8 @@ fn stale_by(marks: &mut [u8], head: Head, s: Setting)
     ensures { λ _. ⌜ Staled (stalesAt (held (headOnly head)) s) marks ⌝ }
 {
     let model = model_of(head.model);
-    let w = by_model(model, head.n, head.n, head.n, head.ng);
-    let diagonal = has_diagonal(model);
+    let w = table_width(model, head.n, head.ng);
+    let diagonal = has_groups(model);
     let block = block_of(model, w, s);
     stale(marks, w, diagonal, block);
 }

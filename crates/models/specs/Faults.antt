@@ -12,8 +12,8 @@ use Rattle.models.specs.declared.answers.Quantity.{Quantity}
 use Rattle.models.specs.declared.answers.Quantity.the-variants.{LnGamma, Gamma, ExcessGibbs}
 use Rattle.models.specs.Limits.{mostComponents, mostGroups, mostListed}
 use Rattle.models.specs.Answers.{first, firstTo}
-use Rattle.models.specs.Model.{byModel, ModelData}
-use Rattle.models.specs.Values.{wilsonSize, uniquacSize, nrtlSize, countsAt, start, unifacSize}
+use Rattle.models.specs.Model.{byModel, ModelData, sizeOf}
+use Rattle.models.specs.Values.{countsAt, start, unifacSize}
 
 -- ---- the fractions, as `check_composition` of the source
 
@@ -77,5 +77,5 @@ unifacFault n ng lens groups values = first (listsFault n ng lens groups values)
 -- a load: 2; then 3 or 4
 unfoldable pub dataFault : ModelData → ℕ
 dataFault d =
-    byModel (d .model) (shapeFault (d .n) (wilsonSize (d .n)) (d .values)) (shapeFault (d .n) (uniquacSize (d .n)) (d .values))
-    (shapeFault (d .n) (nrtlSize (d .n)) (d .values)) (unifacFault (d .n) (d .ng) (d .lens) (d .groups) (d .values))
+    let shape = shapeFault (d .n) (sizeOf d) (d .values) in
+    byModel (d .model) shape shape shape (unifacFault (d .n) (d .ng) (d .lens) (d .groups) (d .values))

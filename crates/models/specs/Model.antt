@@ -1,5 +1,5 @@
 -- The four models, and what goes by them.
-use mathlib.Core.Bool.{cond}
+use mathlib.Core.Bool.{Bool, true, false, cond}
 use mathlib.Core.List.{List}
 use Prim.Native.Nat.{ℕ}
 use lib.Dec.{eqb}
@@ -8,6 +8,7 @@ use denote.Ref.{RefT, now}
 use denote.Triple.Both.{Both}
 use Rattle.models.specs.declared.model.Model.{Model}
 use Rattle.models.specs.declared.model.Model.the-variants.{Wilson, Uniquac, Nrtl, Unifac}
+use Rattle.models.specs.Values.{wilsonSize, uniquacSize, nrtlSize, start, unifacSize}
 
 -- one of four, by the model
 abbrev pub byModel : {A : Type 0} → Model → A → A → A → A → A
@@ -15,6 +16,14 @@ byModel Wilson a b c d = a
 byModel Uniquac a b c d = b
 byModel Nrtl a b c d = c
 byModel Unifac a b c d = d
+
+-- the width of its table of exponentials: a row for each component, or for each of UNIFAC's groups
+abbrev pub tableWidth : Model → ℕ → ℕ → ℕ
+tableWidth m n ng = byModel m n n n ng
+
+-- it has groups, and Ψ on the diagonal of its table too: UNIFAC
+abbrev pub hasGroups : Model → Bool
+hasGroups m = byModel m false false false true
 
 -- the model of a number from 1 to 4, a head's or a kind's
 unfoldable pub modelOf : ℕ → Model
@@ -35,3 +44,7 @@ modelData m n ng lens groups values = record { model = m; n = n; ng = ng; lens =
 -- those in a call's arguments
 abbrev pub given : {A B C : Type 0} → Model → ℕ → ℕ → Both (RefT (List ℕ)) A → Both (RefT (List ℕ)) B → Both (RefT (List Float)) C → ModelData
 given m n ng lens groups values = modelData m n ng (now (lens .entry)) (now (groups .entry)) (now (values .entry))
+
+-- how many values such a model has
+abbrev pub sizeOf : ModelData → ℕ
+sizeOf d = byModel (d .model) (wilsonSize (d .n)) (uniquacSize (d .n)) (nrtlSize (d .n)) (unifacSize (d .ng) (start (d .lens) (d .n)))

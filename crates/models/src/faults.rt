@@ -21,9 +21,8 @@ use crate::limits::COMPONENTS;
 use crate::limits::GROUPS;
 use crate::limits::LIST;
 use crate::model::Model;
-use crate::nrtl;
-use crate::uniquac;
-use crate::wilson;
+use crate::model::has_groups;
+use crate::model::size_of;
 
 // How far a sum of fractions may be off 1.
 pub const TOLERANCE: f64 = 1e-6;
@@ -231,10 +230,8 @@ pub fn data_fault(
     ensures { λ r. ⌜ (r ≡ dataFault (given model n ng lens groups values))
         × (r ≡ 0 → Ready (given model n ng lens groups values)) ⌝ }
 {
-    match model {
-        Model::Wilson => shape_fault(n, wilson::size(n), values),
-        Model::Uniquac => shape_fault(n, uniquac::size(n), values),
-        Model::Nrtl => shape_fault(n, nrtl::size(n), values),
-        Model::Unifac => unifac_fault(n, ng, lens, groups, values),
+    if has_groups(model) {
+        return unifac_fault(n, ng, lens, groups, values);
     }
+    shape_fault(n, size_of(model, n), values)
 }

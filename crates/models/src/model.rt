@@ -1,16 +1,18 @@
 // The four models, and what goes by them.
 ghost use mathlib.Core.Path.{_≡_};
-ghost use mathlib.Core.Bool.{true, false};
 ghost use Prim.Native.Nat.{_≤_};
 ghost use lib.ListN.{length};
 ghost use Rattle.arithmetic.specs.Tables.{at};
 ghost use Rattle.models.specs.Faults.{indexFault};
-ghost use Rattle.models.specs.Model.{byModel, modelOf, modelData, given};
+ghost use Rattle.models.specs.Limits.{mostComponents};
+ghost use Rattle.models.specs.Model.{byModel, tableWidth, hasGroups, modelOf, modelData, given};
 ghost use Rattle.models.specs.Plain.{valueAt, plainCall};
+ghost use Rattle.models.specs.Values.{wilsonSize, uniquacSize, nrtlSize};
 ghost use Rattle.models.specs.steps.Model.{Ready};
 use crate::answers::Answer;
 use crate::answers::Quantity;
 use crate::faults;
+use crate::limits::COMPONENTS;
 use crate::nrtl;
 use crate::unifac;
 use crate::uniquac;
@@ -58,9 +60,29 @@ pub fn by_model(model: Model, wilson: usize, uniquac: usize, nrtl: usize, unifac
     }
 }
 
-// Whether the diagonal has cells.
-pub fn has_diagonal(model: Model) -> bool
-    ensures { λ r. ⌜ r ≡ byModel model false false false true ⌝ }
+// How many rows and columns its table of exponentials has.
+pub fn table_width(model: Model, n: usize, ng: usize) -> usize
+    ensures { λ r. ⌜ r ≡ tableWidth model n ng ⌝ }
+{
+    by_model(model, n, n, n, ng)
+}
+
+// How many values n components have, in a model without groups. Past 12, which `shape_fault` refuses, it
+// answers 0.
+pub fn size_of(model: Model, n: usize) -> usize
+    ensures { λ r. ⌜ (n ≤ mostComponents
+        → r ≡ byModel model (wilsonSize n) (uniquacSize n) (nrtlSize n) 0) ⌝ }
+{
+    if COMPONENTS < n {
+        return 0;
+    }
+    let pairs = n * n;
+    by_model(model, pairs + n, pairs + n + n, pairs * 5 + pairs, 0)
+}
+
+// Whether it has groups, and cells on the diagonal too.
+pub fn has_groups(model: Model) -> bool
+    ensures { λ r. ⌜ r ≡ hasGroups model ⌝ }
 {
     match model {
         Model::Wilson => false,
@@ -111,21 +133,21 @@ pub fn plain(
 {
     match model {
         Model::Wilson => {
-            let fault = faults::plain_fault(n, wilson::size(n), values, x, q);
+            let fault = faults::plain_fault(n, size_of(Model::Wilson, n), values, x, q);
             if fault != 0 {
                 return Answer::Refused(fault);
             }
             Answer::Value(wilson::value_at(n, values, t, x, q))
         }
         Model::Uniquac => {
-            let fault = faults::plain_fault(n, uniquac::size(n), values, x, q);
+            let fault = faults::plain_fault(n, size_of(Model::Uniquac, n), values, x, q);
             if fault != 0 {
                 return Answer::Refused(fault);
             }
             Answer::Value(uniquac::value_at(n, values, t, x, q))
         }
         Model::Nrtl => {
-            let fault = faults::plain_fault(n, nrtl::size(n), values, x, q);
+            let fault = faults::plain_fault(n, size_of(Model::Nrtl, n), values, x, q);
             if fault != 0 {
                 return Answer::Refused(fault);
             }

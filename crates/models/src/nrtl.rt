@@ -26,17 +26,6 @@ use crate::model::Model;
 use crate::model::plain;
 use crate::parameters;
 
-// How many values n components have: τ by rows, five each, α. Past 12, which `shape_fault` refuses, it
-// answers 0.
-pub fn size(n: usize) -> usize
-    ensures { λ r. ⌜ (n ≤ mostComponents → r ≡ nrtlSize n) ⌝ }
-{
-    if 12 < n {
-        return 0;
-    }
-    n * n * 5 + n * n
-}
-
 // τ at T, by rows of n: the five of entry k stand from place 5·k on.
 pub fn fill_taus(n: usize, values: &[f64], t: f64, out: &mut [f64])
     requires { ⌜ (n ≤ mostComponents)

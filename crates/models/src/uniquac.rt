@@ -24,16 +24,6 @@ use crate::model::plain;
 // The coordination number.
 const Z: f64 = 10.0;
 
-// How many values n components have: a by rows, r's, q's. Past 12, which `shape_fault` refuses, it answers 0.
-pub fn size(n: usize) -> usize
-    ensures { λ v. ⌜ (n ≤ mostComponents → v ≡ uniquacSize n) ⌝ }
-{
-    if 12 < n {
-        return 0;
-    }
-    n * n + n + n
-}
-
 // Writes x_i s_i / Σ_j x_j s_j for each i: θ for s = q.
 fn shares(n: usize, s: &[f64], x: &[f64], shares: &mut [f64])
     requires { ⌜ (n ≤ length (now s)) × (n ≤ length (now x)) × (n ≤ length (now shares)) ⌝ }

@@ -21,16 +21,6 @@ use crate::limits::PAIRS;
 use crate::model::Model;
 use crate::model::plain;
 
-// How many values n components have: a by rows, V. Past 12, which `shape_fault` refuses, it answers 0.
-pub fn size(n: usize) -> usize
-    ensures { λ r. ⌜ (n ≤ mostComponents → r ≡ wilsonSize n) ⌝ }
-{
-    if 12 < n {
-        return 0;
-    }
-    n * n + n
-}
-
 // Σ_j x_j Λ_ij, from the part of the table that starts at row i. The terms run without a test for the
 // diagonal, then its own is put right.
 fn row_sum(n: usize, v: &[f64], row: &[f64], x: &[f64], i: usize) -> f64

@@ -16,10 +16,9 @@ use Rattle.mixture.specs.declared.setting.Setting.{Setting}
 use Rattle.mixture.specs.declared.setting.Setting.the-variants.{Temperature, Entry, TdEntry, Size, Count}
 use Rattle.mixture.specs.Holdings.{Held, held}
 use Rattle.mixture.specs.Cells.{width, isCell}
-use Rattle.models.specs.Model.{ModelData, byModel}
+use Rattle.models.specs.Model.{ModelData, byModel, sizeOf}
 use Rattle.mixture.specs.Faults.{hasEntry, hasTdEntry, hasSize, hasCount, caseFault}
 use Rattle.mixture.specs.Book.{replaced, holding, setIn}
-use Rattle.mixture.proofs.PlaceLaws.{sizeOf}
 use Rattle.mixture.proofs.history.StoreLaws.{stored, entry-after, td-after, size-after, count-after}
 
 -- ng and lists, for UNIFAC

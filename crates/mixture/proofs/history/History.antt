@@ -33,7 +33,7 @@ use Rattle.mixture.specs.Answers.{numberOf, unless}
 use Rattle.mixture.specs.Lists.{written, padded, anyOf, howMany}
 use Rattle.mixture.specs.Holdings.{Held, held}
 use Rattle.mixture.specs.Cells.{width, isCell, inputs}
-use Rattle.models.specs.Model.{ModelData}
+use Rattle.models.specs.Model.{ModelData, sizeOf}
 use Rattle.mixture.specs.Faults.{caseFault, memoryFault, inRange, headFault, loadFault, settingFault, fractionsFault, readyFault, queryFault}
 use Rattle.mixture.specs.Memory.{Memory, memory, leastValues, leastCells, leastMarks, After}
 use Rattle.mixture.specs.Layout.{dataIn, place, numbers, cellAt}
@@ -41,7 +41,7 @@ use Rattle.mixture.specs.Calls.{outcome, noHead, afterOpen, loadedHead, 
 use Rattle.mixture.specs.Book.{Call, Open, Load, Set, Fractions, Query, Book, book, empty, setIn, setT, setModel, bookAfter, gives, touched, touchedCells, plain, having, settingAnswer, queryAnswer, bookAnswer, isQuery, accepted, since, bookAnswers}
 use Rattle.mixture.specs.History.{afterCall, answers, History}
 use Rattle.mixture.proofs.ListLaws.{never, or-none, length-written, getD-written, howMany-rows, howManyPairs-same}
-use Rattle.mixture.proofs.PlaceLaws.{both, nought, sizeOf}
+use Rattle.mixture.proofs.PlaceLaws.{both, nought}
 use Rattle.mixture.proofs.history.AgreeLaws.{Alike, Agrees, caseFault-same, width-same, isCell-same, alike-refl, agrees-trans, set-alike, set-agrees, store-agrees}
 use Rattle.mixture.proofs.history.RangeLaws.{Long, short-no, long-is, Sound, sound, bounds}
 use Rattle.mixture.proofs.CallLaws.{mix-length}

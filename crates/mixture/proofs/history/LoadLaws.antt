@@ -17,14 +17,14 @@ use Rattle.mixture.specs.declared.setting.Setting.{Setting}
 use Rattle.mixture.specs.declared.setting.Setting.the-variants.{Temperature, Entry, TdEntry, Size, Count}
 use Rattle.mixture.specs.Lists.{padded}
 use Rattle.mixture.specs.Holdings.{held}
-use Rattle.models.specs.Model.{ModelData, byModel, modelOf}
+use Rattle.models.specs.Model.{ModelData, byModel, modelOf, sizeOf}
 use Rattle.mixture.specs.Memory.{Memory}
 use Rattle.mixture.specs.Layout.{dataIn, place}
 use Rattle.mixture.specs.Calls.{loadedHead, loadedMemory}
 use Rattle.mixture.specs.Faults.{inRange}
 use Rattle.mixture.proofs.ListLaws.{never, getD-past}
 use Rattle.mixture.proofs.history.RangeLaws.{at-all, Sound}
-use Rattle.mixture.proofs.PlaceLaws.{nought, sizeOf, D, entry-reads, td-reads, size-reads, count-reads, entry-in, td-in, size-in, count-in}
+use Rattle.mixture.proofs.PlaceLaws.{nought, D, entry-reads, td-reads, size-reads, count-reads, entry-in, td-in, size-in, count-in}
 use Rattle.mixture.proofs.history.AgreeLaws.{Alike, Agrees, at-unifac, hasEntry-same, hasTdEntry-same, hasSize-same, hasCount-same}
 
 module _ (e d : ModelData) (alike : Alike (held e) (held d)) (starts : d .model ≡ Unifac → (i : ℕ) → start (e .lens) i ≡ start (d .lens) i) where

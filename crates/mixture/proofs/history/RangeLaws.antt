@@ -21,11 +21,11 @@ use Rattle.models.specs.declared.model.Model.{Model}
 use Rattle.models.specs.declared.model.Model.the-variants.{Wilson, Uniquac, Nrtl, Unifac}
 use Rattle.mixture.specs.Holdings.{held}
 use Rattle.mixture.specs.Cells.{width}
-use Rattle.models.specs.Model.{ModelData}
+use Rattle.models.specs.Model.{ModelData, sizeOf}
 use Rattle.mixture.specs.Memory.{Memory, leastValues, leastCells, leastMarks, short, isShort}
 use Rattle.mixture.specs.Faults.{memoryFault, inRange}
 use Rattle.mixture.proofs.ListLaws.{never, or-none}
-use Rattle.mixture.proofs.PlaceLaws.{both, passed, spared, nought, sizeOf}
+use Rattle.mixture.proofs.PlaceLaws.{both, passed, spared, nought}
 
 -- ---- tests
 

@@ -16,9 +16,9 @@ use Rattle.models.specs.declared.model.Model.{Model}
 use Rattle.models.specs.declared.model.Model.the-variants.{Wilson, Uniquac, Nrtl, Unifac}
 use Rattle.mixture.specs.Lists.{row, rows}
 use Rattle.mixture.specs.Holdings.{held, entries, tdEntries, sizes}
-use Rattle.models.specs.Model.{ModelData}
+use Rattle.models.specs.Model.{ModelData, sizeOf}
 use Rattle.mixture.specs.WrittenBack.{valuesIn, WrittenBack}
-use Rattle.mixture.proofs.PlaceLaws.{sizeOf, D}
+use Rattle.mixture.proofs.PlaceLaws.{D}
 use Rattle.mixture.proofs.history.RangeLaws.{sound}
 use Rattle.mixture.proofs.RowLaws.{before, before-lens, row-is, rows-is, table-is, tds-is}
 

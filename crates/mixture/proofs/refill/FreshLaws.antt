@@ -12,9 +12,10 @@ use lib.Dec.{eqb}
 use lib.ListN.{getD}
 use Rattle.arithmetic.proofs.TableLaws.{by-place, cell-row, cell-column}
 use Rattle.models.specs.declared.model.Model.{Model}
+use Rattle.models.specs.Model.{hasGroups}
 use Rattle.models.specs.declared.model.Model.the-variants.{Wilson, Uniquac, Nrtl, Unifac}
 use Rattle.mixture.specs.Lists.{howMany, howManyPairs}
-use Rattle.mixture.specs.steps.Refills.{staleCell, hasDiagonal, rowCount, tableCount, unmarked}
+use Rattle.mixture.specs.steps.Refills.{staleCell, rowCount, tableCount, unmarked}
 use Rattle.mixture.proofs.ListLaws.{never, howMany-le, howMany-same, howMany-rows, howManyPairs-same}
 
 -- ---- counting
@@ -112,14 +113,14 @@ places-apart w p =
 -- ---- marks and stale cells
 
 -- where the diagonal has cells, a mark other than 1 is a stale cell; else one off the diagonal is
-stale-all : (k : Model) (marks : List ℕ) (c i j : ℕ) → hasDiagonal k ≡ true → unmarked marks c ≡ staleCell k (getD marks c 0) i j
+stale-all : (k : Model) (marks : List ℕ) (c i j : ℕ) → hasGroups k ≡ true → unmarked marks c ≡ staleCell k (getD marks c 0) i j
 unfolding staleCell
 stale-all Wilson marks c i j d = never (sym d)
 stale-all Uniquac marks c i j d = never (sym d)
 stale-all Nrtl marks c i j d = never (sym d)
 stale-all Unifac marks c i j d = refl
 
-stale-apart : (k : Model) (marks : List ℕ) (c i j : ℕ) → hasDiagonal k ≡ false → not (eqb i j) && unmarked marks c ≡ staleCell k (getD marks c 0) i j
+stale-apart : (k : Model) (marks : List ℕ) (c i j : ℕ) → hasGroups k ≡ false → not (eqb i j) && unmarked marks c ≡ staleCell k (getD marks c 0) i j
 unfolding staleCell
 stale-apart Wilson marks c i j d = refl
 stale-apart Uniquac marks c i j d = refl
@@ -129,25 +130,25 @@ stale-apart Unifac marks c i j d = never d
 module _ (k : Model) (marks : List ℕ) where
   -- a row's stale cells
   module _ (w i : ℕ) (h : i < w) {n : ℕ} (so : n ≡ howMany w (unmarked marks)) where
-    pub row-all : hasDiagonal k ≡ true → n ≡ rowCount k w marks i
+    pub row-all : hasGroups k ≡ true → n ≡ rowCount k w marks i
     row-all d = so ∙ howMany-same w _ _ (λ j b. stale-all k marks j i j d)
 
-    row-apart : hasDiagonal k ≡ false → n ≡ rowCount k w marks i + cond (unmarked marks i) 1 0
+    row-apart : hasGroups k ≡ false → n ≡ rowCount k w marks i + cond (unmarked marks i) 1 0
     row-apart d =
         so ∙ (many-apart w i (unmarked marks) h ∙ ap (λ (m : ℕ). m + cond (unmarked marks i) 1 0) (howMany-same w _ _ (λ j b. stale-apart k marks j i j d)))
 
-    pub row-but : hasDiagonal k ≡ false → getD marks i 0 ≡ 1 → n ≡ rowCount k w marks i
+    pub row-but : hasGroups k ≡ false → getD marks i 0 ≡ 1 → n ≡ rowCount k w marks i
     row-but d e = row-apart d ∙ rw (is-marked (getD marks i 0) e, add-zero)
 
-    pub row-less : hasDiagonal k ≡ false → (getD marks i 0 ≡ 1 → ⊥) → n ≡ rowCount k w marks i + 1
+    pub row-less : hasGroups k ≡ false → (getD marks i 0 ≡ 1 → ⊥) → n ≡ rowCount k w marks i + 1
     row-less d e = row-apart d ∙ rw (is-unmarked (getD marks i 0) e)
 
   -- a table's stale cells
   module _ (w : ℕ) {n : ℕ} (so : n ≡ howMany (w * w) (unmarked marks)) where
-    pub table-all : hasDiagonal k ≡ true → n ≡ tableCount k w marks
+    pub table-all : hasGroups k ≡ true → n ≡ tableCount k w marks
     table-all d = so ∙ howMany-same (w * w) _ _ (λ c b. stale-all k marks c (c / w) (c % w) d)
 
-    pub table-apart : {m : ℕ} → hasDiagonal k ≡ false → m ≡ howMany w (λ i. unmarked marks (i * w + i))
+    pub table-apart : {m : ℕ} → hasGroups k ≡ false → m ≡ howMany w (λ i. unmarked marks (i * w + i))
         → n ≡ tableCount k w marks + m
     table-apart {m} d e =
         so ∙ (places-apart w (unmarked marks)

@@ -22,10 +22,11 @@ use Rattle.models.specs.steps.Unifac.{psiBy}
 use Rattle.models.specs.Values.{fiveAt}
 use Rattle.models.proofs.ExponentialLaws.{part-more}
 use Rattle.models.specs.declared.model.Model.{Model}
+use Rattle.models.specs.Model.{hasGroups}
 use Rattle.models.specs.declared.model.Model.the-variants.{Wilson, Uniquac, Nrtl, Unifac}
 use Rattle.mixture.specs.Lists.{howMany}
 use Rattle.mixture.specs.declared.refill.Rows.{Rows}
-use Rattle.mixture.specs.steps.Refills.{rowCell, rowArgument, staleCell, hasDiagonal, argumentIn, argumentOf, cellOf, staleOf, Refilled, Gathered, Moved, Laid, Lifted, OffDiagonalTaken}
+use Rattle.mixture.specs.steps.Refills.{rowCell, rowArgument, staleCell, argumentIn, argumentOf, cellOf, staleOf, Refilled, Gathered, Moved, Laid, Lifted, OffDiagonalTaken}
 use Rattle.mixture.proofs.ListLaws.{never, written-as, howMany-le}
 use Rattle.mixture.proofs.refill.FreshLaws.{many-none, many-more, many-skip, many-all, all-of}
 use Rattle.mixture.proofs.RefillLaws.{among, among-in, among-below}
@@ -41,7 +42,7 @@ row-exp Unifac row tau T L i j = refl
 -- ---- a table all of whose cells are worked out: the diagonal's exponentials aren't, since it has no cells
 
 -- a stale cell is off a diagonal that has no cells
-off-diagonal : (k : Model) (mark i j : ℕ) → hasDiagonal k ≡ false → staleCell k mark i j ≡ true → i ≡ j → ⊥
+off-diagonal : (k : Model) (mark i j : ℕ) → hasGroups k ≡ false → staleCell k mark i j ≡ true → i ≡ j → ⊥
 unfolding staleCell
 off-diagonal Wilson mark i j d t e = never (sym (rw (eq-eqb i j e) at t))
 off-diagonal Uniquac mark i j d t e = never (sym (rw (eq-eqb i j e) at t))
@@ -129,7 +130,7 @@ module _ (g : Rows) (table tau : List Float) where
       (part-more _ (i * g .w) (g .w) l ys rest h y all (λ j b. row .each j b ∙ sym (rw (cell-row (g .w) i j b, cell-column (g .w) i j b))))
 
   -- exp of each off the diagonal is the exponential of its stale cell
-  pub table-cells : (marks : List ℕ) {l m : List Float} → hasDiagonal (g .model) ≡ false
+  pub table-cells : (marks : List ℕ) {l m : List Float} → hasGroups (g .model) ≡ false
       → Filled (argumentOf g table tau) (g .w * g .w) l → OffDiagonalTaken (g .w) l m
       → (c : ℕ) → c < g .w * g .w → staleOf (g .model) (g .w) marks c ≡ true → at m c ≡ cellOf g table tau c
   table-cells marks {l} {m} d args taken c b t =
@@ -230,7 +231,7 @@ gathered-all n p f {l} e q all = record {
 }
 
 -- the model whose diagonal has cells is UNIFAC, whose arguments these are
-pub unifac-arguments : (k : Model) (row tau : List Float) (T L : Float) (i : ℕ) {w : ℕ} {l : List Float} → hasDiagonal k ≡ true
+pub unifac-arguments : (k : Model) (row tau : List Float) (T L : Float) (i : ℕ) {w : ℕ} {l : List Float} → hasGroups k ≡ true
     → Filled (λ j. neg (tdBy (fiveAt row (j * 5)) T L) ⊘ T) w l → Filled (rowArgument k row tau T L i) w l
 unfolding rowArgument
 unifac-arguments Wilson row tau T L i d all = never (sym d)

@@ -25,7 +25,7 @@ use Rattle.mixture.specs.Lists.{written, howMany}
 use Rattle.mixture.specs.Holdings.{held}
 use Rattle.mixture.specs.Cells.{width}
 use Rattle.models.specs.Limits.{mostComponents, mostGroups}
-use Rattle.models.specs.Model.{byModel}
+use Rattle.models.specs.Model.{byModel, hasGroups}
 use Rattle.mixture.specs.Memory.{Memory, leastValues, leastCells, leastMarks}
 use Rattle.mixture.specs.Layout.{dataIn}
 use Rattle.mixture.specs.Calls.{valueBy, staleAt, worked}
@@ -49,10 +49,6 @@ hasCell k i j = byModel k (not (eqb i j)) (not (eqb i j)) (not (eqb i j)) true
 -- and its mark makes it stale
 unfoldable pub staleCell : Model → ℕ → ℕ → ℕ → Bool
 staleCell k mark i j = hasCell k i j && not (eqb mark 1)
-
--- the diagonal has cells
-abbrev pub hasDiagonal : Model → Bool
-hasDiagonal k = byModel k false false false true
 
 -- the mark at c is other than 1
 abbrev pub unmarked : List ℕ → ℕ → Bool
@@ -139,7 +135,7 @@ pub record TableFits (w stride : ℕ) (table tau out : List Float) : Type 0 wher
 pub record AllStale (g : Rows) (marks : List ℕ) (r : ℕ) : Type 0 where
   pub some : 1 ≤ g .w
   pub few : g .w ≤ mostComponents
-  pub apart : hasDiagonal (g .model) ≡ false
+  pub apart : hasGroups (g .model) ≡ false
   pub whole : r ≡ (g .w - 1) * g .w
   pub counted : r ≡ tableCount (g .model) (g .w) marks
 

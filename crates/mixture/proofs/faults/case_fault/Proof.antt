@@ -5,23 +5,23 @@ use Rattle.mixture.specs.declared.head.Head.{Head}
 use Rattle.mixture.proofs.faults.case_fault.Statement.{statement}
 use Rattle.mixture.proofs.faults.case_fault.Tie as tie
 
-abbrev head : tie.After-by-model → Head
+abbrev head : tie.After-table-width → Head
 head c = c .before .before .args .head
 
 returns : tie.Need-returns
-returns c m = let top = c .before .before in temperature-case m (head top) (top .before .model-of .ensures) (top .by-model .ensures) (c .enum-told .given .1)
+returns c m = let top = c .before .before in temperature-case m (head top) (top .before .model-of .ensures) (top .table-width .ensures) (c .enum-told .given .1)
 
 returns-2 : tie.Need-returns-2
-returns-2 c m = let top = c .before .before .before .before .before in entry-case m (head top) (top .before .model-of .ensures) (top .by-model .ensures) (c .before .before .before .s .given .1) (c .before .by-model2 .ensures) (c .pair-fault .ensures)
+returns-2 c m = let top = c .before .before .before .before .before in entry-case m (head top) (top .before .model-of .ensures) (top .table-width .ensures) (c .before .before .before .s .given .1) (c .before .by-model .ensures) (c .pair-fault .ensures)
 
 returns-3 : tie.Need-returns-3
-returns-3 c m = let top = c .before .before .before .before .before in td-case m (head top) (top .before .model-of .ensures) (top .by-model .ensures) (c .before .before .before .s2 .given .1) (c .before .by-model3 .ensures) (c .pair-fault2 .ensures)
+returns-3 c m = let top = c .before .before .before .before .before in td-case m (head top) (top .before .model-of .ensures) (top .table-width .ensures) (c .before .before .before .s2 .given .1) (c .before .by-model2 .ensures) (c .pair-fault2 .ensures)
 
 returns-4 : tie.Need-returns-4
-returns-4 c m = let top = c .before .before .before .before .before in size-case m (head top) (top .before .model-of .ensures) (top .by-model .ensures) (c .before .before .before .s3 .given .1) (c .before .by-model4 .ensures) (c .pair-fault3 .ensures)
+returns-4 c m = let top = c .before .before .before .before .before in size-case m (head top) (top .before .model-of .ensures) (top .table-width .ensures) (c .before .before .before .s3 .given .1) (c .before .by-model3 .ensures) (c .pair-fault3 .ensures)
 
 returns-5 : tie.Need-returns-5
-returns-5 c m = let top = c .before .before .before .before .before in count-case m (head top) (top .before .model-of .ensures) (top .by-model .ensures) (c .before .before .before .s4 .given .1) (c .list-fault .ensures)
+returns-5 c m = let top = c .before .before .before .before .before in count-case m (head top) (top .before .model-of .ensures) (top .table-width .ensures) (c .before .before .before .s4 .given .1) (c .list-fault .ensures)
 
 pub case-fault-spec : {M : Type 1} → statement M
 case-fault-spec =

@@ -7,8 +7,8 @@ use Rattle.mixture.proofs.BlockLaws.{cells-stale}
 use Rattle.mixture.proofs.load.stale_cells.Statement.{statement}
 use Rattle.mixture.proofs.load.stale_cells.Tie as tie
 
-wide : (c : tie.After-by-model) → (1 ≤ c .by-model .result) × (c .by-model .result ≤ 32)
-wide c = let p = c .before .before .pre in (omega (arith, c .by-model .ensures, p), omega (arith, c .by-model .ensures, p))
+wide : (c : tie.After-table-width) → (1 ≤ c .table-width .result) × (c .table-width .result ≤ 32)
+wide c = let p = c .before .before .pre in (omega (arith, c .table-width .ensures, p), omega (arith, c .table-width .ensures, p))
 
 stale-requires : tie.Need-stale-requires
 stale-requires c κs =
@@ -19,7 +19,7 @@ stale-requires c κs =
 returns : tie.Need-returns
 returns c d so =
     let top = c .before .before .before .before .before in
-    cells-stale d so (top .by-model .ensures) (c .before .before .before .before .has-diagonal .ensures) (wide top .0) _ (c .before .before .stale .ensures)
+    cells-stale d so (top .table-width .ensures) (c .before .before .before .before .has-groups .ensures) (wide top .0) _ (c .before .before .stale .ensures)
 
 pub stale-cells-spec : {M : Type 1} → statement M
 stale-cells-spec =

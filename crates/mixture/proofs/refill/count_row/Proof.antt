@@ -11,28 +11,28 @@ returns : tie.Need-returns
 returns c =
     let s = c .before .before .before .before in
     let a = s .args in
-    row-all (a .model) (now (a .marks)) (a .w) (a .i) (s .pre .0) (c .before .before .count-unmarked .ensures) (sym (c .before .has-diagonal .ensures) ∙ c .if1 .taken)
+    row-all (a .model) (now (a .marks)) (a .w) (a .i) (s .pre .0) (c .before .before .count-unmarked .ensures) (sym (c .before .has-groups .ensures) ∙ c .if1 .taken)
 
 returns-2 : tie.Need-returns-2
 returns-2 c =
     let d = c .before .before .before in
     let s = d .before .before .before in
     let a = s .args in
-    row-but (a .model) (now (a .marks)) (a .w) (a .i) (s .pre .0) (d .before .count-unmarked .ensures) (sym (d .has-diagonal .ensures) ∙ c .before .before .if1 .left) (c .if2 .taken)
+    row-but (a .model) (now (a .marks)) (a .w) (a .i) (s .pre .0) (d .before .count-unmarked .ensures) (sym (d .has-groups .ensures) ∙ c .before .before .if1 .left) (c .if2 .taken)
 
 sub-result : tie.Need-sub-result
 sub-result c =
     let d = c .before .before .before in
     let s = d .before .before .before in
     let a = s .args in
-    omega (arith, row-less (a .model) (now (a .marks)) (a .w) (a .i) (s .pre .0) (d .before .count-unmarked .ensures) (sym (d .has-diagonal .ensures) ∙ c .before .before .if1 .left) (c .if2 .left))
+    omega (arith, row-less (a .model) (now (a .marks)) (a .w) (a .i) (s .pre .0) (d .before .count-unmarked .ensures) (sym (d .has-groups .ensures) ∙ c .before .before .if1 .left) (c .if2 .left))
 
 returns-3 : tie.Need-returns-3
 returns-3 c =
     let d = c .before .before .before in
     let s = d .before .before .before in
     let a = s .args in
-    omega (arith, row-less (a .model) (now (a .marks)) (a .w) (a .i) (s .pre .0) (d .before .count-unmarked .ensures) (sym (d .has-diagonal .ensures) ∙ c .before .before .if1 .left) (c .if2 .left))
+    omega (arith, row-less (a .model) (now (a .marks)) (a .w) (a .i) (s .pre .0) (d .before .count-unmarked .ensures) (sym (d .has-groups .ensures) ∙ c .before .before .if1 .left) (c .if2 .left))
 
 pub count-row-spec : {M : Type 1} → statement M
 count-row-spec =

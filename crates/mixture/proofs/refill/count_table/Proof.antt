@@ -11,19 +11,19 @@ use Rattle.mixture.proofs.refill.count_table.Tie as tie
 returns : tie.Need-returns
 returns c =
     let a = c .before .before .before .before .args in
-    table-all (a .model) (now (a .marks)) (a .w) (c .before .before .count-unmarked .ensures) (sym (c .before .has-diagonal .ensures) ∙ c .if1 .taken)
+    table-all (a .model) (now (a .marks)) (a .w) (c .before .before .count-unmarked .ensures) (sym (c .before .has-groups .ensures) ∙ c .if1 .taken)
 
 sub-result : tie.Need-sub-result
 sub-result c =
     let d = c .before .before in
     let a = d .before .before .before .args in
-    omega (arith, table-apart (a .model) (now (a .marks)) (a .w) (d .before .count-unmarked .ensures) (sym (d .has-diagonal .ensures) ∙ c .before .if1 .left) (c .count-diagonal .ensures))
+    omega (arith, table-apart (a .model) (now (a .marks)) (a .w) (d .before .count-unmarked .ensures) (sym (d .has-groups .ensures) ∙ c .before .if1 .left) (c .count-diagonal .ensures))
 
 returns-2 : tie.Need-returns-2
 returns-2 c =
     let d = c .before .before in
     let a = d .before .before .before .args in
-    omega (arith, table-apart (a .model) (now (a .marks)) (a .w) (d .before .count-unmarked .ensures) (sym (d .has-diagonal .ensures) ∙ c .before .if1 .left) (c .count-diagonal .ensures))
+    omega (arith, table-apart (a .model) (now (a .marks)) (a .w) (d .before .count-unmarked .ensures) (sym (d .has-groups .ensures) ∙ c .before .if1 .left) (c .count-diagonal .ensures))
 
 pub count-table-spec : {M : Type 1} → statement M
 count-table-spec =

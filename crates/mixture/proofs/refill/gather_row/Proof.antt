@@ -11,7 +11,7 @@ returns c =
     let told = fill .before .before .before .before in
     let s = told .before .before .before .before .before .before in
     gathered-all _ _ _ (s .pre .2) (fill .before .before .if2 .taken)
-    (unifac-arguments (s .args .rows .model) _ _ _ _ _ (sym (told .before .has-diagonal .ensures) ∙ told .if1 .taken) (fill .fill-arguments .ensures))
+    (unifac-arguments (s .args .rows .model) _ _ _ _ _ (sym (told .before .has-groups .ensures) ∙ told .if1 .taken) (fill .fill-arguments .ensures))
 
 pub gather-row-spec : {M : Type 1} → statement M
 gather-row-spec =

@@ -15,7 +15,7 @@ mul-result c =
     omega (arith, mul-le-mul h (s .pre .1))
 
 returns-3 : tie.Need-returns-3
-returns-3 c e = (omega arith, eqb-true _ _ e, sym (c .before .before .has-diagonal .ensures) ∙ c .before .if1 .left)
+returns-3 c e = (omega arith, eqb-true _ _ e, sym (c .before .before .has-groups .ensures) ∙ c .before .if1 .left)
 
 pub is-whole-spec : {M : Type 1} → statement M
 is-whole-spec =

@@ -11,36 +11,36 @@ returns : tie.Need-returns
 unfolding plainCall dataFault valueAt
 returns c =
     rw (c .before .before .before .enum-told .given .1)
-    (plain-refused _ _ (c .before .before .size .ensures) _ _ (c .before .plain-fault .ensures .0) _ (c .if1 .taken))
+    (plain-refused _ _ (c .before .before .size-of .ensures) _ _ (c .before .plain-fault .ensures .0) _ (c .if1 .taken))
 
 value-at-requires : tie.Need-value-at-requires
 value-at-requires c κs =
     let passed = c .before .plain-fault .ensures .1 (c .if1 .left) in
-    let size = c .before .before .size .ensures (passed .1) in
+    let size = c .before .before .size-of .ensures (passed .1) in
     search needs
 
 returns-2 : tie.Need-returns-2
 unfolding plainCall dataFault valueAt
 returns-2 c =
     rw (c .before .before .before .enum-told2 .given .1)
-    (plain-refused _ _ (c .before .before .size2 .ensures) _ _ (c .before .plain-fault2 .ensures .0) _ (c .if2 .taken))
+    (plain-refused _ _ (c .before .before .size-of2 .ensures) _ _ (c .before .plain-fault2 .ensures .0) _ (c .if2 .taken))
 
 value-at-requires-2 : tie.Need-value-at-requires-2
 value-at-requires-2 c κs =
     let passed = c .before .plain-fault2 .ensures .1 (c .if2 .left) in
-    let size = c .before .before .size2 .ensures (passed .1) in
+    let size = c .before .before .size-of2 .ensures (passed .1) in
     search needs
 
 returns-3 : tie.Need-returns-3
 unfolding plainCall dataFault valueAt
 returns-3 c =
     rw (c .before .before .before .enum-told3 .given .1)
-    (plain-refused _ _ (c .before .before .size3 .ensures) _ _ (c .before .plain-fault3 .ensures .0) _ (c .if3 .taken))
+    (plain-refused _ _ (c .before .before .size-of3 .ensures) _ _ (c .before .plain-fault3 .ensures .0) _ (c .if3 .taken))
 
 value-at-requires-3 : tie.Need-value-at-requires-3
 value-at-requires-3 c κs =
     let passed = c .before .plain-fault3 .ensures .1 (c .if3 .left) in
-    let size = c .before .before .size3 .ensures (passed .1) in
+    let size = c .before .before .size-of3 .ensures (passed .1) in
     search needs
 
 returns-4 : tie.Need-returns-4
@@ -67,21 +67,21 @@ unfolding plainCall dataFault valueAt
 returns-6 c =
     let judged = c .before .before in
     rw (judged .before .before .enum-told .given .1)
-    (plain-value _ _ (judged .before .size .ensures) _ _ (judged .plain-fault .ensures .0) (c .before .if1 .left) (c .value-at .ensures))
+    (plain-value _ _ (judged .before .size-of .ensures) _ _ (judged .plain-fault .ensures .0) (c .before .if1 .left) (c .value-at .ensures))
 
 returns-7 : tie.Need-returns-7
 unfolding plainCall dataFault valueAt
 returns-7 c =
     let judged = c .before .before in
     rw (judged .before .before .enum-told2 .given .1)
-    (plain-value _ _ (judged .before .size2 .ensures) _ _ (judged .plain-fault2 .ensures .0) (c .before .if2 .left) (c .value-at2 .ensures))
+    (plain-value _ _ (judged .before .size-of2 .ensures) _ _ (judged .plain-fault2 .ensures .0) (c .before .if2 .left) (c .value-at2 .ensures))
 
 returns-8 : tie.Need-returns-8
 unfolding plainCall dataFault valueAt
 returns-8 c =
     let judged = c .before .before in
     rw (judged .before .before .enum-told3 .given .1)
-    (plain-value _ _ (judged .before .size3 .ensures) _ _ (judged .plain-fault3 .ensures .0) (c .before .if3 .left) (c .value-at3 .ensures))
+    (plain-value _ _ (judged .before .size-of3 .ensures) _ _ (judged .plain-fault3 .ensures .0) (c .before .if3 .left) (c .value-at3 .ensures))
 
 returns-9 : tie.Need-returns-9
 unfolding plainCall dataFault valueAt
