@@ -24,7 +24,7 @@ use Rattle.mixture.specs.declared.refill.Rows.{Rows}
 use Rattle.mixture.specs.Lists.{written, howMany}
 use Rattle.mixture.specs.Holdings.{held}
 use Rattle.mixture.specs.Cells.{width}
-use Rattle.models.specs.Limits.{mostComponents, mostGroups}
+use Rattle.models.specs.Limits.{mostComponents, mostGroups, mostPlaces}
 use Rattle.models.specs.Model.{byModel, hasGroups}
 use Rattle.mixture.specs.Memory.{Memory, leastValues, leastCells, leastMarks}
 use Rattle.mixture.specs.Layout.{dataIn}
@@ -202,10 +202,10 @@ pub record Asked (n : ℕ) (q : Quantity) (v c : List Float) (m : List ℕ) : Ty
 -- what UNIFAC's head has shown where it is in range
 pub record Ranged (n ng : ℕ) (lens groups : List ℕ) : Type 0 where
   pub some : 1 ≤ n
-  pub few : n ≤ 12
+  pub few : n ≤ mostComponents
   pub someGroups : 1 ≤ ng
-  pub fewGroups : ng ≤ 32
-  pub places : start lens n ≤ 144
+  pub fewGroups : ng ≤ mostGroups
+  pub places : start lens n ≤ mostPlaces
   pub below : (p : ℕ) → p < start lens n → getD groups p 0 < ng
 
 -- what an accepted query leaves of cells and marks, its value and its count

@@ -11,6 +11,7 @@ use lib.Ieee.{Float}
 use Rattle.arithmetic.specs.Floats.{_⊕_, _⊗_}
 use Rattle.arithmetic.specs.Sums.{fold}
 use Rattle.arithmetic.specs.Tables.{Table, at, from}
+use Rattle.models.specs.Limits.{mostComponents, mostGroups}
 use Rattle.models.specs.Unifac.{Groups}
 use Rattle.models.specs.Values.{start, countsAt, lists}
 
@@ -43,9 +44,9 @@ heldLists ng lens groups values = lists (now (lens .entry)) (now (groups .entry)
 -- what a load that passes 2 has shown, the lengths of its lists apart
 pub record Sized (n ng : ℕ) (lens groups : List ℕ) (values : List Float) : Type 0 where
   pub some : 1 ≤ n
-  pub few : n ≤ 12
+  pub few : n ≤ mostComponents
   pub someGroups : 1 ≤ ng
-  pub fewGroups : ng ≤ 32
+  pub fewGroups : ng ≤ mostGroups
   pub many : length lens ≡ n
   pub places : length groups ≡ start lens n
   pub whole : length values ≡ countsAt ng + start lens n
@@ -53,9 +54,9 @@ pub record Sized (n ng : ℕ) (lens groups : List ℕ) (values : List Float) : T
 -- what a load that passes 2 and 3 has shown
 pub record Loaded (n ng : ℕ) (lens groups : List ℕ) (values : List Float) : Type 0 where
   pub some : 1 ≤ n
-  pub few : n ≤ 12
+  pub few : n ≤ mostComponents
   pub someGroups : 1 ≤ ng
-  pub fewGroups : ng ≤ 32
+  pub fewGroups : ng ≤ mostGroups
   pub tables : countsAt ng ≤ length values
   pub listed : Listed n ng lens groups (from (countsAt ng) values)
 

@@ -10,6 +10,7 @@ use Rattle.arithmetic.specs.Floats.{_⊕_, _⊘_}
 use Rattle.arithmetic.specs.Exponential.{expOf}
 use Rattle.arithmetic.specs.Parameters.{tdBy}
 use Rattle.arithmetic.specs.Tables.{Table, Vector, at, grid, Filled}
+use Rattle.models.specs.Limits.{mostComponents, mostGroups}
 use Rattle.models.specs.declared.unifac.Shared.{Shared}
 use Rattle.models.specs.Unifac.{Groups, size, sizeSum, combinatorialBy, lnGroup, residual}
 use Rattle.models.specs.Values.{fiveAt}
@@ -28,7 +29,7 @@ psiBy row T L k = expOf (neg (tdBy (fiveAt row (k * 5)) T L) ⊘ T)
 
 -- Q and Θ of ng groups, and Ψ by full rows, lie within their slices
 pub record Grouped (ng : ℕ) (q theta psi : List Float) : Type 0 where
-  pub few : ng ≤ 32
+  pub few : ng ≤ mostGroups
   pub sizes : ng ≤ length q
   pub thetas : ng ≤ length theta
   pub square : ng * ng ≤ length psi
@@ -36,15 +37,15 @@ pub record Grouped (ng : ℕ) (q theta psi : List Float) : Type 0 where
 -- the lists of n components and their fractions lie within their slices
 pub record Mixed (n ng : ℕ) (lens groups : List ℕ) (counts x : List Float) : Type 0 where
   pub listed : Listed n ng lens groups counts
-  pub few : n ≤ 12
-  pub fewGroups : ng ≤ 32
+  pub few : n ≤ mostComponents
+  pub fewGroups : ng ≤ mostGroups
   pub fractions : n ≤ length x
 
 -- so do the lists of n components, Q and Ψ, which the pure ln Γ read
 pub record Pure (n ng : ℕ) (lens groups : List ℕ) (counts q psi : List Float) : Type 0 where
   pub listed : Listed n ng lens groups counts
-  pub few : n ≤ 12
-  pub fewGroups : ng ≤ 32
+  pub few : n ≤ mostComponents
+  pub fewGroups : ng ≤ mostGroups
   pub sizes : ng ≤ length q
   pub square : ng * ng ≤ length psi
 
