@@ -164,8 +164,8 @@ typedef struct kiltgrit_value {
 KILTGRIT_STATIC_ASSERT(sizeof(kiltgrit_value) == 16, "the value as the library has it");
 
 kiltgrit_value kiltgrit_plain(uint32_t model, uint32_t form, size_t n, size_t ng, const uint8_t *lens, size_t lens_len,
-                              const uint8_t *groups, size_t groups_len, const double *given, size_t given_len, double t,
-                              const double *x, size_t x_len, uint32_t asked, size_t i);
+                              const uint8_t *groups, size_t groups_len, const double *values, size_t values_len,
+                              double t, const double *x, size_t x_len, uint32_t asked, size_t i);
 
 /* ---- the exponential and the logarithm of the models, with the same bits everywhere */
 double kiltgrit_exp(double v);
