@@ -3,27 +3,64 @@
 //! one entry was set again, and after T was set again. Prints nanoseconds per call, medians of rounds that take
 //! turns, and how many times as long as the port the original takes. The exit status is 0 only if both sides gave the same bits.
 //!
-//! usage: bench [--rounds R] [--row TEXT] [--names] [--only COLUMN] [--times N]
+//! usage: bench [--boundary] [--rounds R] [--row TEXT] [--names] [--only COLUMN] [--times N]
 //!
-//! `--row` takes the rows whose names have the text; `--names` prints their names alone; `--only` runs one column
-//! (original, plain, fresh, entry, temperature) N times and prints nothing, for `host/bench --instructions`.
+//! `--boundary` prints another table: the port's calls are made in Rattle and one by one through C, in the same rounds, and each
+//! has a line with both times and the difference. `--row` takes the rows whose names have the text; `--names` prints their
+//! names alone; `--only` runs one column (original, plain, fresh, entry, temperature; through C plain-c and so on) N times
+//! and prints nothing, for `host/bench --instructions`.
 //!
 //! How buffers are prepared: the original's models are made before the clock starts. The port has no heap: one
 //! exported call decodes the values into arrays on the stack, opens, loads and sets T and the fractions, and then makes
-//! its calls one after another. That start is timed by itself, as a call with one turn, and taken off each chunk.
+//! its calls one after another. That start is timed by itself, as a call with one turn, and taken off each chunk. Through
+//! C the benchmark does the same with arrays of its own.
 
+mod bench_boundary;
 mod bench_inputs;
 mod bench_port;
 
 use bench_inputs::{Case, Model};
 use bench_port::{Change, Prepared};
 use std::hint::black_box;
+use std::process::ExitCode;
 use std::time::Instant;
 
-const COLUMNS: [&str; 5] = ["original", "plain", "fresh", "entry", "temperature"];
+/// Who makes a column's calls: the original, one exported call that repeats them, or the benchmark through C.
+#[derive(Clone, Copy)]
+enum Call {
+    Original,
+    Rattle(Change),
+    C(Change),
+}
+
+use Call::{Original, Rattle, C};
+
+/// The port's calls, by the names of their columns and by their titles.
+const PORT: [(&str, &str, Change); 4] = [
+    ("plain", "plain", Change::Plain),
+    ("fresh", "kept, fresh", Change::Nothing),
+    ("entry", "entry set", Change::Entry),
+    ("temperature", "T set", Change::Temperature),
+];
 
 /// About how long a chunk takes.
 const CHUNK_NS: f64 = 1.5e6;
+
+/// Places of the stack, 272 bytes apart, so that they go over a page: at about one of them a setting takes longer.
+const PLACES: usize = 16;
+
+/// The column of a name.
+fn column(name: &str) -> Option<Call> {
+    if name == "original" {
+        return Some(Original);
+    }
+    let (name, through): (_, fn(Change) -> Call) = match name.strip_suffix("-c") {
+        Some(name) => (name, C),
+        None => (name, Rattle),
+    };
+    let found = PORT.iter().find(|port| port.0 == name);
+    found.map(|&(_, _, change)| through(change))
+}
 
 /// A row's call, as each side takes it.
 struct Row<'a> {
@@ -38,31 +75,35 @@ impl<'a> Row<'a> {
         Self { case, model, port }
     }
 
+    /// The original's calls; the last value.
+    fn original(&self, times: usize) -> f64 {
+        let Case { t, x, quantity, .. } = self.case;
+        let mut last = 0.0;
+        for _ in 0..times {
+            last = black_box(&self.model).ask(black_box(*t), black_box(x), *quantity);
+        }
+        last
+    }
+
     /// Runs a column's calls, and answers how many nanoseconds they took and the last value.
-    fn run(&self, column: usize, times: usize) -> (f64, f64) {
-        let change = match column {
-            0 => {
-                let Case { t, x, quantity, .. } = self.case;
-                let start = Instant::now();
-                let mut last = 0.0;
-                for _ in 0..times {
-                    last = black_box(&self.model).ask(black_box(*t), black_box(x), *quantity);
-                }
-                return (start.elapsed().as_nanos() as f64, last);
+    fn run(&self, column: Call, times: usize) -> (f64, f64) {
+        match column {
+            Original => timed(|| self.original(times)),
+            Rattle(change) => {
+                let temperatures = self.port.temperatures(times);
+                timed(|| self.port.repeat(change, &temperatures))
             }
-            1 => Change::Plain,
-            2 => Change::Nothing,
-            3 => Change::Entry,
-            _ => Change::Temperature,
-        };
-        let temperatures = self.port.temperatures(times);
-        let start = Instant::now();
-        let last = self.port.repeat(change, &temperatures);
-        (start.elapsed().as_nanos() as f64, last)
+            C(change) => {
+                let temperatures = vec![self.case.t; times];
+                // a refusal differs from every row's value
+                let value = |all: Result<f64, _>| all.unwrap_or(f64::NAN);
+                timed(|| value(bench_boundary::repeat(self.case, change, &temperatures)))
+            }
+        }
     }
 
     /// Nanoseconds per call: those of n calls and one, less those of one, over n; and whether both gave the value.
-    fn time(&self, column: usize, n: usize, expected: u64) -> (f64, bool) {
+    fn time(&self, column: Call, n: usize, expected: u64) -> (f64, bool) {
         let (one, first) = self.run(column, 1);
         let (all, last) = self.run(column, n + 1);
         let same = bits(first) == expected && bits(last) == expected;
@@ -70,33 +111,80 @@ impl<'a> Row<'a> {
     }
 
     /// So many calls that a chunk takes about CHUNK_NS.
-    fn calls(&self, column: usize) -> usize {
-        let guess = if column == 0 { 1 } else { 100 };
+    fn calls(&self, column: Call) -> usize {
+        let guess = if let Original = column { 1 } else { 100 };
         let each = (self.run(column, guess).0 / guess as f64).max(1.0);
         ((CHUNK_NS / each) as usize).clamp(1, 50_000)
     }
 
-    /// Measures the row; answers whether every value was the original's.
-    fn measure(&self, rounds: usize) -> bool {
-        let expected = bits(self.run(0, 1).1);
-        let times: [usize; 5] = std::array::from_fn(|column| self.calls(column));
-        let mut all = [const { Vec::new() }; 5];
-        let mut same = true;
-        for _ in 0..rounds {
-            for (column, &n) in times.iter().enumerate() {
-                let (ns, fine) = self.time(column, n, expected);
-                same &= fine;
-                all[column].push(ns);
+    /// Of each column the nanoseconds per call, by rounds that take turns, and whether every value was the original's. The
+    /// rounds go through so many places of the stack.
+    #[rustfmt::skip]
+    fn rounds<const N: usize>(&self, columns: [Call; N], rounds: usize, places: usize) -> [(Vec<f64>, bool); N] {
+        let expected = bits(self.run(Original, 1).1);
+        let times = columns.map(|column| self.calls(column));
+        let mut all = [const { (Vec::new(), true) }; N];
+        for round in 0..rounds {
+            for (k, (each, same)) in all.iter_mut().enumerate() {
+                let (ns, fine) = deeper(round % places, &|| self.time(columns[k], times[k], expected));
+                each.push(ns);
+                *same &= fine;
             }
         }
-        let ns = all.map(median);
+        all
+    }
+
+    /// Measures the row; answers whether every value was the original's.
+    fn measure(&self, rounds: usize) -> bool {
+        let [p, f, e, t] = PORT.map(|port| Rattle(port.2));
+        let all = self.rounds([Original, p, f, e, t], rounds, 1);
+        let same = all.iter().all(|column| column.1);
+        let ns = all.map(|column| median(column.0));
         print!("{:<22} {:>11.1}", self.case.name(), ns[0]);
         for &each in &ns[1..] {
             print!("  {each:>9.1} {:>7.2}", ns[0] / each);
         }
-        println!("{}", if same { "" } else { "  DIFFERS" });
+        println!("{}", differs(same));
         same
     }
+
+    /// The same from Rattle and through C, with a line for each of the port's calls.
+    #[rustfmt::skip]
+    fn measure_boundary(&self, rounds: usize) -> bool {
+        let [p, f, e, t] = PORT.map(|port| port.2);
+        let columns = [Original, Rattle(p), C(p), Rattle(f), C(f), Rattle(e), C(e), Rattle(t), C(t)];
+        let all = self.rounds(columns, rounds, PLACES);
+        let original = median(all[0].0.clone());
+        for (port, both) in PORT.iter().zip(all[1..].chunks(2)) {
+            print!("{:<24} {:<11} {original:>11.1}", self.case.name(), port.1);
+            for column in both {
+                let each = median(column.0.clone());
+                print!("  {each:>9.1} {:>7.2}", original / each);
+            }
+            let longer = both[1].0.iter().zip(&both[0].0).map(|(c, rattle)| c - rattle);
+            println!("  {:>9.1}{}", median(longer.collect()), differs(both[0].1 && both[1].1));
+        }
+        all.iter().all(|column| column.1)
+    }
+}
+
+/// What f answers where the stack is so many frames deeper.
+#[inline(never)]
+fn deeper<T>(frames: usize, f: &dyn Fn() -> T) -> T {
+    let room = black_box([0u8; 240]);
+    let answer = match frames {
+        0 => f(),
+        _ => deeper(frames - 1, f),
+    };
+    black_box(&room);
+    answer
+}
+
+/// How many nanoseconds the calls took, and their last value.
+fn timed(calls: impl FnOnce() -> f64) -> (f64, f64) {
+    let start = Instant::now();
+    let last = calls();
+    (start.elapsed().as_nanos() as f64, last)
 }
 
 /// Bits, with one pattern for every NaN.
@@ -113,52 +201,102 @@ fn median(mut all: Vec<f64>) -> f64 {
     all[all.len() / 2]
 }
 
-fn main() -> std::process::ExitCode {
-    let (mut rounds, mut row, mut names, mut only, mut times) = (15, String::new(), false, None, 1);
+/// The end of a line.
+fn differs(same: bool) -> &'static str {
+    if same {
+        ""
+    } else {
+        "  DIFFERS"
+    }
+}
+
+struct Options {
+    boundary: bool,
+    rounds: usize,
+    row: String,
+    names: bool,
+    only: Option<Call>,
+    times: usize,
+}
+
+/// The options; None for a wrong word.
+fn options() -> Option<Options> {
+    let (boundary, rounds, row, names, only, times) = (false, 15, String::new(), false, None, 1);
+    let mut o = Options {
+        boundary,
+        rounds,
+        row,
+        names,
+        only,
+        times,
+    };
     let mut words = std::env::args().skip(1);
     while let Some(word) = words.next() {
-        if word == "--names" {
-            names = true;
-            continue;
-        }
-        let value = words.next().unwrap_or_default();
+        let mut value = || words.next().unwrap_or_default();
         match word.as_str() {
-            "--rounds" => rounds = value.parse().unwrap_or(rounds),
-            "--row" => row = value,
-            "--only" => only = COLUMNS.iter().position(|&c| c == value),
-            "--times" => times = value.parse().unwrap_or(times),
-            _ => {
-                eprintln!(
-                    "usage: bench [--rounds R] [--row TEXT] [--names] [--only COLUMN] [--times N]"
-                );
-                return std::process::ExitCode::from(2);
-            }
+            "--boundary" => o.boundary = true,
+            "--names" => o.names = true,
+            "--rounds" => o.rounds = value().parse().unwrap_or(o.rounds),
+            "--row" => o.row = value(),
+            "--only" => o.only = column(&value()),
+            "--times" => o.times = value().parse().unwrap_or(o.times),
+            _ => return None,
         }
     }
-    let cases = bench_inputs::all();
-    let chosen = cases.iter().filter(|c| c.name().contains(&row));
-    if names || only.is_some() {
-        for case in chosen {
-            match only {
-                Some(column) => _ = black_box(Row::new(case).run(column, times)),
-                None => println!("{}", case.name()),
-            }
-        }
-        return std::process::ExitCode::SUCCESS;
-    }
+    Some(o)
+}
+
+/// What stands above the table.
+fn print_titles(boundary: bool, rounds: usize) {
     println!(
         "nanoseconds per call (medians of {rounds} rounds), and the original's over the port's"
     );
     println!(
         "buffers: models of the original made before the clock starts; the port's start taken off"
     );
-    println!(
-        "{:<22} {:>11}  {:>17}  {:>17}  {:>17}  {:>17}",
-        "", "original", "plain", "kept, fresh", "entry set", "T set"
-    );
+    if boundary {
+        println!(
+            "longer: what a call takes longer through C, the median of the rounds' differences"
+        );
+        print!("{:<36} {:>11}", "", "original");
+        println!(
+            "  {:>17}  {:>17}  {:>9}",
+            "from Rattle", "through C", "longer"
+        );
+        return;
+    }
+    print!("{:<22} {:>11}", "", "original");
+    for (_, title, _) in PORT {
+        print!("  {title:>17}");
+    }
+    println!();
+}
+
+fn main() -> ExitCode {
+    let Some(o) = options() else {
+        eprintln!("usage: bench [--boundary] [--rounds R] [--row TEXT] [--names] [--only COLUMN] [--times N]");
+        return ExitCode::from(2);
+    };
+    let cases = bench_inputs::all();
+    let chosen = cases.iter().filter(|c| c.name().contains(&o.row));
+    if o.names || o.only.is_some() {
+        for case in chosen {
+            match o.only {
+                Some(column) => _ = black_box(Row::new(case).run(column, o.times)),
+                None => println!("{}", case.name()),
+            }
+        }
+        return ExitCode::SUCCESS;
+    }
+    let rounds = o.rounds.max(1);
+    print_titles(o.boundary, rounds);
     let mut same = true;
     for case in chosen {
-        same &= Row::new(case).measure(rounds.max(1));
+        let row = Row::new(case);
+        same &= match o.boundary {
+            true => row.measure_boundary(rounds),
+            false => row.measure(rounds),
+        };
     }
     println!(
         "{}",
@@ -169,8 +307,8 @@ fn main() -> std::process::ExitCode {
         }
     );
     if same {
-        std::process::ExitCode::SUCCESS
+        ExitCode::SUCCESS
     } else {
-        std::process::ExitCode::FAILURE
+        ExitCode::FAILURE
     }
 }

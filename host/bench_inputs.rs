@@ -47,6 +47,24 @@ impl Case {
             _ => format!("{model} {n} {asked}"),
         }
     }
+
+    /// What is asked, by the exported calls' numbers.
+    pub fn asked(&self) -> (u32, usize) {
+        match self.quantity {
+            Quantity::LnGamma(i) => (0, i),
+            Quantity::Gamma(i) => (1, i),
+            Quantity::ExcessGibbs => (2, 0),
+        }
+    }
+
+    /// The number of entry 0, 1, which is set again to what it is.
+    pub fn entry(&self) -> f64 {
+        self.values[match self.model {
+            NRTL => 5 * self.n * self.n + 1,
+            UNIFAC => 2 * self.ng + 5,
+            _ => 1,
+        }]
+    }
 }
 
 /// xorshift64*, from a fixed seed.

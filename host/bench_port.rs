@@ -1,7 +1,7 @@
 //! The exported call that the benchmark measures, in a safe wrapper. Nothing checks the declaration against the
 //! Rattle source (crates/repeat/src/exports.rt). A slice of bytes passes as a pointer and then its length.
 
-use crate::bench_inputs::{Case, Quantity, NRTL, UNIFAC};
+use crate::bench_inputs::Case;
 
 /// What is done before each query, by the exported call's numbers; `Plain` is the plain call in place of a query.
 #[derive(Clone, Copy)]
@@ -55,17 +55,7 @@ pub struct Prepared {
 
 impl Prepared {
     pub fn new(case: &Case) -> Self {
-        let (asked, i) = match case.quantity {
-            Quantity::LnGamma(i) => (0, i),
-            Quantity::Gamma(i) => (1, i),
-            Quantity::ExcessGibbs => (2, 0),
-        };
-        // Where the number of entry 0, 1 stands, which is set again to what it is.
-        let place = match case.model {
-            NRTL => 5 * case.n * case.n + 1,
-            UNIFAC => 2 * case.ng + 5,
-            _ => 1,
-        };
+        let (asked, i) = case.asked();
         Self {
             model: case.model as u8,
             n: case.n,
@@ -76,7 +66,7 @@ impl Prepared {
             x: bytes(&case.x),
             asked,
             i,
-            v: case.values[place],
+            v: case.entry(),
             t: case.t,
         }
     }
