@@ -110,10 +110,13 @@ impl<'a> Row<'a> {
         ((all - one).max(0.0) / n as f64, same)
     }
 
-    /// So many calls that a chunk takes about CHUNK_NS.
+    /// So many calls that a chunk takes about CHUNK_NS, by the least of three readings.
     fn calls(&self, column: Call) -> usize {
         let guess = if let Original = column { 1 } else { 100 };
-        let each = (self.run(column, guess).0 / guess as f64).max(1.0);
+        let least = (0..3)
+            .map(|_| self.run(column, guess).0)
+            .fold(f64::MAX, f64::min);
+        let each = (least / guess as f64).max(1.0);
         ((CHUNK_NS / each) as usize).clamp(1, 50_000)
     }
 
