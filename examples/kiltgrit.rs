@@ -1,0 +1,260 @@
+//! The exported calls in Rust: put this file beside a program's own, say `mod kiltgrit;`, and link libkiltgrit.a.
+//!
+//! `raw` has the calls and structs of include/kiltgrit.h; `Mixture`, `plain` and `run` are a safe wrapper over them.
+
+/// How long the lent slices are, with room for what later versions lend.
+const VALUES: usize = 5328;
+const CELLS: usize = 1408;
+const MARKS: usize = 1036;
+
+/// The longest text of a strip.
+const TEXT: usize = 655_367;
+
+mod raw {
+    #[repr(C)]
+    #[derive(Clone, Copy)]
+    pub struct Head {
+        pub model: u8,
+        pub form: u8,
+        pub unused: [u8; 6],
+        pub n: usize,
+        pub ng: usize,
+        pub lens: [u8; 12],
+        pub groups: [u8; 144],
+        pub changes: u32,
+        pub t: f64,
+        pub x: [f64; 12],
+        pub has_t: u8,
+        pub has_x: u8,
+        pub also_unused: [u8; 6],
+        pub tolerance: f64,
+    }
+
+    #[repr(C)]
+    pub struct Answer {
+        pub value: f64,
+        pub cells_worked: usize,
+        pub renewed: usize,
+        pub refused: u32,
+        pub unused: u32,
+    }
+
+    #[repr(C)]
+    pub struct Reply {
+        pub head: Head,
+        pub answer: Answer,
+    }
+
+    #[repr(C)]
+    #[derive(Clone, Copy)]
+    pub struct Setting {
+        pub v: [f64; 5],
+        pub i: usize,
+        pub j: usize,
+        pub kind: u32,
+        pub unused: u32,
+    }
+
+    #[repr(C)]
+    pub struct Value {
+        pub value: f64,
+        pub refused: u32,
+        pub unused: u32,
+    }
+
+    const _: () = assert!(size_of::<Head>() == 304 && size_of::<Reply>() == 336);
+    const _: () = assert!(std::mem::offset_of!(Head, changes) == 180);
+    const _: () = assert!(std::mem::offset_of!(Head, has_t) == 288);
+    const _: () = assert!(size_of::<Answer>() == 32 && size_of::<Setting>() == 64);
+    const _: () = assert!(size_of::<Value>() == 16);
+
+    #[rustfmt::skip]
+    extern "C" {
+        pub fn kiltgrit_mixture_open(values: *const f64, values_len: usize, cells: *const f64, cells_len: usize,
+            marks: *const u8, marks_len: usize, head: Head) -> Reply;
+        pub fn kiltgrit_mixture_load(values: *mut f64, values_len: usize, cells: *const f64, cells_len: usize,
+            marks: *mut u8, marks_len: usize, head: Head, model: u32, form: u32, n: usize, ng: usize,
+            lens: *const u8, lens_len: usize, groups: *const u8, groups_len: usize,
+            given: *const f64, given_len: usize) -> Reply;
+        pub fn kiltgrit_mixture_set(values: *mut f64, values_len: usize, cells: *const f64, cells_len: usize,
+            marks: *mut u8, marks_len: usize, head: Head, s: Setting) -> Reply;
+        pub fn kiltgrit_mixture_fractions(values: *const f64, values_len: usize, cells: *const f64, cells_len: usize,
+            marks: *const u8, marks_len: usize, head: Head, x: *const f64, x_len: usize) -> Reply;
+        pub fn kiltgrit_mixture_query(values: *const f64, values_len: usize, cells: *mut f64, cells_len: usize,
+            marks: *mut u8, marks_len: usize, head: Head, asked: u32, i: usize) -> Answer;
+        pub fn kiltgrit_plain(model: u32, form: u32, n: usize, ng: usize, lens: *const u8, lens_len: usize,
+            groups: *const u8, groups_len: usize, values: *const f64, values_len: usize, t: f64,
+            x: *const f64, x_len: usize, asked: u32, i: usize) -> Value;
+        pub fn kiltgrit_run(strip: *const u8, strip_len: usize, out: *mut u8, out_len: usize) -> usize;
+    }
+}
+
+/// Document 01's number of a refusal; the call has changed nothing.
+#[derive(Debug)]
+pub struct Refused(pub u32);
+
+fn unless<T>(refused: u32, answer: T) -> Result<T, Refused> {
+    if refused == 0 {
+        Ok(answer)
+    } else {
+        Err(Refused(refused))
+    }
+}
+
+#[derive(Clone, Copy)]
+pub enum Model {
+    Wilson = 1,
+    Uniquac = 2,
+    Nrtl = 3,
+    Unifac = 4,
+}
+
+#[derive(Clone, Copy)]
+pub enum Asked {
+    LnGamma(usize),
+    Gamma(usize),
+    ExcessGibbs,
+}
+
+impl Asked {
+    fn raw(self) -> (u32, usize) {
+        match self {
+            Asked::LnGamma(i) => (0, i),
+            Asked::Gamma(i) => (1, i),
+            Asked::ExcessGibbs => (2, 0),
+        }
+    }
+}
+
+#[derive(Clone, Copy)]
+pub enum Setting {
+    Temperature(f64),
+    Entry(usize, usize, f64),
+    TdEntry(usize, usize, [f64; 5]),
+    Size(usize, usize, f64),
+    Count(usize, usize, f64),
+}
+
+impl Setting {
+    fn raw(self) -> raw::Setting {
+        let one = |v| [v, 0.0, 0.0, 0.0, 0.0];
+        let (kind, i, j, v) = match self {
+            Setting::Temperature(kelvin) => (5, 0, 0, one(kelvin)),
+            Setting::Entry(i, j, v) => (7, i, j, one(v)),
+            Setting::TdEntry(i, j, five) => (8, i, j, five),
+            Setting::Size(i, which, v) => (9, i, which, one(v)),
+            Setting::Count(i, place, v) => (10, i, place, one(v)),
+        };
+        let unused = 0;
+        raw::Setting {
+            v,
+            i,
+            j,
+            kind,
+            unused,
+        }
+    }
+}
+
+/// What a load brings, in the header's order; for models other than UNIFAC ng is 0, and the lists are empty.
+pub struct Data<'a> {
+    pub model: Model,
+    pub n: usize,
+    pub ng: usize,
+    pub lens: &'a [u8],
+    pub groups: &'a [u8],
+    pub values: &'a [f64],
+}
+
+/// A mixture that keeps its exponentials, with the memory that it lends and the head that the last call gave back.
+pub struct Mixture {
+    values: [f64; VALUES],
+    cells: [f64; CELLS],
+    marks: [u8; MARKS],
+    head: raw::Head,
+}
+
+/// A call on a mixture, with what it takes beside the memory and the head.
+macro_rules! call {
+    ($name:ident, $mixture:expr $(, $more:expr)*) => {{
+        let Mixture { values, cells, marks, head } = $mixture;
+        // SAFETY: each pointer comes from a slice that lives to the end of the call, with its length; those of the
+        // mixture overlap no other. The call refuses what it can't take.
+        unsafe {
+            raw::$name(
+                values.as_mut_ptr(), VALUES, cells.as_mut_ptr(), CELLS, marks.as_mut_ptr(), MARKS, *head $(, $more)*
+            )
+        }
+    }};
+}
+
+impl Mixture {
+    pub fn open() -> Self {
+        // SAFETY: a head is numbers, of which none is out of range; any will do.
+        let head = unsafe { std::mem::zeroed() };
+        let (values, cells, marks) = ([0.0; VALUES], [0.0; CELLS], [0; MARKS]);
+        let mut opened = Self {
+            values,
+            cells,
+            marks,
+            head,
+        };
+        let reply = call!(kiltgrit_mixture_open, &mut opened);
+        opened.took(reply).expect("the memory is long enough");
+        opened
+    }
+
+    fn took(&mut self, reply: raw::Reply) -> Result<(), Refused> {
+        self.head = reply.head;
+        unless(reply.answer.refused, ())
+    }
+
+    #[rustfmt::skip]
+    pub fn load(&mut self, d: &Data) -> Result<(), Refused> {
+        let reply = call!(
+            kiltgrit_mixture_load, &mut *self, d.model as u32, 0, d.n, d.ng, d.lens.as_ptr(), d.lens.len(),
+            d.groups.as_ptr(), d.groups.len(), d.values.as_ptr(), d.values.len()
+        );
+        self.took(reply)
+    }
+
+    pub fn set(&mut self, setting: Setting) -> Result<(), Refused> {
+        let reply = call!(kiltgrit_mixture_set, &mut *self, setting.raw());
+        self.took(reply)
+    }
+
+    pub fn fractions(&mut self, x: &[f64]) -> Result<(), Refused> {
+        let reply = call!(kiltgrit_mixture_fractions, &mut *self, x.as_ptr(), x.len());
+        self.took(reply)
+    }
+
+    /// The value, and how many exponentials were worked out for it.
+    pub fn query(&mut self, asked: Asked) -> Result<(f64, usize), Refused> {
+        let (asked, i) = asked.raw();
+        let answer = call!(kiltgrit_mixture_query, self, asked, i);
+        unless(answer.refused, (answer.value, answer.cells_worked))
+    }
+}
+
+/// The same at once, with nothing kept.
+pub fn plain(d: &Data, kelvin: f64, x: &[f64], asked: Asked) -> Result<f64, Refused> {
+    let (asked, i) = asked.raw();
+    // SAFETY: each pointer comes from a slice that lives to the end of the call, with its length.
+    #[rustfmt::skip]
+    let answer = unsafe {
+        raw::kiltgrit_plain(
+            d.model as u32, 0, d.n, d.ng, d.lens.as_ptr(), d.lens.len(), d.groups.as_ptr(), d.groups.len(),
+            d.values.as_ptr(), d.values.len(), kelvin, x.as_ptr(), x.len(), asked, i,
+        )
+    };
+    unless(answer.refused, answer.value)
+}
+
+/// The text of a strip that is run whole.
+pub fn run(strip: &[u8]) -> String {
+    let mut out = vec![0; TEXT];
+    // SAFETY: as above; `out` overlaps no other slice.
+    let length =
+        unsafe { raw::kiltgrit_run(strip.as_ptr(), strip.len(), out.as_mut_ptr(), out.len()) };
+    String::from_utf8_lossy(&out[..length]).into_owned()
+}
