@@ -9,7 +9,7 @@ use mixture::Answer;
 use mixture::Head;
 use mixture::Reply;
 use mixture::Setting;
-use models::Quantity;
+use models::answers::quantity_of;
 use models::limits::COMPONENTS;
 use models::limits::PLACES;
 use models::model::model_numbered;
@@ -50,15 +50,6 @@ fn setting_of(r: Record, s: &[f64]) -> Setting {
         ),
         3 => Setting::Size(r.b, r.c, v),
         _ => Setting::Count(r.b, r.c, v),
-    }
-}
-
-fn quantity_of(r: Record) -> Quantity {
-    let asked = r.a;
-    match asked {
-        0 => Quantity::LnGamma(r.b),
-        1 => Quantity::Gamma(r.b),
-        _ => Quantity::ExcessGibbs,
     }
 }
 
@@ -125,7 +116,7 @@ fn on_lent(
         ),
         records::SETTING => { mixture::set::set(values, cells, marks, head, setting_of(r, floats)) }
         records::FRACTIONS => mixture::fractions::fractions(values, cells, marks, head, floats),
-        records::QUERY => mixture::query::query(values, cells, marks, head, quantity_of(r)),
+        records::QUERY => mixture::query::query(values, cells, marks, head, quantity_of(r.a, r.b)),
         _ => Reply {
             head: head_of(r, first, second, floats),
             answer: Answer::Done,

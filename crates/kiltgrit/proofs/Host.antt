@@ -18,7 +18,7 @@ use Rattle.mixture.proofs.history.History.{history}
 use Rattle.kiltgrit.specs.declared.border.CHead.{CHead}
 use Rattle.kiltgrit.specs.declared.border.CAnswer.{CAnswer}
 use Rattle.kiltgrit.specs.Border.{headOf, valueOf, countOf, replyOf, answerOf, replied}
-use Rattle.kiltgrit.specs.Arguments.{loadOf, settingOf, quantityOf}
+use Rattle.kiltgrit.specs.Arguments.{loadOf, settingOf, quantityAsked}
 use Rattle.kiltgrit.specs.Host.{Call, Open, Load, Set, Fractions, Query, callOf, Host, taken, hostAfter, hostTold, HostHistory}
 use Rattle.kiltgrit.proofs.Laws.{head-crosses}
 
@@ -56,7 +56,7 @@ follows m c (Load model form n ng lens groups given) =
 follows m c (Set s) =
     follows-outcome m (setMemory m (dataIn m (headOf c)) (settingOf s)) c (settingFault m (headOf c) (settingOf s)) (setHead (headOf c) (settingOf s))
 follows m c (Fractions x) = follows-outcome m m c (fractionsFault m (headOf c) x) (withFractions (headOf c) x)
-follows m c (Query k i) = record { memory = refl; head = query-keeps m (headOf c) (quantityOf k i); told = refl }
+follows m c (Query k i) = record { memory = refl; head = query-keeps m (headOf c) (quantityAsked k i); told = refl }
 
 told-all : (ks : List Call) (m : Memory) (c : CHead) {n : Memory} {h : Head} → m ≡ n → headOf c ≡ h → hostTold m c ks ≡ map answerOf (answers n h (map callOf ks))
 unfolding hostTold answers

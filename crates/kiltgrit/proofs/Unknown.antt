@@ -27,7 +27,7 @@ use Rattle.mixture.proofs.ListLaws.{never}
 use Rattle.mixture.proofs.CallLaws.{head-passed, ready-passed}
 use Rattle.mixture.proofs.history.RangeLaws.{Bounds}
 use Rattle.kiltgrit.specs.declared.arguments.CSetting.{CSetting}
-use Rattle.kiltgrit.specs.Arguments.{noIndex, knownN, loadOf, settingOf, quantityOf}
+use Rattle.kiltgrit.specs.Arguments.{noIndex, knownN, loadOf, settingOf, quantityAsked}
 use Rattle.kiltgrit.specs.Unknown.{UnknownModel, isKind, UnknownKind, UnknownAsked}
 
 -- ---- the model
@@ -90,14 +90,9 @@ pub unknown-kind : UnknownKind
 unfolding settingFault
 unknown-kind m h s u = rw (unknown-setting s u) (behind (headFault m h) (λ e. no-size (dataIn m h) (head-passed m h e .range)))
 
-apart : (k a : ℕ) → a < k → eqb k a ≡ false
-apart k a h = ne-eqb k a (λ (e : k ≡ a). omega arith)
-
-unknown-quantity : (asked i : ℕ) → leb asked 2 ≡ false → quantityOf asked i ≡ LnGamma noIndex
-unfolding quantityOf
-unknown-quantity asked i u =
-    let h = leb-false asked 2 u in
-    rw (apart asked 0 (omega arith), apart asked 1 (omega arith), apart asked 2 (omega arith)) refl
+unknown-quantity : (asked i : ℕ) → leb asked 2 ≡ false → quantityAsked asked i ≡ LnGamma noIndex
+unfolding quantityAsked
+unknown-quantity asked i u = rw (le-ltb asked 3 (leb-false asked 2 u))
 
 no-index : (n : ℕ) → n ≤ 12 → indexFault n (LnGamma noIndex) ≡ 7
 unfolding indexFault

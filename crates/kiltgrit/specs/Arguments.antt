@@ -3,12 +3,13 @@
 use mathlib.Core.Bool.{_&&_, cond}
 use mathlib.Core.List.{List}
 use Prim.Native.Nat.{ℕ}
-use lib.Dec.{eqb}
+use lib.Dec.{ltb, eqb}
 use lib.Ieee.{Float}
 use Rattle.arithmetic.specs.Floats.{+0}
 use Rattle.arithmetic.specs.Tables.{at}
 use Rattle.models.specs.declared.answers.Quantity.{Quantity}
-use Rattle.models.specs.declared.answers.Quantity.the-variants.{LnGamma, Gamma, ExcessGibbs}
+use Rattle.models.specs.declared.answers.Quantity.the-variants.{LnGamma}
+use Rattle.models.specs.Answers.{quantityOf}
 use Rattle.mixture.specs.declared.setting.Setting.{Setting}
 use Rattle.mixture.specs.declared.setting.Setting.the-variants.{Temperature, Entry, TdEntry, Size, Count}
 use Rattle.models.specs.Faults.{between}
@@ -20,9 +21,8 @@ abbrev pub noIndex : ℕ
 noIndex = 18446744073709551615
 
 -- 0 ln γ, 1 γ, 2 the excess energy
-unfoldable pub quantityOf : ℕ → ℕ → Quantity
-quantityOf asked i =
-    cond (eqb asked 0) (LnGamma i) (cond (eqb asked 1) (Gamma i) (cond (eqb asked 2) ExcessGibbs (LnGamma noIndex)))
+unfoldable pub quantityAsked : ℕ → ℕ → Quantity
+quantityAsked asked i = cond (ltb asked 3) (quantityOf asked i) (LnGamma noIndex)
 
 -- n, where the model is from 1 to 4 and the form, which is kept for later, is 0
 unfoldable pub knownN : ℕ → ℕ → ℕ → ℕ

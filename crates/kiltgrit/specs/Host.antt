@@ -13,7 +13,7 @@ use Rattle.kiltgrit.specs.declared.border.CReply.{CReply}
 use Rattle.kiltgrit.specs.declared.border.CAnswer.{CAnswer}
 use Rattle.kiltgrit.specs.declared.arguments.CSetting.{CSetting}
 use Rattle.kiltgrit.specs.Border.{headOf, answerOf, Left, replied, answered}
-use Rattle.kiltgrit.specs.Arguments.{loadOf, settingOf, quantityOf}
+use Rattle.kiltgrit.specs.Arguments.{loadOf, settingOf, quantityAsked}
 
 -- a call and its arguments other than the lent memory and the head
 pub data Call : Type 0 where
@@ -29,7 +29,7 @@ callOf Open = Book.Open
 callOf (Load model form n ng lens groups given) = Book.Load (loadOf model form n ng lens groups given)
 callOf (Set s) = Book.Set (settingOf s)
 callOf (Fractions x) = Book.Fractions x
-callOf (Query asked i) = Book.Query (quantityOf asked i)
+callOf (Query asked i) = Book.Query (quantityAsked asked i)
 
 -- what the host has after a call: the memory, the head that it hands on, and what it was told
 pub record Host : Type 0 where
@@ -56,7 +56,7 @@ hostAfter m c Open = taken (replied c (afterOpen m (headOf c)))
 hostAfter m c (Load model form n ng lens groups given) = taken (replied c (afterLoad m (headOf c) (loadOf model form n ng lens groups given)))
 hostAfter m c (Set s) = taken (replied c (afterSetting m (headOf c) (settingOf s)))
 hostAfter m c (Fractions x) = taken (replied c (afterFractions m (headOf c) x))
-hostAfter m c (Query k i) = asked c (answered (afterQuery m (headOf c) (quantityOf k i)))
+hostAfter m c (Query k i) = asked c (answered (afterQuery m (headOf c) (quantityAsked k i)))
 
 -- each call is lent the memory that the one before left, and gets the head that the host has from it
 unfoldable pub hostTold : Memory → CHead → List Call → List CAnswer

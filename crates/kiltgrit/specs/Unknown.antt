@@ -12,7 +12,7 @@ use Rattle.mixture.specs.declared.head.Head.{Head}
 use Rattle.mixture.specs.Memory.{Memory}
 use Rattle.mixture.specs.Faults.{memoryFault, headFault, readyFault, loadFault, settingFault, queryFault}
 use Rattle.kiltgrit.specs.declared.arguments.CSetting.{CSetting}
-use Rattle.kiltgrit.specs.Arguments.{loadOf, settingOf, quantityOf}
+use Rattle.kiltgrit.specs.Arguments.{loadOf, settingOf, quantityAsked}
 
 -- 1, then 2
 abbrev pub UnknownModel : Type 0
@@ -29,4 +29,4 @@ UnknownKind = (m : Memory) (h : Head) (s : CSetting) → isKind (s .kind) ≡ fa
 -- 1 or 8, then 9, then 7
 abbrev pub UnknownAsked : Type 0
 UnknownAsked = (m : Memory) (h : Head) (asked i : ℕ) → leb asked 2 ≡ false
-    → queryFault m h (quantityOf asked i) ≡ first (readyFault m h) 7
+    → queryFault m h (quantityAsked asked i) ≡ first (readyFault m h) 7

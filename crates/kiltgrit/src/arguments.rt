@@ -1,10 +1,11 @@
 // What is asked, set and loaded, by C's numbers. A number that means nothing becomes an index or an n that no
 // model has, so that the call declines it in that argument's own place.
 ghost use mathlib.Core.Path.{_≡_};
-ghost use Rattle.kiltgrit.specs.Arguments.{knownN, settingOf, quantityOf};
+ghost use Rattle.kiltgrit.specs.Arguments.{knownN, settingOf, quantityAsked};
 use arithmetic::TdParam;
 use mixture::Setting;
 use models::Quantity;
+use models::answers::quantity_of;
 
 // An index that no model has.
 const NO_INDEX: usize = 18446744073709551615;
@@ -19,17 +20,11 @@ pub struct CSetting {
     pub unused: u32,
 }
 
-pub fn quantity_of(asked: u32, i: usize) -> Quantity
-    ensures { λ r. ⌜ r ≡ quantityOf asked i ⌝ }
+pub fn quantity_asked(asked: u32, i: usize) -> Quantity
+    ensures { λ r. ⌜ r ≡ quantityAsked asked i ⌝ }
 {
-    if asked == 0 {
-        return Quantity::LnGamma(i);
-    }
-    if asked == 1 {
-        return Quantity::Gamma(i);
-    }
-    if asked == 2 {
-        return Quantity::ExcessGibbs;
+    if asked < 3 {
+        return quantity_of(asked as usize, i);
     }
     Quantity::LnGamma(NO_INDEX)
 }

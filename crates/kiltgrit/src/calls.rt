@@ -5,10 +5,10 @@ ghost use Rattle.models.specs.Plain.{plainCall};
 ghost use Rattle.mixture.specs.Memory.{before, later};
 ghost use Rattle.mixture.specs.Calls.{afterOpen, afterLoad, afterSetting, afterFractions, afterQuery};
 ghost use Rattle.kiltgrit.specs.Border.{headOf, left, replied, answered, valueOr};
-ghost use Rattle.kiltgrit.specs.Arguments.{loadOf, settingOf, quantityOf};
+ghost use Rattle.kiltgrit.specs.Arguments.{loadOf, settingOf, quantityAsked};
 use crate::arguments::CSetting;
 use crate::arguments::known_n;
-use crate::arguments::quantity_of;
+use crate::arguments::quantity_asked;
 use crate::arguments::setting_of;
 use crate::border::CAnswer;
 use crate::border::CHead;
@@ -37,9 +37,15 @@ pub extern "C" fn kiltgrit_mixture_query(
     i: usize,
 ) -> CAnswer
     ensures { λ r. ⌜ left (later values cells marks) r
-        ≡ answered (afterQuery (before values cells marks) (headOf head) (quantityOf asked i)) ⌝ }
+        ≡ answered (afterQuery (before values cells marks) (headOf head) (quantityAsked asked i)) ⌝ }
 {
-    let reply = query(values, cells, marks, head_of(head), quantity_of(asked, i));
+    let reply = query(
+        values,
+        cells,
+        marks,
+        head_of(head),
+        quantity_asked(asked, i),
+    );
     let answer = reply.answer;
     answer_of(answer)
 }
@@ -141,7 +147,7 @@ pub extern "C" fn kiltgrit_plain(
 ) -> CValue
     ensures { λ r. ⌜ r ≡ valueOr (plainCall
         (loadOf model form n ng (now (lens .entry)) (now (groups .entry)) (now (values .entry)))
-        t (now (x .entry)) (quantityOf asked i)) ⌝ }
+        t (now (x .entry)) (quantityAsked asked i)) ⌝ }
 {
     value_or(plain(
         model_numbered(model as usize),
@@ -152,6 +158,6 @@ pub extern "C" fn kiltgrit_plain(
         values,
         t,
         x,
-        quantity_of(asked, i),
+        quantity_asked(asked, i),
     ))
 }

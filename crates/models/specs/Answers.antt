@@ -11,6 +11,10 @@ use Rattle.models.specs.declared.answers.Quantity.the-variants.{LnGamma,
 use Rattle.models.specs.declared.answers.Answer.{Answer}
 use Rattle.models.specs.declared.answers.Answer.the-variants.{Value, Refused}
 
+-- what is asked, by a number: 0 ln γ of i, 1 γ of i, else the excess energy
+unfoldable pub quantityOf : ℕ → ℕ → Quantity
+quantityOf k i = cond (eqb k 0) (LnGamma i) (cond (eqb k 1) (Gamma i) ExcessGibbs)
+
 -- document 01's number for an answer, 0 for none
 unfoldable pub numberOf : Answer → ℕ
 numberOf (Value v) = 0

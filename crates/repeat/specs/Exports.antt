@@ -14,7 +14,7 @@ use Rattle.arithmetic.specs.declared.parameters.TdParam.{TdParam}
 use Rattle.arithmetic.specs.Bytes.{floats, floatAt}
 use Rattle.arithmetic.specs.Floats.{+0}
 use Rattle.models.specs.declared.answers.Quantity.{Quantity}
-use Rattle.models.specs.declared.answers.Quantity.the-variants.{LnGamma, Gamma, ExcessGibbs}
+use Rattle.models.specs.Answers.{quantityOf}
 use Rattle.models.specs.declared.answers.Answer as Plain
 use Rattle.models.specs.declared.answers.Answer.the-variants as PlainAnswer
 use Rattle.mixture.specs.declared.head.Head.{Head}
@@ -28,10 +28,6 @@ use Rattle.models.specs.Model.{ModelData, byModel, modelOf}
 use Rattle.mixture.specs.Memory.{Memory, memory, leastValues, leastCells, leastMarks, After}
 use Rattle.mixture.specs.Calls.{noHead, afterOpen, afterLoad, afterSetting, afterFractions, afterQuery}
 use Rattle.models.specs.Plain.{plainCall}
-
--- what is asked, by the strip's numbers: 0 ln γ, 1 γ, else the excess energy
-unfoldable pub quantityOf : ℕ → ℕ → Quantity
-quantityOf asked i = cond (eqb asked 0) (LnGamma i) (cond (eqb asked 1) (Gamma i) ExcessGibbs)
 
 -- the value of an answered query, +0 for any other answer
 unfoldable pub valueOf : Answer → Float

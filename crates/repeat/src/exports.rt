@@ -7,7 +7,7 @@ ghost use Rattle.mixture.specs.Memory.{before, later, left};
 ghost use Rattle.mixture.specs.Calls.{noHead};
 ghost use Rattle.models.specs.Model.{given as dataGiven};
 ghost use Rattle.models.specs.Plain.{plainCall};
-ghost use Rattle.repeat.specs.Exports.{quantityOf, valueOf, plainValue, settingOf, askedTimes};
+ghost use Rattle.repeat.specs.Exports.{valueOf, plainValue, settingOf, askedTimes};
 ghost use Rattle.repeat.specs.Exports.{setTimes, turns, begun};
 ghost use Rattle.repeat.specs.Exports.{zeros, plainTurns, repeated, repeatedBytes, each, howMany};
 use arithmetic::TdParam;
@@ -27,22 +27,10 @@ use mixture::open::open;
 use mixture::query::query;
 use mixture::set::set;
 use models::Quantity;
+use models::answers::quantity_of;
 use models::limits::COMPONENTS;
 use models::model::model_of;
 use models::model::plain;
-
-// What is asked, by the strip's numbers.
-fn quantity_of(asked: u32, i: usize) -> Quantity
-    ensures { λ r. ⌜ r ≡ quantityOf asked i ⌝ }
-{
-    if asked == 0 {
-        return Quantity::LnGamma(i);
-    }
-    if asked == 1 {
-        return Quantity::Gamma(i);
-    }
-    Quantity::ExcessGibbs
-}
 
 // The value of an answered query, 0 for any other answer.
 fn value_of(a: Answer) -> f64
@@ -364,7 +352,7 @@ pub extern "C" fn kiltgrit_repeat(
         groups,
         &given[..count],
         &fractions[..parts],
-        quantity_of(asked, i),
+        quantity_of(asked as usize, i),
         change,
         v,
         temperatures,

@@ -9,6 +9,7 @@ use arithmetic::bytes::float_of;
 use models::Answer;
 use models::Model;
 use models::Quantity;
+use models::answers::quantity_of;
 use models::limits::VALUES;
 use models::model::plain;
 
@@ -123,10 +124,8 @@ pub fn line(fd: i32, model: Model, asked: u64) -> Line {
     };
     let n = n as usize;
     let ng = ng as usize;
-    match asked {
-        0 => with_quantity(fd, model, n, ng, Quantity::LnGamma(i as usize)),
-        1 => with_quantity(fd, model, n, ng, Quantity::Gamma(i as usize)),
-        2 => with_quantity(fd, model, n, ng, Quantity::ExcessGibbs),
-        _ => Line::Broken,
+    if 2 < asked {
+        return Line::Broken;
     }
+    with_quantity(fd, model, n, ng, quantity_of(asked as usize, i as usize))
 }

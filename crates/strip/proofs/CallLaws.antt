@@ -12,6 +12,7 @@ use borrow.Author.Tests.{lt-ltb, le-ltb, eq-eqb, ne-eqb, eqb-true}
 use Rattle.arithmetic.specs.declared.parameters.TdParam.{TdParam}
 use Rattle.models.specs.Values.{fiveAt}
 use Rattle.models.specs.declared.answers.Quantity.{Quantity}
+use Rattle.models.specs.Answers.{quantityOf}
 use Rattle.mixture.specs.declared.head.Head.{Head}
 use Rattle.models.specs.declared.model.Model.{Model}
 use Rattle.mixture.specs.declared.setting.Setting.{Setting}
@@ -27,7 +28,7 @@ use Rattle.strip.specs.declared.records.Rec.{Rec}
 use Rattle.strip.specs.declared.records.Read.the-variants.{Record}
 use Rattle.strip.specs.Words.{mostBytes}
 use Rattle.strip.specs.Records.{readAt}
-use Rattle.strip.specs.Calls.{floatsOf, listsOf, dataOf, settingOf, quantityOf, callOf}
+use Rattle.strip.specs.Calls.{floatsOf, listsOf, dataOf, settingOf, callOf}
 use Rattle.strip.specs.steps.Run.{Stored, fits, made}
 use Rattle.strip.proofs.TextLaws.{sets-whole, put-whole}
 use Rattle.strip.proofs.GroupListLaws.{lists-few}
@@ -124,7 +125,7 @@ module _ {s : List ℕ} {r : Rec} (w : Fitting s r) (m : Memory) (h : Head) {x :
   unfolding callOf afterCall
   by-fractions a e f = made-call w m h (callOf s r) (rw (le-ltb (r .kind) 5 l, eq-eqb (r .kind) 6 a, ← f) e)
 
-  pub by-query : {q : Quantity} → (r .kind ≡ 6 → ⊥) → r .kind ≡ 11 → x ≡ afterQuery m h q → q ≡ quantityOf (r .i) (r .j) → x ≡ made s r m h (callOf s r)
+  pub by-query : {q : Quantity} → (r .kind ≡ 6 → ⊥) → r .kind ≡ 11 → x ≡ afterQuery m h q → q ≡ quantityOf (r .j) (r .i) → x ≡ made s r m h (callOf s r)
   unfolding callOf afterCall
   by-query a b e f = made-call w m h (callOf s r) (rw (le-ltb (r .kind) 5 l, ne-eqb (r .kind) 6 a, eq-eqb (r .kind) 11 b, ← f) e)
 

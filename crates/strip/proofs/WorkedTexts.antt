@@ -8,7 +8,8 @@ use Rattle.mixture.specs.Book.{empty, having, settingAnswer, queryAnswer, bookA
 use Rattle.strip.specs.GroupLists.{isWord, pairsAt, listsAt}
 use Rattle.strip.specs.Records.{shapeOf, recordBy, readAt}
 use Rattle.models.specs.Model.{modelOf}
-use Rattle.strip.specs.Calls.{quantityOf, callOf}
+use Rattle.models.specs.Answers.{quantityOf}
+use Rattle.strip.specs.Calls.{callOf}
 use Rattle.strip.specs.Text.{placesTo, decimal, line}
 use Rattle.strip.specs.WorkedTexts.{WorkedTexts}
 use Rattle.strip.specs.Run.{scriptFrom, scriptOf, lines, transcript}

@@ -7,8 +7,7 @@ use lib.Ieee.{Float}
 use Rattle.arithmetic.specs.Bytes.{floatsAt}
 use Rattle.arithmetic.specs.declared.parameters.TdParam.{TdParam}
 use Rattle.models.specs.Values.{fiveAt}
-use Rattle.models.specs.declared.answers.Quantity.{Quantity}
-use Rattle.models.specs.declared.answers.Quantity.the-variants.{LnGamma, Gamma, ExcessGibbs}
+use Rattle.models.specs.Answers.{quantityOf}
 use Rattle.mixture.specs.declared.setting.Setting.{Setting}
 use Rattle.mixture.specs.declared.setting.Setting.the-variants.{Temperature, Entry, TdEntry, Size, Count}
 use Rattle.models.specs.Model.{ModelData, modelOf}
@@ -43,13 +42,9 @@ settingOf kind i j five =
     (cond (eqb kind 9) (Size i j (five .a))
     (Count i j (five .a)))))
 
--- j = 0 ln γ of i, 1 γ of i, 2 the excess energy
-unfoldable pub quantityOf : ℕ → ℕ → Quantity
-quantityOf i j = cond (eqb j 0) (LnGamma i) (cond (eqb j 1) (Gamma i) ExcessGibbs)
-
 unfoldable pub callOf : List ℕ → Rec → Call
 callOf s r =
     cond (ltb (r .kind) 5) (Load (dataOf s r))
     (cond (eqb (r .kind) 6) (Fractions (floatsOf s r))
-    (cond (eqb (r .kind) 11) (Query (quantityOf (r .i) (r .j)))
+    (cond (eqb (r .kind) 11) (Query (quantityOf (r .j) (r .i)))
     (Set (settingOf (r .kind) (r .i) (r .j) (fiveAt (floatsOf s r) 0)))))

@@ -2,7 +2,7 @@
 ghost use mathlib.Core.Path.{_≡_};
 ghost use Rattle.mixture.specs.Memory.{before, later, left};
 ghost use Rattle.mixture.specs.Book.{Load};
-ghost use Rattle.strip.specs.Calls.{dataOf, settingOf, quantityOf, callOf};
+ghost use Rattle.strip.specs.Calls.{dataOf, settingOf, callOf};
 ghost use Rattle.strip.specs.steps.Run.{made};
 use crate::lists::fill_lists;
 use crate::records::Rec;
@@ -13,7 +13,7 @@ use mixture::Answer;
 use mixture::Head;
 use mixture::Reply;
 use mixture::Setting;
-use models::Quantity;
+use models::answers::quantity_of;
 use models::model::model_numbered;
 use models::parameters::five_at;
 
@@ -27,17 +27,6 @@ fn setting_of(kind: usize, i: usize, j: usize, five: TdParam) -> Setting
         8 => Setting::TdEntry(i, j, five),
         9 => Setting::Size(i, j, five.a),
         _ => Setting::Count(i, j, five.a),
-    }
-}
-
-// What a query asks for, by its j.
-fn quantity_of(i: usize, j: usize) -> Quantity
-    ensures { λ q. ⌜ q ≡ quantityOf i j ⌝ }
-{
-    match j {
-        0 => Quantity::LnGamma(i),
-        1 => Quantity::Gamma(i),
-        _ => Quantity::ExcessGibbs,
     }
 }
 
@@ -116,7 +105,7 @@ pub fn make(
     let i = r.i as usize;
     let j = r.j as usize;
     if kind == 11 {
-        return mixture::query::query(&values[..], cells, marks, head, quantity_of(i, j));
+        return mixture::query::query(&values[..], cells, marks, head, quantity_of(j, i));
     }
     let q = setting_of(kind, i, j, five_at(&given, 0));
     mixture::set::set(values, &cells[..], marks, head, q)

@@ -8,7 +8,7 @@ returns : tie.Need-returns
 returns c =
     let asked = c .before .before in
     c .value-or .ensures
-    ∙ ap valueOr (c .before .plain .ensures ∙ rw (asked .before .before .model-numbered .ensures, asked .before .known-n .ensures, asked .quantity-of .ensures))
+    ∙ ap valueOr (c .before .plain .ensures ∙ rw (asked .before .before .model-numbered .ensures, asked .before .known-n .ensures, asked .quantity-asked .ensures))
 
 pub kiltgrit-plain-spec : {M : Type 1} → statement M
 kiltgrit-plain-spec =

@@ -1,8 +1,8 @@
--- What a query asks for, by its fields: each j in turn is the definition's.
+-- What is asked, by its number: each in turn is the definition's.
 use borrow.Author.Tests.{ne-eqb}
-use Rattle.strip.specs.Calls.{quantityOf}
-use Rattle.strip.proofs.calls.quantity_of.Statement.{statement}
-use Rattle.strip.proofs.calls.quantity_of.Tie as tie
+use Rattle.models.specs.Answers.{quantityOf}
+use Rattle.models.proofs.answers.quantity_of.Statement.{statement}
+use Rattle.models.proofs.answers.quantity_of.Tie as tie
 
 pub quantity-of-spec : {M : Type 1} → statement M
 unfolding quantityOf
