@@ -39,13 +39,8 @@ pub extern "C" fn kiltgrit_mixture_query(
     ensures { λ r. ⌜ left (later values cells marks) r
         ≡ answered (afterQuery (before values cells marks) (headOf head) (quantityAsked asked i)) ⌝ }
 {
-    let reply = query(
-        values,
-        cells,
-        marks,
-        head_of(head),
-        quantity_asked(asked, i),
-    );
+    let q = quantity_asked(asked, i);
+    let reply = query(values, cells, marks, head_of(head), q);
     let answer = reply.answer;
     answer_of(answer)
 }
