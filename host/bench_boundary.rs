@@ -44,27 +44,44 @@ fn entry(case: &Case) -> Setting {
     }
 }
 
-/// The turns of `kiltgrit_repeat`, each call through C: the first sets T and asks, the others ask after the change. The
-/// last value.
-pub fn repeat(case: &Case, change: Change, temperatures: &[f64]) -> Result<f64, Refused> {
-    let (data, what, again) = (data(case), asked(case), entry(case));
-    if let Change::Plain = change {
-        return temperatures
-            .iter()
-            .try_fold(0.0, |_, &t| plain(&data, t, &case.x, what));
+/// The value that all turns gave; a NaN where two differ.
+fn value(first: f64, same: bool) -> f64 {
+    if same {
+        first
+    } else {
+        f64::NAN
     }
+}
+
+fn plain_each(case: &Case, temperatures: &[f64]) -> Result<f64, Refused> {
+    let (data, what) = (data(case), asked(case));
+    let first = plain(&data, temperatures[0], &case.x, what)?;
+    let mut same = true;
+    for &t in &temperatures[1..] {
+        same &= plain(&data, t, &case.x, what)?.to_bits() == first.to_bits();
+    }
+    Ok(value(first, same))
+}
+
+/// The turns of `kiltgrit_repeat`, each call through C: the first sets T and asks, the others ask after the change.
+pub fn repeat(case: &Case, change: Change, temperatures: &[f64]) -> Result<f64, Refused> {
+    if let Change::Plain = change {
+        return plain_each(case, temperatures);
+    }
+    let (what, again) = (asked(case), entry(case));
     let mut mixture = Mixture::open();
-    mixture.load(&data)?;
+    mixture.load(&data(case))?;
     mixture.fractions(&case.x)?;
     mixture.set(Setting::Temperature(temperatures[0]))?;
-    let mut last = mixture.query(what)?.0;
+    let first = mixture.query(what)?.0;
+    let mut same = true;
     for &t in &temperatures[1..] {
         match change {
             Change::Entry => mixture.set(again)?,
             Change::Temperature => mixture.set(Setting::Temperature(t))?,
             _ => {}
         }
-        last = mixture.query(what)?.0;
+        same &= mixture.query(what)?.0.to_bits() == first.to_bits();
     }
-    Ok(last)
+    Ok(value(first, same))
 }
