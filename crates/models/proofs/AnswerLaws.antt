@@ -17,6 +17,7 @@ use Rattle.models.specs.declared.answers.Quantity.the-variants.{LnGamma,
 use Rattle.models.specs.declared.answers.Answer.the-variants.{Value, Refused}
 use Rattle.models.specs.Answers.{numberOf, valuesOf, answer, first, firstTo, quantity, reads}
 use Rattle.models.specs.Faults.{indexFault, shapeFault, fractionsFault}
+use Rattle.models.specs.steps.Model.{ValueFits}
 
 in-range : (n i : ℕ) → _≡_ {A = ℕ} (cond (ltb i n) 0 7) 0 → i < n
 in-range n i = by-test (ltb i n) refl
@@ -133,6 +134,10 @@ pub shaped : (n : ℕ) {s size : ℕ} (values : List Float) → (n ≤ 12 → s 
     (k ≡ shapeFault n s values) × (k ≡ 0 → (1 ≤ n) × (n ≤ 12) × (length values ≡ s)) →
     (k ≡ shapeFault n size values) × (k ≡ 0 → (n ≤ 12) × (size ≤ length values))
 shaped n {s} {size} values e p = (p .0 ∙ shape-size n s size values e, λ z. let q = p .1 z in (q .1, omega (arith, q .2, e (q .1))))
+
+-- the size that the code works out is the model's
+pub sized-fits : {n s size : ℕ} {values x : List Float} {q : Quantity} → (n ≤ 12 → s ≡ size) → ValueFits n s values x q → ValueFits n size values x q
+sized-fits e f = record { few = f .few; sized = omega (arith, e (f .few), f .sized); fractions = f .fractions; index = f .index }
 
 -- what a plain call of Wilson, UNIQUAC or NRTL answers, s being the size that its code works out
 module _ (n : ℕ) {s size : ℕ} (values : List Float) (e : n ≤ 12 → s ≡ size) (x : List Float) (q : Quantity) {k : ℕ}

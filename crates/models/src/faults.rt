@@ -13,7 +13,7 @@ ghost use Rattle.models.specs.Faults.{unifacFault};
 ghost use Rattle.models.specs.Faults.{dataFault};
 ghost use Rattle.models.specs.Model.{given};
 ghost use Rattle.models.specs.steps.GroupLists.{Sized, Loaded};
-ghost use Rattle.models.specs.steps.Model.{Ready};
+ghost use Rattle.models.specs.steps.Model.{Ready, ValueFits};
 use crate::answers::Quantity;
 use crate::groups::counts_at;
 use crate::groups::start_of;
@@ -117,8 +117,7 @@ pub fn shape_fault(n: usize, size: usize, values: &[f64]) -> u8
 pub fn plain_fault(n: usize, size: usize, values: &[f64], x: &[f64], q: Quantity) -> u8
     ensures { λ r. ⌜ (r
         ≡ first (shapeFault n size (now (values .entry))) (fractionsFault n (now (x .entry)) q))
-        × (r ≡ 0 → (1 ≤ n) × (n ≤ mostComponents) × (length (now (values .entry)) ≡ size)
-        × (length (now (x .entry)) ≡ n) × (indexFault n q ≡ 0)) ⌝ }
+        × (r ≡ 0 → ValueFits n size (now (values .entry)) (now (x .entry)) q) ⌝ }
 {
     let fault = shape_fault(n, size, values);
     if fault != 0 {

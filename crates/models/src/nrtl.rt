@@ -13,6 +13,7 @@ ghost use Rattle.models.specs.Columns.{unitAt, unitDiagonal, columnSum};
 ghost use Rattle.models.specs.Nrtl.{tauAt, numerator, nrtl, nrtlAt};
 ghost use Rattle.models.specs.Plain.{nrtlPlain};
 ghost use Rattle.models.specs.Values.{fiveAt, nrtlSize, taus, alphas};
+ghost use Rattle.models.specs.steps.Model.{ValueFits};
 ghost use Rattle.models.specs.steps.Columns.{Added};
 ghost use Rattle.models.specs.steps.Nrtl.{NrtlFits, NrtlSums};
 ghost use Rattle.models.specs.Nrtl.{tau as Nrtl·tau};
@@ -199,10 +200,7 @@ pub fn value_over(n: usize, tau: &[f64], g: &[f64], x: &[f64], q: Quantity) -> f
 
 // The quantity at T, from the values.
 pub fn value_at(n: usize, values: &[f64], t: f64, x: &[f64], q: Quantity) -> f64
-    requires { ⌜ (n ≤ mostComponents)
-        × (nrtlSize n ≤ length (now values))
-        × (n ≤ length (now x))
-        × (indexFault n q ≡ 0) ⌝ }
+    requires { ⌜ ValueFits n (nrtlSize n) (now values) (now x) q ⌝ }
     ensures { λ r.
         let v = now (values .entry) in
         ⌜ r ≡ nrtlAt n (taus n v) (alphas n v) t (at (now (x .entry))) q ⌝ }

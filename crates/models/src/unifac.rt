@@ -13,13 +13,13 @@ ghost use Rattle.models.specs.Faults.{indexFault};
 ghost use Rattle.models.specs.Columns.{columnSum};
 ghost use Rattle.models.specs.Exponentials.{groupEnergy};
 ghost use Rattle.models.specs.Answers.{reads};
-ghost use Rattle.models.specs.steps.GroupLists.{Listed, Loaded, Named, Paired, ListedRows};
+ghost use Rattle.models.specs.steps.GroupLists.{Listed, Named, Paired, ListedRows};
 ghost use Rattle.models.specs.steps.GroupLists.{ownList, listsOf, heldLists};
 ghost use Rattle.models.specs.Plain.{unifacPlain};
 ghost use Rattle.models.specs.Unifac.{theta as Unifac·theta, pure as Unifac·pure, fraction};
 ghost use Rattle.models.specs.Unifac.{lnGroup};
 ghost use Rattle.models.specs.Unifac.{combinatorialBy, residual, unifac, unifacBy, unifacAt};
-ghost use Rattle.models.specs.steps.Unifac.{Grouped, Mixed, Pure, Tables, Shares};
+ghost use Rattle.models.specs.steps.Unifac.{Grouped, Mixed, Pure, Tables, Shares, UnifacFits, ResidualFits};
 ghost use Rattle.models.specs.steps.Unifac.{psiBy, combinatorialFrom, lnFrom, vectorOf, tableOf};
 ghost use Rattle.models.specs.Values.{fiveAt, countsAt, groupRs, groupQs, groupAs};
 use crate::answers::Answer;
@@ -330,10 +330,8 @@ fn residual_of(
     pure: &[f64],
     i: usize,
 ) -> f64
-    requires { ⌜ Listed (i + 1) ng (now lens) (now groups) (now counts)
-        × (i < mostComponents)
-        × Grouped ng (now q) (now theta) (now psi)
-        × (i * ng + ng ≤ length (now pure)) ⌝ }
+    requires { ⌜ ResidualFits ng (now lens) (now groups) (now counts)
+        (now q) (now theta) (now psi) (now pure) i ⌝ }
     ensures { λ r. ⌜ r ≡ residual (listsOf lens groups counts)
         (lnGroup ng (vectorOf q) (tableOf ng psi) (vectorOf theta)) (tableOf ng pure) i ⌝ }
 {
@@ -437,11 +435,9 @@ pub fn value_over(
     x: &[f64],
     q: Quantity,
 ) -> f64
-    requires { ⌜ Loaded n ng (now lens) (now groups) (now values)
+    requires { ⌜ UnifacFits n ng (now lens) (now groups) (now values) (now x) q
         × (ng * ng ≤ length (now psi))
-        × (n * ng ≤ length (now pure))
-        × (n ≤ length (now x))
-        × (indexFault n q ≡ 0) ⌝ }
+        × (n * ng ≤ length (now pure)) ⌝ }
     ensures { λ r. ⌜ r ≡ unifacBy n ng (heldLists ng lens groups values)
         (groupRs ng (now (values .entry))) (groupQs ng (now (values .entry)))
         (tableOf ng psi) (tableOf ng pure) (vectorOf x) q ⌝ }
@@ -498,10 +494,8 @@ pub fn value_by(
     x: &[f64],
     q: Quantity,
 ) -> f64
-    requires { ⌜ Loaded n ng (now lens) (now groups) (now values)
-        × (ng * ng ≤ length (now psi))
-        × (n ≤ length (now x))
-        × (indexFault n q ≡ 0) ⌝ }
+    requires { ⌜ UnifacFits n ng (now lens) (now groups) (now values) (now x) q
+        × (ng * ng ≤ length (now psi)) ⌝ }
     ensures { λ r. ⌜ r ≡ unifac n ng (heldLists ng lens groups values)
         (groupRs ng (now (values .entry))) (groupQs ng (now (values .entry)))
         (tableOf ng psi) (vectorOf x) q ⌝ }
@@ -534,9 +528,7 @@ pub fn value_at(
     x: &[f64],
     q: Quantity,
 ) -> f64
-    requires { ⌜ Loaded n ng (now lens) (now groups) (now values)
-        × (n ≤ length (now x))
-        × (indexFault n q ≡ 0) ⌝ }
+    requires { ⌜ UnifacFits n ng (now lens) (now groups) (now values) (now x) q ⌝ }
     ensures { λ r. ⌜ r ≡ unifacAt n ng (heldLists ng lens groups values)
         (groupRs ng (now (values .entry))) (groupQs ng (now (values .entry)))
         (groupAs ng (now (values .entry))) t (vectorOf x) q ⌝ }

@@ -10,6 +10,7 @@ ghost use Rattle.models.specs.Limits.{mostComponents};
 ghost use Rattle.models.specs.Faults.{indexFault};
 ghost use Rattle.models.specs.Columns.{unitAt};
 ghost use Rattle.models.specs.Plain.{uniquacPlain};
+ghost use Rattle.models.specs.steps.Model.{ValueFits};
 ghost use Rattle.models.specs.steps.Uniquac.{UniquacFits, UniquacShared};
 ghost use Rattle.models.specs.Uniquac.{share, lnGamma, excess, uniquac, uniquacAt};
 ghost use Rattle.models.specs.Uniquac.{Z as U·Z, l as U·l};
@@ -237,10 +238,7 @@ pub fn value_over(n: usize, r: &[f64], q: &[f64], e: &[f64], x: &[f64], k: Quant
 
 // The quantity at T, from the values.
 pub fn value_at(n: usize, values: &[f64], t: f64, x: &[f64], k: Quantity) -> f64
-    requires { ⌜ (n ≤ mostComponents)
-        × (uniquacSize n ≤ length (now values))
-        × (n ≤ length (now x))
-        × (indexFault n k ≡ 0) ⌝ }
+    requires { ⌜ ValueFits n (uniquacSize n) (now values) (now x) k ⌝ }
     ensures { λ v.
         let vs = now (values .entry) in
         ⌜ v ≡ uniquacAt n (rs n vs) (qs n vs) (energies n vs) t (at (now (x .entry))) k ⌝ }

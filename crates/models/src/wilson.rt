@@ -13,6 +13,7 @@ ghost use Rattle.models.specs.Plain.{wilsonPlain};
 ghost use Rattle.models.specs.Values.{wilsonSize, energies, volumes};
 ghost use Rattle.models.specs.Wilson.{rowSum, lnGamma, wilsonAt};
 ghost use Rattle.models.specs.Wilson.{wilson as W·wilson};
+ghost use Rattle.models.specs.steps.Model.{ValueFits};
 ghost use Rattle.models.specs.steps.Wilson.{WilsonFits};
 use crate::answers::Answer;
 use crate::answers::Quantity;
@@ -115,10 +116,7 @@ pub fn value_over(n: usize, v: &[f64], e: &[f64], x: &[f64], q: Quantity) -> f64
 
 // The quantity at T, from the values.
 pub fn value_at(n: usize, values: &[f64], t: f64, x: &[f64], q: Quantity) -> f64
-    requires { ⌜ (n ≤ mostComponents)
-        × (wilsonSize n ≤ length (now values))
-        × (n ≤ length (now x))
-        × (indexFault n q ≡ 0) ⌝ }
+    requires { ⌜ ValueFits n (wilsonSize n) (now values) (now x) q ⌝ }
     ensures { λ r.
         let v = now (values .entry) in
         ⌜ r ≡ wilsonAt n (volumes n v) (energies n v) t (at (now (x .entry))) q ⌝ }

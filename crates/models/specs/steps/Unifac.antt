@@ -1,7 +1,7 @@
 -- Inner steps of UNIFAC's code: a row of exponentials, and ln γ from what all components share.
 use mathlib.Core.Path.{_≡_}
 use mathlib.Core.List.{List}
-use Prim.Native.Nat.{ℕ, _*_, _≤_}
+use Prim.Native.Nat.{ℕ, _+_, _*_, _≤_, _<_}
 use denote.Ref.{RefT, now}
 use denote.Triple.Both.{Both}
 use lib.ListN.{length}
@@ -11,10 +11,12 @@ use Rattle.arithmetic.specs.Exponential.{expOf}
 use Rattle.arithmetic.specs.Parameters.{tdBy}
 use Rattle.arithmetic.specs.Tables.{Table, Vector, at, grid, Filled}
 use Rattle.models.specs.Limits.{mostComponents, mostGroups}
+use Rattle.models.specs.declared.answers.Quantity.{Quantity}
 use Rattle.models.specs.declared.unifac.Shared.{Shared}
+use Rattle.models.specs.Faults.{indexFault}
 use Rattle.models.specs.Unifac.{Groups, size, sizeSum, combinatorialBy, lnGroup, residual}
 use Rattle.models.specs.Values.{fiveAt}
-use Rattle.models.specs.steps.GroupLists.{Listed}
+use Rattle.models.specs.steps.GroupLists.{Listed, Loaded}
 
 -- what a call's slice holds: numbers by one index, and a table by full rows of n
 abbrev pub vectorOf : {A : Type 0} → Both (RefT (List Float)) A → Vector
@@ -40,6 +42,19 @@ pub record Mixed (n ng : ℕ) (lens groups : List ℕ) (counts x : List Float) :
   pub few : n ≤ mostComponents
   pub fewGroups : ng ≤ mostGroups
   pub fractions : n ≤ length x
+
+-- the data, the fractions and the component that a value reads are there
+pub record UnifacFits (n ng : ℕ) (lens groups : List ℕ) (values x : List Float) (q : Quantity) : Type 0 where
+  pub loaded : Loaded n ng lens groups values
+  pub fractions : n ≤ length x
+  pub index : indexFault n q ≡ 0
+
+-- what the residual part of ln γ_i reads lies within its slices: the lists up to i's, and row i of the pure ln Γ
+pub record ResidualFits (ng : ℕ) (lens groups : List ℕ) (counts q theta psi pure : List Float) (i : ℕ) : Type 0 where
+  pub listed : Listed (i + 1) ng lens groups counts
+  pub few : i < mostComponents
+  pub grouped : Grouped ng q theta psi
+  pub row : i * ng + ng ≤ length pure
 
 -- so do the lists of n components, Q and Ψ, which the pure ln Γ read
 pub record Pure (n ng : ℕ) (lens groups : List ℕ) (counts q psi : List Float) : Type 0 where

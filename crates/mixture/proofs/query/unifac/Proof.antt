@@ -40,16 +40,19 @@ value-by-requires c κs =
     let r = room s in
     let p = s .pre .0 in (
       record {
-        some = p .some;
-        few = p .few;
-        someGroups = p .someGroups;
-        fewGroups = p .fewGroups;
-        tables = omega (arith, r);
-        listed = record { many = omega (arith, p .few); within = omega (arith, p .places); counted = omega (arith, r, from-length (countsAt (s .args .ng)) (now (s .args .values)), p .places); below = p .below };
+        loaded =
+            record {
+              some = p .some;
+              few = p .few;
+              someGroups = p .someGroups;
+              fewGroups = p .fewGroups;
+              tables = omega (arith, r);
+              listed = record { many = omega (arith, p .few); within = omega (arith, p .places); counted = omega (arith, r, from-length (countsAt (s .args .ng)) (now (s .args .values)), p .places); below = p .below };
+            };
+        fractions = omega (arith, p .few);
+        index = s .pre .1 .index;
       },
       omega (arith, worked .refill .kept, r),
-      omega (arith, p .few),
-      s .pre .1 .index,
     )
 
 returns : tie.Need-returns

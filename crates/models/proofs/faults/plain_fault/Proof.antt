@@ -1,4 +1,5 @@
 -- The first of the shape's fault and the fractions'; a 0 has passed both.
+use native.Mathlib.Omega.{arith}
 use Rattle.models.proofs.AnswerLaws.{first-left, first-right}
 use Rattle.models.proofs.faults.plain_fault.Statement.{statement}
 use Rattle.models.proofs.faults.plain_fault.Tie as tie
@@ -10,7 +11,7 @@ returns-2 : tie.Need-returns-2
 returns-2 c =
     let shape = c .before .before .shape-fault .ensures in
     let passed = shape .1 (c .before .if1 .left) in
-    (first-right (shape .0) (c .before .if1 .left) (c .fractions-fault .ensures .0), λ e. (passed .0, passed .1, passed .2, c .fractions-fault .ensures .1 e .0, c .fractions-fault .ensures .1 e .1))
+    (first-right (shape .0) (c .before .if1 .left) (c .fractions-fault .ensures .0), λ e. let mix = c .fractions-fault .ensures .1 e in record { few = passed .1; sized = omega (arith, passed .2); fractions = omega (arith, mix .0); index = mix .1 })
 
 pub plain-fault-spec : {M : Type 1} → statement M
 plain-fault-spec =

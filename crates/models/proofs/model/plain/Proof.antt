@@ -3,7 +3,7 @@ use native.Mathlib.Omega.{arith}
 use borrow.Author.Needs.{needs}
 use Rattle.models.specs.Faults.{dataFault}
 use Rattle.models.specs.Plain.{valueAt, plainCall}
-use Rattle.models.proofs.AnswerLaws.{plain-refused, plain-value, answer-refused, answer-value, first-left, first-right}
+use Rattle.models.proofs.AnswerLaws.{sized-fits, plain-refused, plain-value, answer-refused, answer-value, first-left, first-right}
 use Rattle.models.proofs.model.plain.Statement.{statement}
 use Rattle.models.proofs.model.plain.Tie as tie
 
@@ -14,10 +14,7 @@ returns c =
     (plain-refused _ _ (c .before .before .size-of .ensures) _ _ (c .before .plain-fault .ensures .0) _ (c .if1 .taken))
 
 value-at-requires : tie.Need-value-at-requires
-value-at-requires c κs =
-    let passed = c .before .plain-fault .ensures .1 (c .if1 .left) in
-    let size = c .before .before .size-of .ensures (passed .1) in
-    search needs
+value-at-requires c κs = sized-fits (c .before .before .size-of .ensures) (c .before .plain-fault .ensures .1 (c .if1 .left))
 
 returns-2 : tie.Need-returns-2
 unfolding plainCall dataFault valueAt
@@ -26,10 +23,7 @@ returns-2 c =
     (plain-refused _ _ (c .before .before .size-of2 .ensures) _ _ (c .before .plain-fault2 .ensures .0) _ (c .if2 .taken))
 
 value-at-requires-2 : tie.Need-value-at-requires-2
-value-at-requires-2 c κs =
-    let passed = c .before .plain-fault2 .ensures .1 (c .if2 .left) in
-    let size = c .before .before .size-of2 .ensures (passed .1) in
-    search needs
+value-at-requires-2 c κs = sized-fits (c .before .before .size-of2 .ensures) (c .before .plain-fault2 .ensures .1 (c .if2 .left))
 
 returns-3 : tie.Need-returns-3
 unfolding plainCall dataFault valueAt
@@ -38,10 +32,7 @@ returns-3 c =
     (plain-refused _ _ (c .before .before .size-of3 .ensures) _ _ (c .before .plain-fault3 .ensures .0) _ (c .if3 .taken))
 
 value-at-requires-3 : tie.Need-value-at-requires-3
-value-at-requires-3 c κs =
-    let passed = c .before .plain-fault3 .ensures .1 (c .if3 .left) in
-    let size = c .before .before .size-of3 .ensures (passed .1) in
-    search needs
+value-at-requires-3 c κs = sized-fits (c .before .before .size-of3 .ensures) (c .before .plain-fault3 .ensures .1 (c .if3 .left))
 
 returns-4 : tie.Need-returns-4
 unfolding plainCall dataFault valueAt
@@ -60,7 +51,7 @@ value-at-requires-4 : tie.Need-value-at-requires-4
 value-at-requires-4 c κs =
     let shape = c .before .before .before .unifac-fault .ensures .1 (c .before .before .if4 .left) in
     let given = c .before .fractions-fault .ensures .1 (c .if5 .left) in
-    (shape, omega (arith, given .0), given .1)
+    record { loaded = shape; fractions = omega (arith, given .0); index = given .1 }
 
 returns-6 : tie.Need-returns-6
 unfolding plainCall dataFault valueAt

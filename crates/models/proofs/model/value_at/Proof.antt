@@ -12,16 +12,16 @@ fits : (d : ModelData) (m : Model) → d .model ≡ m → Ready d → Fits m d
 fits d m e ready = rw (← e) (ready .fits)
 
 value-at-requires : tie.Need-value-at-requires
-value-at-requires c κs = let start = c .before .before .before .before .before .before in let has = fits _ _ (c .enum-told .given .1) (start .pre .0) in search needs
+value-at-requires c κs = let start = c .before .before .before .before .before .before in record { few = start .pre .0 .few; sized = fits _ _ (c .enum-told .given .1) (start .pre .0); fractions = start .pre .1; index = start .pre .2 }
 
 value-at-requires-2 : tie.Need-value-at-requires-2
-value-at-requires-2 c κs = let start = c .before .before .before .before .before .before in let has = fits _ _ (c .enum-told2 .given .1) (start .pre .0) in search needs
+value-at-requires-2 c κs = let start = c .before .before .before .before .before .before in record { few = start .pre .0 .few; sized = fits _ _ (c .enum-told2 .given .1) (start .pre .0); fractions = start .pre .1; index = start .pre .2 }
 
 value-at-requires-3 : tie.Need-value-at-requires-3
-value-at-requires-3 c κs = let start = c .before .before .before .before .before .before in let has = fits _ _ (c .enum-told3 .given .1) (start .pre .0) in search needs
+value-at-requires-3 c κs = let start = c .before .before .before .before .before .before in record { few = start .pre .0 .few; sized = fits _ _ (c .enum-told3 .given .1) (start .pre .0); fractions = start .pre .1; index = start .pre .2 }
 
 value-at-requires-4 : tie.Need-value-at-requires-4
-value-at-requires-4 c κs = let start = c .before .before .before .before .before .before in let has = fits _ _ (c .enum-told4 .given .1) (start .pre .0) in search needs
+value-at-requires-4 c κs = let start = c .before .before .before .before .before .before in record { loaded = fits _ _ (c .enum-told4 .given .1) (start .pre .0); fractions = start .pre .1; index = start .pre .2 }
 
 returns : tie.Need-returns
 unfolding valueAt

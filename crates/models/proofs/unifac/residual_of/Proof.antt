@@ -21,31 +21,31 @@ ends : (c : tie.After-shared-slice-known8) → let a = entry c .args in let end 
 ends c =
     let start = entry c in
     let a = start .args in
-    let list = list-ends (a .i) (start .pre .0) (c .before .start-of .ensures) in
-    (list .0, list .1, start .pre .3, omega (arith, row-end 12 (a .ng) (a .i) (start .pre .1), start .pre .2 .few))
+    let list = list-ends (a .i) (start .pre .listed) (c .before .start-of .ensures) in
+    (list .0, list .1, start .pre .row, omega (arith, row-end 12 (a .ng) (a .i) (start .pre .few), start .pre .grouped .few))
 
 gammas-of-requires : tie.Need-gammas-of-requires
-gammas-of-requires c κs = let start = c .before .before .before .before .before .before .before .before .before .before .before in (start .pre .2, start .pre .2 .few, list-paired (start .args .i) (start .pre .0) (c .before .before .before .start-of .ensures) .below)
+gammas-of-requires c κs = let start = c .before .before .before .before .before .before .before .before .before .before .before in (start .pre .grouped, start .pre .grouped .few, list-paired (start .args .i) (start .pre .listed) (c .before .before .before .start-of .ensures) .below)
 
 residual-requires : tie.Need-residual-requires
 residual-requires c κs =
     let start = c .before .before .before .before .before .before .before .before .before .before .before .before .before .before .before .before in
     let a = start .args in
     let gamma = c .before .before .before .before .gammas-of in
-    let long = length-take-le (a .ng) (gamma .last .1 .1 .1 .1 .1 .0) (omega (arith, start .pre .2 .few, gamma .kept .1 .1 .1 .1 .1 .0)) in
-    (rw long (list-paired (a .i) (start .pre .0) (c .before .before .before .before .before .before .before .before .start-of .ensures)), omega (arith, long, start .pre .3, from-length (a .i * a .ng) (now (a .pure))))
+    let long = length-take-le (a .ng) (gamma .last .1 .1 .1 .1 .1 .0) (omega (arith, start .pre .grouped .few, gamma .kept .1 .1 .1 .1 .1 .0)) in
+    (rw long (list-paired (a .i) (start .pre .listed) (c .before .before .before .before .before .before .before .before .start-of .ensures)), omega (arith, long, start .pre .row, from-length (a .i * a .ng) (now (a .pure))))
 
 returns : tie.Need-returns
 returns c =
     let start = c .before .before .before .before .before .before .before .before .before .before .before .before .before .before .before .before .before in
-    residual-own (start .args .i) (start .pre .0) (c .before .before .before .before .before .before .before .before .before .start-of .ensures) _ _ (now (start .args .pure)) (c .before .before .before .before .before .gammas-of .ensures) (start .pre .3) (c .residual .ensures)
+    residual-own (start .args .i) (start .pre .listed) (c .before .before .before .before .before .before .before .before .before .start-of .ensures) _ _ (now (start .args .pure)) (c .before .before .before .before .before .gammas-of .ensures) (start .pre .row) (c .residual .ensures)
 
 pub residual-of-spec : {M : Type 1} → statement M
 residual-of-spec =
     tie.close
     (tie.spec
-    (λ c κs. (omega (arith, c .before .before .before .before .before .before .before .pre .0 .many), omega (arith, c .before .before .before .before .before .before .before .pre .1)))
-    (λ c. omega (arith, c .before .before .before .before .before .before .before .before .before .pre .0 .many))
+    (λ c κs. (omega (arith, c .before .before .before .before .before .before .before .pre .listed .many), omega (arith, c .before .before .before .before .before .before .before .pre .few)))
+    (λ c. omega (arith, c .before .before .before .before .before .before .before .before .before .pre .listed .many))
     (λ c. omega (arith, c .shared-slice-known8 .given (c .before .before .before .before .before .before .before .before .before .args .i)))
     (λ c. omega (arith, ends c, entry c .good))
     (λ c. omega (arith, ends c))
@@ -58,8 +58,8 @@ residual-of-spec =
     (λ c. omega (arith, ends (c .before .before .before .before)))
     (λ c. omega (arith, ends (c .before .before .before .before)))
     (λ c. omega (arith, ends (c .before .before .before .before)))
-    (λ c. omega (arith, c .before .before .before .before .before .before .before .before .before .before .before .before .before .before .pre .2 .few, c .before .before .gammas-of .kept .1 .1 .1 .1 .1 .0))
-    (λ c. sym (length-take-le _ _ (omega (arith, c .before .before .before .before .before .before .before .before .before .before .before .before .before .before .before .pre .2 .few, c .before .before .before .gammas-of .kept .1 .1 .1 .1 .1 .0))))
+    (λ c. omega (arith, c .before .before .before .before .before .before .before .before .before .before .before .before .before .before .pre .grouped .few, c .before .before .gammas-of .kept .1 .1 .1 .1 .1 .0))
+    (λ c. sym (length-take-le _ _ (omega (arith, c .before .before .before .before .before .before .before .before .before .before .before .before .before .before .before .pre .grouped .few, c .before .before .before .gammas-of .kept .1 .1 .1 .1 .1 .0))))
     (λ c. omega (arith, ends (c .before .before .before .before .before .before)))
     (λ c. omega (arith, ends (c .before .before .before .before .before .before)))
     (λ c. omega (arith, ends (c .before .before .before .before .before .before)))

@@ -15,12 +15,12 @@ use Rattle.models.proofs.unifac.value_by.Tie as tie
 -- Q ends before the counts, and these start within the values
 before-counts : (c : tie.Start) → let ng = c .args .ng in (ng + ng ≤ countsAt ng) × (countsAt ng ≤ length (now (c .args .values)))
 unfolding countsAt
-before-counts c = (omega arith, c .pre .0 .tables)
+before-counts c = (omega arith, c .pre .0 .loaded .tables)
 
 fill-pure-requires : tie.Need-fill-pure-requires
 fill-pure-requires c κs =
     let start = c .before .before .before .before .before .before .before .before .before .before in
-    let all = start .pre .0 in
+    let all = start .pre .0 .loaded in
     let span = c .before .before .before .span-of .ensures .0 in
     let few : c .before .before .before .span-of .result .last ≤ 12 = omega (arith, span, all .few) in (
       record {
@@ -36,18 +36,18 @@ fill-pure-requires c κs =
 value-over-requires : tie.Need-value-over-requires
 value-over-requires c κs =
     let pre = c .before .before .before .before .before .before .before .before .before .before .before .before .before .pre in
-    let all = pre .0 in
-    (all, pre .1, omega (arith, mul-le-mul (all .few) (all .fewGroups), c .before .before .fill-pure .kept .1 .1 .1 .1 .1 .1 .1 .1 .0), pre .2, pre .3)
+    let all = pre .0 .loaded in
+    (pre .0, pre .1, omega (arith, mul-le-mul (all .few) (all .fewGroups), c .before .before .fill-pure .kept .1 .1 .1 .1 .1 .1 .1 .1 .0))
 
 returns : tie.Need-returns
-returns c = let pre = c .before .before .before .before .before .before .before .before .before .before .before .before .before .before .pre in value-pure _ _ _ _ _ _ _ _ _ (pre .0) (pre .3) (c .before .before .before .before .before .before .before .before .counts-at .ensures .0) (c .before .before .before .before .before .before .before .span-of .ensures .1) (c .before .before .before .fill-pure .ensures) (c .value-over .ensures)
+returns c = let pre = c .before .before .before .before .before .before .before .before .before .before .before .before .before .before .pre in value-pure _ _ _ _ _ _ _ _ _ (pre .0 .loaded) (pre .0 .index) (c .before .before .before .before .before .before .before .before .counts-at .ensures .0) (c .before .before .before .before .before .before .before .span-of .ensures .1) (c .before .before .before .fill-pure .ensures) (c .value-over .ensures)
 
 pub value-by-spec : {M : Type 1} → statement M
 value-by-spec =
     tie.close
     (tie.spec
-    (λ c κs. c .before .before .before .before .before .pre .0 .fewGroups)
-    (λ c κs. (c .before .before .before .before .before .before .pre .0 .few, c .before .before .before .before .before .before .pre .3))
+    (λ c κs. c .before .before .before .before .before .pre .0 .loaded .fewGroups)
+    (λ c κs. (c .before .before .before .before .before .before .pre .0 .loaded .few, c .before .before .before .before .before .before .pre .0 .index))
     (λ c. omega (arith, before-counts (c .before .before .before .before .before .before .before), c .before .counts-at .ensures .0))
     (λ c. omega (arith, before-counts (c .before .before .before .before .before .before .before), c .before .counts-at .ensures .0))
     (λ c. omega (arith, before-counts (c .before .before .before .before .before .before .before), c .before .counts-at .ensures .0))

@@ -1,11 +1,12 @@
 -- The quantity from what the components share and Θ, which are worked out once.
 use mathlib.Core.Path.{_≡_}
+use Prim.Native.Nat.{ℕ, _<_}
 use native.Mathlib.Omega.{arith}
 use denote.Ref.{now}
 use borrow.Author.Needs.{needs}
 use lib.ListN.{length}
 use Rattle.arithmetic.proofs.TableLaws.{row-end}
-use Rattle.models.specs.steps.Unifac.{Grouped}
+use Rattle.models.specs.steps.Unifac.{Grouped, ResidualFits}
 use Rattle.models.proofs.AnswerLaws.{index-ln, index-gamma}
 use Rattle.models.proofs.GroupListLaws.{listed-less, listed-wider}
 use Rattle.models.proofs.UnifacLaws.{listed-same, ln-from, unifac-ln, unifac-gamma, unifac-excess}
@@ -16,6 +17,17 @@ use Rattle.models.proofs.unifac.value_from.Tie as tie
 
 grouped : (c : tie.Start) {theta : List Float} → length theta ≡ 32 → Grouped (c .args .ng) (now (c .args .q)) theta (now (c .args .psi))
 grouped c long = let pre = c .pre in record { few = pre .0 .fewGroups; sizes = pre .1 .qs; thetas = omega (arith, pre .0 .fewGroups, long); square = pre .1 .square }
+
+residual-fits : (c : tie.Start) {theta : List Float} {i : ℕ} → i < c .args .n → length theta ≡ 32
+    → ResidualFits (c .args .ng) (now (c .args .lens)) (now (c .args .groups)) (now (c .args .counts)) (now (c .args .q)) theta (now (c .args .psi)) (now (c .args .pure)) i
+residual-fits c here long =
+    let pre = c .pre in
+    record {
+      listed = listed-less (pre .0 .listed) _ (c .args .ng) here (omega arith);
+      few = omega (arith, here, pre .0 .few);
+      grouped = grouped c long;
+      row = omega (arith, row-end _ (c .args .ng) _ here, pre .1 .rows);
+    }
 
 share-requires : tie.Need-share-requires
 share-requires c κs = let pre = c .before .before .before .before .before .before .before .before .pre in (listed-wider (pre .0 .listed) _ (pre .1 .rs), listed-wider (pre .0 .listed) _ (pre .1 .qs), pre .0 .few, pre .0 .fractions)
@@ -28,14 +40,14 @@ residual-of-requires c κs =
     let start = c .before .before .before .before .before .before .before .before .before .before .before .before .before .before .before .before .before in
     let pre = start .pre in
     let here = index-ln (c .before .before .before .asked .given .1) (pre .2) in
-    (listed-less (pre .0 .listed) _ (start .args .ng) here (omega arith), omega (arith, here, pre .0 .few), grouped start (c .before .before .before .before .before .before .theta-mixed .kept .1 .1 .1 .1 .1 .1 .1 .0), omega (arith, row-end _ (start .args .ng) _ here, pre .1 .rows))
+    residual-fits start here (c .before .before .before .before .before .before .theta-mixed .kept .1 .1 .1 .1 .1 .1 .1 .0)
 
 residual-of-requires-2 : tie.Need-residual-of-requires-2
 residual-of-requires-2 c κs =
     let start = c .before .before .before .before .before .before .before .before .before .before .before .before .before .before .before .before .before in
     let pre = start .pre in
     let here = index-gamma (c .before .before .before .asked2 .given .1) (pre .2) in
-    (listed-less (pre .0 .listed) _ (start .args .ng) here (omega arith), omega (arith, here, pre .0 .few), grouped start (c .before .before .before .before .before .before .theta-mixed .kept .1 .1 .1 .1 .1 .1 .1 .0), omega (arith, row-end _ (start .args .ng) _ here, pre .1 .rows))
+    residual-fits start here (c .before .before .before .before .before .before .theta-mixed .kept .1 .1 .1 .1 .1 .1 .1 .0)
 
 excess-gibbs-requires : tie.Need-excess-gibbs-requires
 excess-gibbs-requires c κs = let pre = c .before .before .before .before .before .before .before .before .before .before .before .before .before .before .before .pre in (pre .0, grouped (c .before .before .before .before .before .before .before .before .before .before .before .before .before .before .before) (c .before .before .before .before .theta-mixed .kept .1 .1 .1 .1 .1 .1 .1 .0), pre .1 .rows)

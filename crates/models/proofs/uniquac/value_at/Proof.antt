@@ -15,7 +15,7 @@ use Rattle.models.proofs.uniquac.value_at.Tie as tie
 -- how long the values are, and n·n within 144 places
 fits : (c : tie.Start) → (c .args .n * c .args .n + c .args .n + c .args .n ≤ length (now (c .args .values))) × (c .args .n * c .args .n ≤ 144)
 unfolding uniquacSize
-fits c = (c .pre .1, mul-le-mul (c .pre .0) (c .pre .0))
+fits c = (c .pre .sized, mul-le-mul (c .pre .few) (c .pre .few))
 
 fill-energies-requires : tie.Need-fill-energies-requires
 fill-energies-requires c κs = let room = fits (c .before .before .before) in search needs
@@ -32,7 +32,7 @@ value-over-requires c κs =
 returns : tie.Need-returns
 returns c =
     let start = c .before .before .before .before .before .before .before .before .before in
-    uniquac-from _ _ _ _ _ _ (fits start .0) (start .pre .3) (c .before .before .before .before .before .fill-energies .ensures) (c .value-over .ensures)
+    uniquac-from _ _ _ _ _ _ (fits start .0) (start .pre .index) (c .before .before .before .before .before .fill-energies .ensures) (c .value-over .ensures)
 
 pub value-at-spec : {M : Type 1} → statement M
 value-at-spec =
