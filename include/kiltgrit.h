@@ -1,21 +1,32 @@
 /* kiltgrit.h: activity coefficients for solvent-recovery stills (Wilson, UNIQUAC, NRTL, UNIFAC), for C11 and C++11 on
- * x86-64 Linux. Link libkiltgrit.a; beside it the code needs memcpy and memset alone.
+ * x86-64 Linux. Link libkiltgrit.a; beside it the code needs memcpy and memset alone. examples/gamma.c is a program.
  *
  *     kiltgrit_mixture m;                                           any content before kiltgrit_open
  *     kiltgrit_open(&m);
  *     kiltgrit_load(&m, KILTGRIT_WILSON, 2, given, KILTGRIT_WILSON_VALUES(2));
  *     kiltgrit_set(&m, kiltgrit_temperature(328.7));
  *     kiltgrit_fractions(&m, x, 2);
- *     kiltgrit_query(&m, KILTGRIT_LN_GAMMA, 0, &value, NULL);       works out only what has changed since the last one
+ *     kiltgrit_query(&m, KILTGRIT_LN_GAMMA, 0, &value, NULL);       works out only what was set since the last one
  *
+ * Models     Components, groups and places of a list count from 0. T and the energies a are in kelvin (energy over R).
+ *              Wilson    Lambda_ij = V_j/V_i exp(-(a_ij - a_ii)/T)
+ *              UNIQUAC   tau_ij = exp(-(a_ij - a_ii)/T), z = 10; ln gamma_i has ln sum_k theta_k tau_ki
+ *              NRTL      G_ij = exp(-alpha_ij tau_ij); tau_ii and alpha_ii aren't read
+ *              UNIFAC    psi_mn = exp(-a_mn/T), with the combinatorial part of 1975
+ *            NRTL's tau_ij and UNIFAC's a_mn are a + b/T + c ln T + d T + e/T^2. Published energies of Wilson and
+ *            UNIQUAC are differences: give them as they are, and 0 on the diagonal.
+ * Answers    Every call returns for every argument. A refused call has changed nothing and says why. Numbers are
+ *            judged only where a refusal names them: T = 0, a NaN or negative fraction or a size of 0 are taken, and
+ *            the answer is a NaN or means nothing. UNIQUAC at x_i = 0 gives a NaN for component i and for the excess
+ *            energy, as its source does; 1e-300 in its place gives the limit.
  * Memory     No heap, no file, no global that is written, no callback. The mixture is the caller's: one
  *            kiltgrit_mixture, static or on a stack, with any content before kiltgrit_open.
  * Threads    Calls on different mixtures may run at once. Calls on one mixture must not overlap.
- * Answers    Every call returns for every argument. A refused call has changed nothing and says why.
  * Floats     IEEE 754, round to nearest even, subnormals kept: leave MXCSR as the system sets it (no -ffast-math at
  *            the link, no fesetround). kiltgrit_floats_ok says whether that is so; ask it at the start. A NaN's sign
  *            and payload are unspecified.
- * Stack      A query takes up to 8 KB, a plain call 16 KB, kiltgrit_run 134 KB, any other call 2 KB.
+ * Stack      A query takes up to 9 KB, a plain call 16 KB, kiltgrit_run 134 KB, any other call 3 KB, with the inline
+ *            functions below.
  * Pointers   None is NULL, but for a query's counts.
  * Trusted    The calls of the archive are proved, each by one equation. The inline functions below, which hand them the
  *            mixture's parts, are not: they are tested.
@@ -29,8 +40,10 @@
 #ifdef __cplusplus
 extern "C" {
 #define KILTGRIT_STATIC_ASSERT(c, why) static_assert(c, why)
+#define KILTGRIT_ZERO_ {}
 #else
 #define KILTGRIT_STATIC_ASSERT(c, why) _Static_assert(c, why)
+#define KILTGRIT_ZERO_ {0}
 #endif
 
 #define KILTGRIT_VERSION_MAJOR 1
@@ -40,16 +53,21 @@ extern "C" {
 /* ---- sizes; cells and marks have room for what later versions lend */
 #define KILTGRIT_MAX_COMPONENTS 12
 #define KILTGRIT_MAX_GROUPS 32
-#define KILTGRIT_MAX_LIST 12
+#define KILTGRIT_MAX_LIST 12 /* groups of one component */
 #define KILTGRIT_VALUES 5328
 #define KILTGRIT_CELLS 1408
 #define KILTGRIT_MARKS 1036
 
-/* How many values a load takes. */
-#define KILTGRIT_WILSON_VALUES(n) ((n) * (n) + (n))                                /* a by rows, V */
-#define KILTGRIT_UNIQUAC_VALUES(n) ((n) * (n) + 2 * (n))                           /* a by rows, r, q */
-#define KILTGRIT_NRTL_VALUES(n) (6 * (n) * (n))                                    /* tau by rows, five each; alpha */
-#define KILTGRIT_UNIFAC_VALUES(ng, listed) (2 * (ng) + 5 * (ng) * (ng) + (listed)) /* R, Q, a by rows, five; counts */
+/* How many values a load takes. Tables stand by rows: that of 1 with 1, with 2, .., then that of 2; a td entry is five
+ * numbers, a to e. */
+/* a; V in any one unit */
+#define KILTGRIT_WILSON_VALUES(n) ((n) * (n) + (n))
+/* a; r of each; q of each */
+#define KILTGRIT_UNIQUAC_VALUES(n) ((n) * (n) + 2 * (n))
+/* tau, td entries; alpha, both ways */
+#define KILTGRIT_NRTL_VALUES(n) (6 * (n) * (n))
+/* R of each group; Q of each; a, td entries; how often each listed group is in its component, list after list */
+#define KILTGRIT_UNIFAC_VALUES(ng, listed) (2 * (ng) + 5 * (ng) * (ng) + (listed))
 
 /* ---- what a call answers */
 typedef enum kiltgrit_refusal {
@@ -59,8 +77,8 @@ typedef enum kiltgrit_refusal {
     KILTGRIT_NO_GROUP = 3,       /* a list names a group that isn't there */
     KILTGRIT_NEGATIVE_COUNT = 4, /* a count of a group below 0 */
     KILTGRIT_NO_FRACTIONS = 5,   /* no fractions at all */
-    KILTGRIT_BAD_SUM = 6,        /* the fractions add up to something off 1 by more than 1e-6 */
-    KILTGRIT_NO_COMPONENT = 7,   /* not as many fractions as components, no such component, or no such quantity */
+    KILTGRIT_BAD_SUM = 6,        /* the fractions add up to something off 1 by more than 1e-6; a NaN passes */
+    KILTGRIT_NO_COMPONENT = 7,   /* no such component or quantity; not as many fractions (their sum comes first) */
     KILTGRIT_NO_MODEL = 8,       /* nothing is loaded */
     KILTGRIT_NOT_SET = 9,        /* temperature or fractions, since the load */
     KILTGRIT_NO_PARAMETER = 10   /* this model has no such parameter, or no such kind of setting */
@@ -76,7 +94,7 @@ static inline const char *kiltgrit_words(kiltgrit_refusal refusal) {
     case KILTGRIT_NEGATIVE_COUNT: return "negative count of a group";
     case KILTGRIT_NO_FRACTIONS: return "no fractions";
     case KILTGRIT_BAD_SUM: return "fractions do not add up to 1";
-    case KILTGRIT_NO_COMPONENT: return "no such component or quantity";
+    case KILTGRIT_NO_COMPONENT: return "no such component or quantity, or not as many fractions";
     case KILTGRIT_NO_MODEL: return "no model loaded";
     case KILTGRIT_NOT_SET: return "temperature or fractions not set";
     case KILTGRIT_NO_PARAMETER: return "no such parameter in this model";
@@ -91,7 +109,11 @@ typedef enum kiltgrit_model {
     KILTGRIT_UNIFAC = 4
 } kiltgrit_model;
 
-typedef enum kiltgrit_asked { KILTGRIT_LN_GAMMA = 0, KILTGRIT_GAMMA = 1, KILTGRIT_EXCESS_GIBBS = 2 } kiltgrit_asked;
+typedef enum kiltgrit_asked {
+    KILTGRIT_LN_GAMMA = 0,
+    KILTGRIT_GAMMA = 1,
+    KILTGRIT_EXCESS_GIBBS = 2 /* g^E/(RT) */
+} kiltgrit_asked;
 
 /* ---- what crosses by value. The fields are the library's: read none, write none.
  * The head has the order and the offsets of the library's own. Flags are bytes, set where they are 1. form, changes and
@@ -114,15 +136,16 @@ typedef struct kiltgrit_reply {
     uint32_t refused, unused;
 } kiltgrit_reply;
 
-/* Of a call that leaves the head: the value and the exponentials that were worked out. */
+/* Of a call that leaves the head. */
 typedef struct kiltgrit_answer {
     double value;
     size_t cells_worked, renewed;
     uint32_t refused, unused;
 } kiltgrit_answer;
 
+/* The exponentials of E, G or psi that a query worked out; gamma's own exp isn't counted. renewed is kept for later. */
 typedef struct kiltgrit_counts {
-    size_t cells_worked, renewed; /* renewed is kept for later: 0 */
+    size_t cells_worked, renewed;
 } kiltgrit_counts;
 
 /* A setting; kiltgrit_temperature, _entry, _td, _size and _count below make one. */
@@ -139,9 +162,17 @@ KILTGRIT_STATIC_ASSERT(sizeof(kiltgrit_reply) == 336, "the reply as the library 
 KILTGRIT_STATIC_ASSERT(sizeof(kiltgrit_answer) == 32, "the answer as the library has it");
 KILTGRIT_STATIC_ASSERT(sizeof(kiltgrit_setting) == 64, "the setting as the library has it");
 
+/* An opening looks at the lengths alone, so that memory of any content can be lent without a warning. */
+#if defined(__GNUC__) && !defined(__clang__) && __GNUC__ >= 11
+#define KILTGRIT_UNREAD_ __attribute__((access(none, 1), access(none, 3), access(none, 5)))
+#else
+#define KILTGRIT_UNREAD_
+#endif
+
 /* ---- the raw calls, for a host that lays out its own memory. A slice is a pointer and how many; one that is written
  * overlaps no other. Each call takes the head that the last one gave back; a query leaves it. A form is kept for later:
  * 0. */
+KILTGRIT_UNREAD_
 kiltgrit_reply kiltgrit_mixture_open(const double *values, size_t values_len, const double *cells, size_t cells_len,
                                      const uint8_t *marks, size_t marks_len, kiltgrit_head head);
 kiltgrit_reply kiltgrit_mixture_load(double *values, size_t values_len, const double *cells, size_t cells_len,
@@ -171,7 +202,8 @@ kiltgrit_value kiltgrit_plain(uint32_t model, uint32_t form, size_t n, size_t ng
 double kiltgrit_exp(double v);
 double kiltgrit_log(double v);
 
-/* ---- a strip of records run whole: its text goes to out as far as it fits, its length comes back */
+/* ---- a strip of records (examples/run --strip writes one) run whole: its text goes to out as far as it fits, and its
+ * length comes back */
 size_t kiltgrit_run(const uint8_t *strip, size_t strip_len, uint8_t *out, size_t out_len);
 
 /* ---- the mixture as one object */
@@ -188,9 +220,10 @@ static inline kiltgrit_refusal kiltgrit_took_(kiltgrit_mixture *m, const kiltgri
     return (kiltgrit_refusal)r->refused;
 }
 
-/* Whatever the memory holds, m is then a mixture with no model. */
+/* Whatever the memory holds, m is then a mixture with no model, and a load comes next. Never refused. */
 static inline kiltgrit_refusal kiltgrit_open(kiltgrit_mixture *m) {
-    const kiltgrit_reply r = kiltgrit_mixture_open(KILTGRIT_LENT_(m), m->head);
+    static const kiltgrit_head none = KILTGRIT_ZERO_;
+    const kiltgrit_reply r = kiltgrit_mixture_open(KILTGRIT_LENT_(m), none);
     return kiltgrit_took_(m, &r);
 }
 
@@ -198,8 +231,8 @@ static inline kiltgrit_refusal kiltgrit_open(kiltgrit_mixture *m) {
 static inline kiltgrit_refusal kiltgrit_load(kiltgrit_mixture *m, kiltgrit_model model, size_t n, const double *given,
                                              size_t given_len) {
     const uint8_t none = 0;
-    const kiltgrit_reply r = kiltgrit_mixture_load(KILTGRIT_LENT_(m), m->head, (uint32_t)model, 0, n, 0, &none, 0, &none,
-                                                   0, given, given_len);
+    const kiltgrit_reply r = kiltgrit_mixture_load(KILTGRIT_LENT_(m), m->head, (uint32_t)model, 0, n, 0, &none, 0,
+                                                   &none, 0, given, given_len);
     return kiltgrit_took_(m, &r);
 }
 
@@ -218,9 +251,9 @@ static inline kiltgrit_setting kiltgrit_setting_(uint32_t kind, size_t i, size_t
 }
 /* T in kelvin */
 static inline kiltgrit_setting kiltgrit_temperature(double kelvin) { return kiltgrit_setting_(5, 0, 0, kelvin); }
-/* a_ij in kelvin, or NRTL's alpha_ij (one way) */
+/* Wilson's or UNIQUAC's a_ij in kelvin, or NRTL's alpha_ij (alpha_ji stays) */
 static inline kiltgrit_setting kiltgrit_entry(size_t i, size_t j, double v) { return kiltgrit_setting_(7, i, j, v); }
-/* NRTL's tau_ij or UNIFAC's a_mn: a + b/T + c log T + d T + e/T^2 */
+/* NRTL's tau_ij or UNIFAC's a_mn, all five: a + b/T + c ln T + d T + e/T^2 */
 static inline kiltgrit_setting kiltgrit_td(size_t i, size_t j, double a, double b, double c, double d, double e) {
     const kiltgrit_setting s = {{a, b, c, d, e}, i, j, 8, 0};
     return s;
@@ -234,13 +267,14 @@ static inline kiltgrit_setting kiltgrit_count(size_t i, size_t place, double v) 
     return kiltgrit_setting_(10, i, place, v);
 }
 
-/* Replaces one parameter or the temperature; the next query works out again only what that changes. */
+/* Replaces one parameter or the temperature, by the same value too; the next query works out again what it is an input
+ * of, and nothing else. */
 static inline kiltgrit_refusal kiltgrit_set(kiltgrit_mixture *m, kiltgrit_setting s) {
     const kiltgrit_reply r = kiltgrit_mixture_set(KILTGRIT_LENT_(m), m->head, s);
     return kiltgrit_took_(m, &r);
 }
 
-/* The mole fractions of the n components; they add up to 1 within 1e-6. */
+/* The mole fractions of the n components; they add up to 1 within 1e-6, and are taken as they are. */
 static inline kiltgrit_refusal kiltgrit_fractions(kiltgrit_mixture *m, const double *x, size_t n) {
     const kiltgrit_reply r = kiltgrit_mixture_fractions(KILTGRIT_LENT_(m), m->head, x, n);
     return kiltgrit_took_(m, &r);
