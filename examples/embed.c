@@ -44,6 +44,10 @@ static void ask(kiltgrit_asked asked, size_t i, const double *x) {
 
 int main(void) {
     const double x[3][2] = {{0.78, 0.22}, {0.01, 0.99}, {0.99, 0.01}};
+    if (kiltgrit_version() != KILTGRIT_VERSION) {
+        fputs("header and library are of two versions\n", stderr);
+        return 1;
+    }
     if (!kiltgrit_floats_ok()) {
         fputs("floats are not rounded to nearest, or subnormals not kept\n", stderr);
         return 1;

@@ -15,7 +15,8 @@ from ctypes import POINTER, Structure, c_double, c_size_t, c_uint8, c_uint32
 VALUES, CELLS, MARKS = 5328, 1408, 1036
 LN_GAMMA, GAMMA, EXCESS_GIBBS = range(3)
 WILSON = 1
-TEMPERATURE = 5
+TEMPERATURE, ENTRY, TD_ENTRY, SIZE, COUNT = 5, 7, 8, 9, 10
+VERSION = 1 << 16
 
 
 class Head(Structure):
@@ -38,6 +39,23 @@ class Setting(Structure):
     _fields_ = [("v", c_double * 5), ("i", c_size_t), ("j", c_size_t), ("kind", c_uint32), ("unused", c_uint32)]
 
 
+assert [ctypes.sizeof(each) for each in (Head, Reply, Answer, Setting)] == [304, 336, 32, 64]
+
+
+def floats_ok(library):
+    """Whether floats are rounded to nearest even and subnormals kept: kiltgrit_floats_ok of the header."""
+    for name in ("kiltgrit_exp", "kiltgrit_log"):
+        call = getattr(library, name)
+        call.restype, call.argtypes = c_double, [c_double]
+    least, ulp = sys.float_info.min, sys.float_info.epsilon
+    half = least * 0.5
+    return (
+        half > 0.0 and half + half == least
+        and 1.0 + ulp * 0.5 == 1.0 and (1.0 + ulp) + ulp * 0.5 == 1.0 + 2.0 * ulp and -1.0 - ulp * 0.5 == -1.0
+        and library.kiltgrit_exp(-1.0) == 0.36787944117144233 and library.kiltgrit_log(3.0) == 1.0986122886681096
+    )
+
+
 class Refused(Exception):
     """A call was refused, with document 01's number; it has changed nothing."""
 
@@ -46,6 +64,8 @@ class Mixture:
     """A mixture in memory of its own, opened."""
 
     def __init__(self, library):
+        if library.kiltgrit_version() != VERSION or not floats_ok(library):
+            raise OSError("the library is another version's, or floats are not rounded to nearest with subnormals kept")
         floats, bytes_ = POINTER(c_double), POINTER(c_uint8)
         lent = [floats, c_size_t, floats, c_size_t, bytes_, c_size_t, Head]
         of = {
@@ -77,8 +97,9 @@ class Mixture:
 
         self._call("load", model, 0, n, ng, *as_bytes(lens), *as_bytes(groups), (c_double * len(given))(*given), len(given))
 
-    def set_temperature(self, kelvin):
-        self._call("set", Setting((c_double * 5)(kelvin), 0, 0, TEMPERATURE, 0))
+    def set(self, kind, *v, i=0, j=0):
+        """A temperature; an entry, td entry (five numbers) or size at i, j; a count of component i at place j."""
+        self._call("set", Setting((c_double * 5)(*v), i, j, kind, 0))
 
     def fractions(self, x):
         self._call("fractions", (c_double * len(x))(*x), len(x))
@@ -106,7 +127,7 @@ def main():
     still = Mixture(ctypes.CDLL(sys.argv[1]))
     # energies by rows in kelvin, then the molar volumes
     say(still.load, WILSON, 2, [0.0, -161.88 / 1.987204, 583.11 / 1.987204, 0.0, 74.05, 40.73])
-    say(still.set_temperature, 328.7)
+    say(still.set, TEMPERATURE, 328.7)
     for x in ([0.78, 0.22], [0.01, 0.99], [0.99, 0.01]):
         say(still.fractions, x)
         for i in range(2):

@@ -75,7 +75,7 @@ static void unifac(kiltgrit_mixture *m) {
 
 int main(void) {
     kiltgrit_mixture still; /* any content will do */
-    if (!kiltgrit_floats_ok()) return 1;
+    if (kiltgrit_version() != KILTGRIT_VERSION || !kiltgrit_floats_ok()) return 1;
     must(kiltgrit_open(&still));
     uniquac(&still);
     unifac(&still);

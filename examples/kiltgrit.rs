@@ -1,6 +1,11 @@
 //! The exported calls in Rust: put this file beside a program's own, say `mod kiltgrit;`, and link libkiltgrit.a.
 //!
-//! `raw` has the calls and structs of include/kiltgrit.h; `Mixture`, `plain` and `run` are a safe wrapper over them.
+//! `raw` has the calls and structs of include/kiltgrit.h; `Mixture`, `plain` and `run` are a safe wrapper over them. Ask
+//! `floats_ok` at the start of each thread that calls.
+#![allow(dead_code)] // a program may use some of it
+
+/// Of include/kiltgrit.h; another version's archive is no longer laid out as `raw` has it.
+const VERSION: u32 = 1 << 16;
 
 /// How long the lent slices are, with room for what later versions lend.
 const VALUES: usize = 5328;
@@ -69,7 +74,10 @@ mod raw {
     const _: () = assert!(size_of::<Value>() == 16);
 
     #[rustfmt::skip]
-    extern "C" {
+    unsafe extern "C" {
+        pub fn kiltgrit_version() -> u32;
+        pub fn kiltgrit_exp(v: f64) -> f64;
+        pub fn kiltgrit_log(v: f64) -> f64;
         pub fn kiltgrit_mixture_open(values: *const f64, values_len: usize, cells: *const f64, cells_len: usize,
             marks: *const u8, marks_len: usize, head: Head) -> Reply;
         pub fn kiltgrit_mixture_load(values: *mut f64, values_len: usize, cells: *const f64, cells_len: usize,
@@ -87,6 +95,21 @@ mod raw {
             x: *const f64, x_len: usize, asked: u32, i: usize) -> Value;
         pub fn kiltgrit_run(strip: *const u8, strip_len: usize, out: *mut u8, out_len: usize) -> usize;
     }
+}
+
+/// Whether floats are rounded to nearest even and subnormals kept, which every answer rests on (see kiltgrit_floats_ok).
+pub fn floats_ok() -> bool {
+    let [least, one, ulp] = std::hint::black_box([f64::MIN_POSITIVE, 1.0, f64::EPSILON]);
+    let half = least * 0.5;
+    // SAFETY: two functions of numbers.
+    let (exp, log) = unsafe { (raw::kiltgrit_exp(-1.0), raw::kiltgrit_log(3.0)) };
+    half > 0.0
+        && half + half == least
+        && one + ulp * 0.5 == 1.0
+        && (one + ulp) + ulp * 0.5 == 1.0 + 2.0 * ulp
+        && -one - ulp * 0.5 == -1.0
+        && exp == 0.36787944117144233
+        && log == 1.0986122886681096
 }
 
 /// Document 01's number of a refusal; the call has changed nothing.
@@ -190,6 +213,12 @@ macro_rules! call {
 
 impl Mixture {
     pub fn open() -> Self {
+        // SAFETY: it takes nothing.
+        assert_eq!(
+            unsafe { raw::kiltgrit_version() },
+            VERSION,
+            "libkiltgrit.a is another version's"
+        );
         // SAFETY: a head is numbers, of which none is out of range; any will do.
         let head = unsafe { std::mem::zeroed() };
         let (values, cells, marks) = ([0.0; VALUES], [0.0; CELLS], [0; MARKS]);

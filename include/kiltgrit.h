@@ -1,35 +1,42 @@
 /* kiltgrit.h: activity coefficients for solvent-recovery stills (Wilson, UNIQUAC, NRTL, UNIFAC), for C11 and C++11 on
  * x86-64 Linux. Link libkiltgrit.a; beside it the code needs memcpy and memset alone. examples/gamma.c is a program.
  *
- *     kiltgrit_mixture m;                                           any content before kiltgrit_open
- *     kiltgrit_open(&m);
- *     kiltgrit_load(&m, KILTGRIT_WILSON, 2, given, KILTGRIT_WILSON_VALUES(2));
- *     kiltgrit_set(&m, kiltgrit_temperature(328.7));
- *     kiltgrit_fractions(&m, x, 2);
- *     kiltgrit_query(&m, KILTGRIT_LN_GAMMA, 0, &value, NULL);       works out only what was set since the last one
+ *     static kiltgrit_mixture m;                                           any content before kiltgrit_open
+ *     kiltgrit_refusal r = kiltgrit_open(&m);
+ *     if (!r) r = kiltgrit_load(&m, KILTGRIT_WILSON, 2, given, KILTGRIT_WILSON_VALUES(2));
+ *     if (!r) r = kiltgrit_set(&m, kiltgrit_temperature(328.7));
+ *     if (!r) r = kiltgrit_fractions(&m, x, 2);
+ *     if (!r) r = kiltgrit_query(&m, KILTGRIT_LN_GAMMA, 0, &value, NULL);  works out what was set since the last one
+ *     if (r) puts(kiltgrit_words(r));
  *
  * Models     Components, groups and places of a list count from 0. T and the energies a are in kelvin (energy over R).
- *              Wilson    Lambda_ij = V_j/V_i exp(-(a_ij - a_ii)/T)
- *              UNIQUAC   tau_ij = exp(-(a_ij - a_ii)/T), z = 10; ln gamma_i has ln sum_k theta_k tau_ki
- *              NRTL      G_ij = exp(-alpha_ij tau_ij); tau_ii and alpha_ii aren't read
- *              UNIFAC    psi_mn = exp(-a_mn/T), with the combinatorial part of 1975
+ *              Wilson    Lambda_ij = V_j/V_i exp(-(a_ij - a_ii)/T); ln gamma_i has ln sum_j x_j Lambda_ij
+ *              UNIQUAC   tau_ij = exp(-(a_ij - a_ii)/T), z = 10; ln gamma_i has ln sum_j theta_j tau_ji
+ *              NRTL      G_ij = exp(-alpha_ij tau_ij); ln gamma_i has sum_j x_j G_ji tau_ji / sum_j x_j G_ji; tau_ii
+ *                        and alpha_ii aren't read
+ *              UNIFAC    psi_mn = exp(-a_mn/T); ln Gamma_k has ln sum_m Theta_m psi_mk; the combinatorial part of 1975
  *            NRTL's tau_ij and UNIFAC's a_mn are a + b/T + c ln T + d T + e/T^2. Published energies of Wilson and
- *            UNIQUAC are differences: give them as they are, and 0 on the diagonal.
- * Answers    Every call returns for every argument. A refused call has changed nothing and says why. Numbers are
- *            judged only where a refusal names them: T = 0, a NaN or negative fraction or a size of 0 are taken, and
- *            the answer is a NaN or means nothing. UNIQUAC at x_i = 0 gives a NaN for component i and for the excess
- *            energy, as its source does; 1e-300 in its place gives the limit.
+ *            UNIQUAC are differences: give them as they are, and 0 on the diagonal. Of absolute ones UNIQUAC takes
+ *            a_ij - a_jj, with 0 on the diagonal; Wilson forms a_ij - a_ii by itself. Aspen's b_ij has the other sign.
+ * Answers    Every call returns whatever numbers it is given. A refused call has changed nothing and says why. Numbers
+ *            are judged only where a refusal names them: T = 0, a NaN or negative fraction or a size of 0 are taken,
+ *            and the answer is a NaN or means nothing. UNIQUAC at x_i = 0 gives a NaN for component i and for the
+ *            excess energy, as its source does; 1e-300 in its place gives the limit.
  * Memory     No heap, no file, no global that is written, no callback. The mixture is the caller's: one
- *            kiltgrit_mixture, static or on a stack, with any content before kiltgrit_open.
+ *            kiltgrit_mixture of 55,232 bytes, static or on a stack. It has no pointers, so a copy by assignment is a
+ *            mixture of its own. Open it first: what no call has made, RAM that outlived a reset too, may look like a
+ *            loaded mixture, and is then answered from.
  * Threads    Calls on different mixtures may run at once. Calls on one mixture must not overlap.
  * Floats     IEEE 754, round to nearest even, subnormals kept: leave MXCSR as the system sets it (no -ffast-math at
- *            the link, no fesetround). kiltgrit_floats_ok says whether that is so; ask it at the start. A NaN's sign
- *            and payload are unspecified.
- * Stack      A query takes up to 9 KB, a plain call 16 KB, kiltgrit_run 134 KB, any other call 3 KB, with the inline
- *            functions below.
- * Pointers   None is NULL, but for a query's counts.
+ *            the link, no fesetround). kiltgrit_floats_ok says whether that is so; ask it at the start of each thread
+ *            that calls. A NaN's sign and payload are unspecified.
+ * Stack      A query takes up to 9 KB, a plain call 16 KB, kiltgrit_run 136 KB, any other call 3 KB, with the inline
+ *            functions below. A mixture on the stack, and what binds memcpy lazily at its first call, come on top.
+ * Pointers   Each is aligned and has as many places as the length beside it says. None is NULL, but a query's counts.
+ * Versions   Header and archive are of one version: kiltgrit_version() == KILTGRIT_VERSION. The inline functions stay
+ *            as they are within a MAJOR; a raw call, or what a struct's kept fields hold, may change with a MINOR.
  * Trusted    The calls of the archive are proved, each by one equation. The inline functions below, which hand them the
- *            mixture's parts, are not: they are tested.
+ *            mixture's parts, are not: they are tested (host/inline.c).
  */
 #ifndef KILTGRIT_H
 #define KILTGRIT_H
@@ -49,6 +56,14 @@ extern "C" {
 #define KILTGRIT_VERSION_MAJOR 1
 #define KILTGRIT_VERSION_MINOR 0
 #define KILTGRIT_VERSION_PATCH 0
+#define KILTGRIT_VERSION (KILTGRIT_VERSION_MAJOR * 65536u + KILTGRIT_VERSION_MINOR * 256u + KILTGRIT_VERSION_PATCH)
+
+/* A refusal that nobody looks at is a warning. */
+#if defined(__GNUC__)
+#define KILTGRIT_CHECK_ __attribute__((warn_unused_result))
+#else
+#define KILTGRIT_CHECK_
+#endif
 
 /* ---- sizes; cells and marks have room for what later versions lend */
 #define KILTGRIT_MAX_COMPONENTS 12
@@ -57,9 +72,11 @@ extern "C" {
 #define KILTGRIT_VALUES 5328
 #define KILTGRIT_CELLS 1408
 #define KILTGRIT_MARKS 1036
+#define KILTGRIT_MAX_STRIP 65536 /* bytes; a longer one is answered `broken` */
+#define KILTGRIT_MAX_TEXT 655367 /* bytes of the longest text that a strip is answered with */
 
-/* How many values a load takes. Tables stand by rows: that of 1 with 1, with 2, .., then that of 2; a td entry is five
- * numbers, a to e. */
+/* How many values a load takes, exactly. Tables stand by rows: entry 0 0, 0 1, .., then 1 0, 1 1, ..; a td entry is
+ * five numbers, a to e. */
 /* a; V in any one unit */
 #define KILTGRIT_WILSON_VALUES(n) ((n) * (n) + (n))
 /* a; r of each; q of each */
@@ -73,7 +90,7 @@ extern "C" {
 typedef enum kiltgrit_refusal {
     KILTGRIT_OK = 0,
     KILTGRIT_BAD_MEMORY = 1,     /* a lent slice is short, or the head is out of range */
-    KILTGRIT_BAD_SHAPE = 2,      /* no such model; components, groups, a list or a slice's length out of range */
+    KILTGRIT_BAD_SHAPE = 2,      /* no such model; not 1-12 components, 1-32 groups, lists up to 12; a length is off */
     KILTGRIT_NO_GROUP = 3,       /* a list names a group that isn't there */
     KILTGRIT_NEGATIVE_COUNT = 4, /* a count of a group below 0 */
     KILTGRIT_NO_FRACTIONS = 5,   /* no fractions at all */
@@ -160,7 +177,11 @@ KILTGRIT_STATIC_ASSERT(sizeof(kiltgrit_head) == 304, "the head as the library ha
 KILTGRIT_STATIC_ASSERT(offsetof(kiltgrit_head, changes) == 180 && offsetof(kiltgrit_head, has_t) == 288, "no padding");
 KILTGRIT_STATIC_ASSERT(sizeof(kiltgrit_reply) == 336, "the reply as the library has it");
 KILTGRIT_STATIC_ASSERT(sizeof(kiltgrit_answer) == 32, "the answer as the library has it");
+KILTGRIT_STATIC_ASSERT(sizeof(kiltgrit_counts) == 16, "the counts");
 KILTGRIT_STATIC_ASSERT(sizeof(kiltgrit_setting) == 64, "the setting as the library has it");
+
+/* 65536 MAJOR + 256 MINOR + PATCH of the archive: KILTGRIT_VERSION where the header is its own. */
+uint32_t kiltgrit_version(void);
 
 /* An opening looks at the lengths alone, so that memory of any content can be lent without a warning. */
 #if defined(__GNUC__) && !defined(__clang__) && __GNUC__ >= 11
@@ -172,18 +193,24 @@ KILTGRIT_STATIC_ASSERT(sizeof(kiltgrit_setting) == 64, "the setting as the libra
 /* ---- the raw calls, for a host that lays out its own memory. A slice is a pointer and how many; one that is written
  * overlaps no other. Each call takes the head that the last one gave back; a query leaves it. A form is kept for later:
  * 0. */
+
+/* Gives the head of a mixture without a model. */
 KILTGRIT_UNREAD_
 kiltgrit_reply kiltgrit_mixture_open(const double *values, size_t values_len, const double *cells, size_t cells_len,
                                      const uint8_t *marks, size_t marks_len, kiltgrit_head head);
+/* Writes the model's values and makes all its cells stale; ng, lens and groups count for UNIFAC alone. */
 kiltgrit_reply kiltgrit_mixture_load(double *values, size_t values_len, const double *cells, size_t cells_len,
                                      uint8_t *marks, size_t marks_len, kiltgrit_head head, uint32_t model,
                                      uint32_t form, size_t n, size_t ng, const uint8_t *lens, size_t lens_len,
                                      const uint8_t *groups, size_t groups_len, const double *given, size_t given_len);
+/* Writes the values that the setting names and makes the cells that it is an input of stale. */
 kiltgrit_reply kiltgrit_mixture_set(double *values, size_t values_len, const double *cells, size_t cells_len,
                                     uint8_t *marks, size_t marks_len, kiltgrit_head head, kiltgrit_setting s);
+/* Keeps the fractions in the head. */
 kiltgrit_reply kiltgrit_mixture_fractions(const double *values, size_t values_len, const double *cells,
                                           size_t cells_len, const uint8_t *marks, size_t marks_len, kiltgrit_head head,
                                           const double *x, size_t x_len);
+/* Works out every stale cell, marks it fresh, and gives the value with their number. */
 kiltgrit_answer kiltgrit_mixture_query(const double *values, size_t values_len, double *cells, size_t cells_len,
                                        uint8_t *marks, size_t marks_len, kiltgrit_head head, uint32_t asked, size_t i);
 
@@ -202,8 +229,8 @@ kiltgrit_value kiltgrit_plain(uint32_t model, uint32_t form, size_t n, size_t ng
 double kiltgrit_exp(double v);
 double kiltgrit_log(double v);
 
-/* ---- a strip of records (examples/run --strip writes one) run whole: its text goes to out as far as it fits, and its
- * length comes back */
+/* ---- a strip of records (examples/run --strip writes one) run whole: its text goes to out as far as it fits, without
+ * a NUL, and its length comes back, KILTGRIT_MAX_TEXT at most */
 size_t kiltgrit_run(const uint8_t *strip, size_t strip_len, uint8_t *out, size_t out_len);
 
 /* ---- the mixture as one object */
@@ -228,6 +255,7 @@ static inline kiltgrit_refusal kiltgrit_open(kiltgrit_mixture *m) {
 }
 
 /* Loads Wilson, UNIQUAC or NRTL; temperature and fractions are unset by it. */
+KILTGRIT_CHECK_
 static inline kiltgrit_refusal kiltgrit_load(kiltgrit_mixture *m, kiltgrit_model model, size_t n, const double *given,
                                              size_t given_len) {
     const uint8_t none = 0;
@@ -237,6 +265,7 @@ static inline kiltgrit_refusal kiltgrit_load(kiltgrit_mixture *m, kiltgrit_model
 }
 
 /* Loads UNIFAC: lens[i] groups of component i stand in `groups`, list after list; their counts end `given`. */
+KILTGRIT_CHECK_
 static inline kiltgrit_refusal kiltgrit_load_unifac(kiltgrit_mixture *m, size_t n, size_t ng, const uint8_t *lens,
                                                     const uint8_t *groups, size_t listed, const double *given,
                                                     size_t given_len) {
@@ -269,12 +298,14 @@ static inline kiltgrit_setting kiltgrit_count(size_t i, size_t place, double v) 
 
 /* Replaces one parameter or the temperature, by the same value too; the next query works out again what it is an input
  * of, and nothing else. */
+KILTGRIT_CHECK_
 static inline kiltgrit_refusal kiltgrit_set(kiltgrit_mixture *m, kiltgrit_setting s) {
     const kiltgrit_reply r = kiltgrit_mixture_set(KILTGRIT_LENT_(m), m->head, s);
     return kiltgrit_took_(m, &r);
 }
 
 /* The mole fractions of the n components; they add up to 1 within 1e-6, and are taken as they are. */
+KILTGRIT_CHECK_
 static inline kiltgrit_refusal kiltgrit_fractions(kiltgrit_mixture *m, const double *x, size_t n) {
     const kiltgrit_reply r = kiltgrit_mixture_fractions(KILTGRIT_LENT_(m), m->head, x, n);
     return kiltgrit_took_(m, &r);
@@ -282,6 +313,7 @@ static inline kiltgrit_refusal kiltgrit_fractions(kiltgrit_mixture *m, const dou
 
 /* *value, and *counts unless that is NULL, are written only where KILTGRIT_OK is returned. i doesn't count for the
  * excess energy. */
+KILTGRIT_CHECK_
 static inline kiltgrit_refusal kiltgrit_query(kiltgrit_mixture *m, kiltgrit_asked asked, size_t i, double *value,
                                               kiltgrit_counts *counts) {
     const kiltgrit_answer a = kiltgrit_mixture_query(KILTGRIT_LENT_(m), m->head, (uint32_t)asked, i);
@@ -296,6 +328,7 @@ static inline kiltgrit_refusal kiltgrit_query(kiltgrit_mixture *m, kiltgrit_aske
 }
 
 /* The same at once, of Wilson, UNIQUAC or NRTL; *value is written only where KILTGRIT_OK is returned. */
+KILTGRIT_CHECK_
 static inline kiltgrit_refusal kiltgrit_value_at(kiltgrit_model model, size_t n, const double *given, size_t given_len,
                                                  double kelvin, const double *x, kiltgrit_asked asked, size_t i,
                                                  double *value) {
@@ -307,6 +340,7 @@ static inline kiltgrit_refusal kiltgrit_value_at(kiltgrit_model model, size_t n,
 }
 
 /* And of UNIFAC. */
+KILTGRIT_CHECK_
 static inline kiltgrit_refusal kiltgrit_unifac_value_at(size_t n, size_t ng, const uint8_t *lens, const uint8_t *groups,
                                                         size_t listed, const double *given, size_t given_len,
                                                         double kelvin, const double *x, kiltgrit_asked asked, size_t i,

@@ -3,3 +3,4 @@ pub mod Border
 pub mod Unknown
 pub mod Host
 pub mod Exports
+pub mod Version
