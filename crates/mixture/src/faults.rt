@@ -76,7 +76,7 @@ fn lists_in_range(n: usize, ng: usize, lens: [u8; COMPONENTS], groups: [u8; PLAC
     if GROUPS < ng {
         return false;
     }
-    if !models::faults::none_over_12(&lens[..], n) {
+    if !models::faults::lists_within(&lens[..], n) {
         return false;
     }
     let places = models::groups::start_of(&lens[..], n);

@@ -127,7 +127,7 @@ pub fn plain_fault(n: usize, size: usize, values: &[f64], x: &[f64], q: Quantity
 }
 
 // Whether none of the first n lists is over 12.
-pub fn none_over_12(lens: &[u8], n: usize) -> bool
+pub fn lists_within(lens: &[u8], n: usize) -> bool
     requires { ⌜ n ≤ length (now lens) ⌝ }
     ensures { λ r. ⌜ r ≡ allTo n (λ i. leb (getD (now (lens .entry)) i 0) mostListed) ⌝ }
 {
@@ -171,7 +171,7 @@ fn lists_fault(n: usize, ng: usize, lens: &[u8], groups: &[u8], values: &[f64]) 
     if lens.len() != n {
         return 2;
     }
-    if !none_over_12(lens, n) {
+    if !lists_within(lens, n) {
         return 2;
     }
     let places = start_of(lens, n);

@@ -12,7 +12,7 @@ use Rattle.mixture.proofs.faults.lists_in_range.Statement.{statement}
 use Rattle.mixture.proofs.faults.lists_in_range.Tie as tie
 
 none-long : (c : tie.Else3) → let a = c .before .before .before .before .before .args in allTo (a .n) (λ i. leb (getD (a .t3) i 0) 12) ≡ true
-none-long c = sym (c .before .none-over-12 .ensures) ∙ not-false _ (c .if3 .left)
+none-long c = sym (c .before .lists-within .ensures) ∙ not-false _ (c .if3 .left)
 
 returns : tie.Need-returns
 returns c = simp (lt-leb _ _ (c .if1 .taken))
@@ -23,7 +23,7 @@ returns-2 c = simp (le-leb _ _ (c .before .if1 .left), lt-leb _ _ (c .if2 .taken
 returns-3 : tie.Need-returns-3
 returns-3 c =
     let some = c .before .before .before in
-    simp (le-leb _ _ (some .before .if1 .left), le-leb _ _ (some .if2 .left), sym (c .before .none-over-12 .ensures) ∙ not-true _ (c .if3 .taken))
+    simp (le-leb _ _ (some .before .if1 .left), le-leb _ _ (some .if2 .left), sym (c .before .lists-within .ensures) ∙ not-true _ (c .if3 .taken))
 
 groups-below-requires : tie.Need-groups-below-requires
 groups-below-requires c κs =

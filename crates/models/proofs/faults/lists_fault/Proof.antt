@@ -23,7 +23,7 @@ ranged : (c : tie.Else1) → between 1 12 (entry c .args .n) && between 1 32 (en
 ranged c = sym (c .before .in-range .ensures .0) ∙ not-false _ (c .if1 .left)
 
 short : (c : tie.Else3) → let a = entry (c .before .before .before) .args in allTo (a .n) (λ i. leb (getD (now (a .lens)) i 0) 12) ≡ true
-short c = sym (c .before .none-over-12 .ensures) ∙ not-false _ (c .if3 .left)
+short c = sym (c .before .lists-within .ensures) ∙ not-false _ (c .if3 .left)
 
 placed : (c : tie.Else4) → let a = entry (c .before .before .before .before .before) .args in length (now (a .groups)) ≡ start (now (a .lens)) (a .n)
 placed c = c .if4 .left ∙ c .before .start-of .ensures
@@ -43,7 +43,7 @@ returns-2 c = (lists-tests _ _ _ _ _ (ranged (c .before)) (ne-eqb _ _ (c .if2 .t
 returns-3 : tie.Need-returns-3
 returns-3 c =
     let two = c .before .before in
-    (lists-tests _ _ _ _ _ (ranged (two .before)) (eq-eqb _ _ (two .if2 .left)) (sym (c .before .none-over-12 .ensures) ∙ not-true _ (c .if3 .taken)) refl refl, λ e. absurd (omega arith))
+    (lists-tests _ _ _ _ _ (ranged (two .before)) (eq-eqb _ _ (two .if2 .left)) (sym (c .before .lists-within .ensures) ∙ not-true _ (c .if3 .taken)) refl refl, λ e. absurd (omega arith))
 
 start-of-requires : tie.Need-start-of-requires
 start-of-requires c κs = let one = c .before .before .before in (omega arith, one .before .in-range .ensures .1 (not-false _ (one .if1 .left)) .1)

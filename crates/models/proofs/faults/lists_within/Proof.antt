@@ -9,8 +9,8 @@ use lib.ListN.{getD}
 use borrow.Author.Tests.{le-leb, lt-leb}
 use Rattle.models.specs.Faults.{allTo}
 use Rattle.models.proofs.GroupListLaws.{all-none, all-more, all-fails}
-use Rattle.models.proofs.faults.none_over_12.Statement.{statement}
-use Rattle.models.proofs.faults.none_over_12.Tie as tie
+use Rattle.models.proofs.faults.lists_within.Statement.{statement}
+use Rattle.models.proofs.faults.lists_within.Tie as tie
 
 abbrev Inv-loop : tie.InvT-loop
 Inv-loop lens n i₀ i = (i ≤ n) × (true ≡ allTo i (λ k. leb (getD lens k 0) 12))
@@ -30,8 +30,8 @@ loop-again c = (omega arith, all-more _ _ (c .before .before .before .loop .inv 
 returns-2 : tie.Need-returns-2 Inv-loop μ-loop
 returns-2 c = rw (← le-antisymm (c .before .loop .inv .0) (c .loop-test .left)) (c .before .loop .inv .1)
 
-pub none-over-12-spec : {M : Type 1} → statement M
-none-over-12-spec =
+pub lists-within-spec : {M : Type 1} → statement M
+lists-within-spec =
     tie.close
     (tie.spec
     Inv-loop
