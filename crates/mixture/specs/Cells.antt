@@ -12,8 +12,11 @@ use Rattle.mixture.specs.Holdings.{Held, Name, temperature, entry, tdEnt
 unfoldable pub width : Held → ℕ
 width d = tableWidth (d .model) (d .n) (d .ng)
 
+abbrev pub hasCell : Model → ℕ → ℕ → Bool
+hasCell m i j = byModel m (not (eqb i j)) (not (eqb i j)) (not (eqb i j)) true
+
 unfoldable pub isCell : Held → ℕ → ℕ → Bool
-isCell d i j = byModel (d .model) (not (eqb i j)) (not (eqb i j)) (not (eqb i j)) true
+isCell d = hasCell (d .model)
 
 -- the inputs of cell i, j: T and, for E_ij, a_ij and a_ii; for G_ij, α_ij and the five of τ_ij; for Ψ_ij, the five of a_ij
 unfoldable pub inputs : Model → ℕ → ℕ → List Name

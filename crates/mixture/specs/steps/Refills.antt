@@ -23,7 +23,7 @@ use Rattle.mixture.specs.declared.query.Worked.{Worked}
 use Rattle.mixture.specs.declared.refill.Rows.{Rows}
 use Rattle.mixture.specs.Lists.{written, howMany}
 use Rattle.mixture.specs.Holdings.{held}
-use Rattle.mixture.specs.Cells.{width}
+use Rattle.mixture.specs.Cells.{width, hasCell}
 use Rattle.models.specs.Limits.{mostComponents, mostGroups, mostPlaces}
 use Rattle.models.specs.Model.{byModel, hasGroups}
 use Rattle.mixture.specs.Memory.{Memory, leastValues, leastCells, leastMarks}
@@ -42,11 +42,7 @@ rowArgument k row tau T L i j =
     byModel k (neg (at row j ⊖ at row i) ⊘ T) (neg (at row j ⊖ at row i) ⊘ T) (neg (at row j) ⊗ at tau j)
     (neg (tdBy (fiveAt row (j * 5)) T L) ⊘ T)
 
--- i, j is a cell of the model
-abbrev pub hasCell : Model → ℕ → ℕ → Bool
-hasCell k i j = byModel k (not (eqb i j)) (not (eqb i j)) (not (eqb i j)) true
-
--- and its mark makes it stale
+-- i, j is a cell of the model, and its mark makes it stale
 unfoldable pub staleCell : Model → ℕ → ℕ → ℕ → Bool
 staleCell k mark i j = hasCell k i j && not (eqb mark 1)
 
