@@ -13,7 +13,7 @@ use Rattle.models.specs.Answers.{quantityOf}
 use Rattle.mixture.specs.declared.setting.Setting.{Setting}
 use Rattle.mixture.specs.declared.setting.Setting.the-variants.{Temperature, Entry, TdEntry, Size, Count}
 use Rattle.models.specs.Faults.{between}
-use Rattle.models.specs.Model.{modelOf, ModelData}
+use Rattle.models.specs.Model.{modelOf, ModelData, modelData}
 use Rattle.kiltgrit.specs.declared.arguments.CSetting.{CSetting}
 
 -- 2^64 - 1
@@ -30,8 +30,7 @@ knownN model form n = cond (between 1 4 model && eqb form 0) n 0
 
 -- what a load brings
 abbrev pub loadOf : ℕ → ℕ → ℕ → ℕ → List ℕ → List ℕ → List Float → ModelData
-loadOf model form n ng lens groups given =
-    record { model = modelOf model; n = knownN model form n; ng = ng; lens = lens; groups = groups; values = given }
+loadOf model form n ng lens groups given = modelData (modelOf model) (knownN model form n) ng lens groups given
 
 -- by the strip's kinds
 unfoldable pub settingOf : CSetting → Setting

@@ -6,7 +6,7 @@ use lib.Dec.{ltb}
 use lib.Ieee.{Float}
 use Rattle.models.specs.Values.{countsAt, start}
 use Rattle.mixture.specs.declared.head.Head.{Head}
-use Rattle.models.specs.Model.{byModel, modelOf, ModelData}
+use Rattle.models.specs.Model.{byModel, modelOf, ModelData, modelData}
 use Rattle.mixture.specs.declared.setting.Setting.{Setting}
 use Rattle.mixture.specs.declared.setting.Setting.the-variants.{Temperature, Entry, TdEntry, Size, Count}
 use Rattle.mixture.specs.Holdings.{Held}
@@ -15,8 +15,7 @@ use Rattle.mixture.specs.Memory.{Memory}
 
 -- what memory and head hold, as a load brings it
 abbrev pub dataIn : Memory → Head → ModelData
-dataIn m h =
-    record { model = modelOf (h .model); n = h .n; ng = h .ng; lens = h .lens; groups = h .groups; values = m .values }
+dataIn m h = modelData (modelOf (h .model)) (h .n) (h .ng) (h .lens) (h .groups) (m .values)
 
 -- ---- values
 

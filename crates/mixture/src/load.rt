@@ -8,7 +8,7 @@ ghost use Rattle.models.specs.declared.model.Model.the-variants.{Unifac};
 ghost use Rattle.mixture.specs.Lists.{written};
 ghost use Rattle.mixture.specs.Holdings.{held};
 ghost use Rattle.models.specs.Limits.{mostComponents, mostGroups, mostPlaces};
-ghost use Rattle.models.specs.Model.{tableWidth, ModelData};
+ghost use Rattle.models.specs.Model.{tableWidth, ModelData, modelData};
 ghost use Rattle.models.specs.Model.{given as dataGiven};
 ghost use Rattle.mixture.specs.Memory.{before, later, left, leastMarks};
 ghost use Rattle.mixture.specs.Layout.{cellAt};
@@ -60,14 +60,8 @@ fn stale_cells(model: Model, n: usize, ng: usize, marks: &mut [u8])
 fn loaded_head(model: Model, n: usize, ng: usize, lens: &[u8], groups: &[u8]) -> Head
     requires { ⌜ (model ≡ Unifac → (length (now lens) ≤ mostComponents)
         × (length (now groups) ≤ mostPlaces)) ⌝ }
-    ensures { λ r. ⌜ ((v : List Float) → r ≡ loadedHead (record {
-      model = model;
-      n = n;
-      ng = ng;
-      lens = now (lens .entry);
-      groups = now (groups .entry);
-      values = v;
-    })) ⌝ }
+    ensures { λ r. ⌜ ((v : List Float) → r
+        ≡ loadedHead (modelData model n ng (now (lens .entry)) (now (groups .entry)) v)) ⌝ }
 {
     match model {
         Model::Wilson => bare_head(1, n),

@@ -9,7 +9,7 @@ use Rattle.models.specs.declared.model.Model.{Model}
 use Rattle.models.specs.declared.model.Model.the-variants.{Wilson, Uniquac, Nrtl, Unifac}
 use Rattle.models.specs.Answers.{answer, first}
 use Rattle.models.specs.Faults.{dataFault, fractionsFault}
-use Rattle.models.specs.Model.{byModel, ModelData}
+use Rattle.models.specs.Model.{byModel, ModelData, modelData}
 use Rattle.models.specs.Values.{energies, volumes, rs, qs, taus, alphas, countsAt, groupRs, groupQs, groupAs, lists}
 use Rattle.models.specs.Wilson.{wilsonAt}
 use Rattle.models.specs.Uniquac.{uniquacAt}
@@ -33,7 +33,7 @@ plainCall d T x q = answer (first (dataFault d) (fractionsFault (d .n) x q)) (va
 
 -- a model without lists
 abbrev pub bare : Model → ℕ → List Float → ModelData
-bare m n values = record { model = m; n = n; ng = 0; lens = []; groups = []; values = values }
+bare m n values = modelData m n 0 [] [] values
 
 abbrev pub wilsonPlain : ℕ → List Float → Float → List Float → Quantity → Answer
 wilsonPlain n values T x q = plainCall (bare Wilson n values) T x q
@@ -45,5 +45,4 @@ abbrev pub nrtlPlain : ℕ → List Float → Float → List Float → Quantity 
 nrtlPlain n values T x q = plainCall (bare Nrtl n values) T x q
 
 abbrev pub unifacPlain : ℕ → ℕ → List ℕ → List ℕ → List Float → Float → List Float → Quantity → Answer
-unifacPlain n ng lens groups values T x q =
-    plainCall (record { model = Unifac; n = n; ng = ng; lens = lens; groups = groups; values = values }) T x q
+unifacPlain n ng lens groups values T x q = plainCall (modelData Unifac n ng lens groups values) T x q

@@ -24,7 +24,7 @@ use Rattle.mixture.specs.declared.setting.Setting.the-variants.{Temperature, En
 use Rattle.mixture.specs.declared.answers.Answer.{Answer}
 use Rattle.mixture.specs.declared.answers.Answer.the-variants.{Refused, Done, Value}
 use Rattle.models.specs.Limits.{mostComponents, mostValues}
-use Rattle.models.specs.Model.{ModelData, byModel, modelOf}
+use Rattle.models.specs.Model.{ModelData, modelData, byModel, modelOf}
 use Rattle.mixture.specs.Memory.{Memory, memory, leastValues, leastCells, leastMarks, After}
 use Rattle.mixture.specs.Calls.{noHead, afterOpen, afterLoad, afterSetting, afterFractions, afterQuery}
 use Rattle.models.specs.Plain.{plainCall}
@@ -99,8 +99,8 @@ repeatedBytes model n ng lens groups values x asked i change v temperatures =
     cond (ltb mostValues (length values / 8)) +0
     (cond (ltb mostComponents (length x / 8)) +0
     (cond (ltb (length temperatures) 8) +0
-    (repeated (length temperatures / 8)
-    (record { model = modelOf model; n = n; ng = ng; lens = lens; groups = groups; values = floats values }) (floats x) (quantityOf asked i) change v (λ k. floatAt temperatures (8 * k)))))
+    (repeated (length temperatures / 8) (modelData (modelOf model) n ng lens groups (floats values)) (floats x) (quantityOf asked i) change v
+    (λ k. floatAt temperatures (8 * k)))))
 
 -- the temperatures in a call's argument, and how many there are
 abbrev pub each : {A : Type 0} → Both (RefT (List ℕ)) A → Vector

@@ -10,7 +10,7 @@ use Rattle.models.specs.Values.{fiveAt}
 use Rattle.models.specs.Answers.{quantityOf}
 use Rattle.mixture.specs.declared.setting.Setting.{Setting}
 use Rattle.mixture.specs.declared.setting.Setting.the-variants.{Temperature, Entry, TdEntry, Size, Count}
-use Rattle.models.specs.Model.{ModelData, modelOf}
+use Rattle.models.specs.Model.{ModelData, modelData, modelOf}
 use Rattle.mixture.specs.Book.{Call, Load, Set, Fractions, Query}
 use Rattle.strip.specs.declared.records.Rec.{Rec}
 use Rattle.strip.specs.GroupLists.{Lists, listsAt}
@@ -24,14 +24,7 @@ listsOf s r = listsAt s (r .lists) (r .body + 8 * r .floats)
 -- kinds 1 to 4: the tables, and then the counts
 abbrev pub dataOf : List ℕ → Rec → ModelData
 dataOf s r =
-    record {
-      model = modelOf (r .kind);
-      n = r .i;
-      ng = r .j;
-      lens = listsOf s r .lens;
-      groups = listsOf s r .groups;
-      values = floatsOf s r ++ listsOf s r .counts;
-    }
+    modelData (modelOf (r .kind)) (r .i) (r .j) (listsOf s r .lens) (listsOf s r .groups) (floatsOf s r ++ listsOf s r .counts)
 
 -- kinds 5 and 7 to 10, by the record's first floats: a td entry takes five, another setting one
 unfoldable pub settingOf : ℕ → ℕ → ℕ → TdParam → Setting
