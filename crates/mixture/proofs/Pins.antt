@@ -1,4 +1,4 @@
--- What pins the definitions that memory and book share: a plain call's fault of fractions, and the one setting that names a place.
+-- What pins the definitions that memory and book share: the one setting that names a place.
 -- (How many cells there are and go stale: CountLaws.)
 use mathlib.Core.Path.{_≡_, refl, sym, _∙_}
 use mathlib.Core.Bool.{true, _&&_}
@@ -8,13 +8,12 @@ use Prim.Native.Nat.{ℕ, _+_, _*_, _-_, _/_, _%_, _<_, _≤_}
 use native.Mathlib.Nat.{div-add-mod', mod-lt}
 use native.Mathlib.Omega.{arith}
 use lib.Dec.{eqb}
-use lib.ListN.{length, getD}
+use lib.ListN.{getD}
 use lib.Ieee.{Float, nan, lt}
 use borrow.Author.Tests.{lt-ltb, eq-eqb, eqb-true}
 use Rattle.arithmetic.specs.Floats.{+0}
 use Rattle.arithmetic.specs.declared.parameters.TdParam.{TdParam}
 use Rattle.arithmetic.proofs.Tests.{either, le-or}
-use Rattle.models.specs.Faults.{tolerance, compositionFault, fractionsFault, mixFault}
 use Rattle.models.specs.Values.{fiveAt, wilsonSize, uniquacSize, nrtlSize, countsAt, start, unifacSize, lists}
 use Rattle.models.specs.declared.model.Model.{Model}
 use Rattle.models.specs.declared.model.Model.the-variants.{Wilson, Uniquac, Nrtl, Unifac}
@@ -24,20 +23,10 @@ use Rattle.mixture.specs.Holdings.{held, name, named}
 use Rattle.models.specs.Model.{ModelData, sizeOf}
 use Rattle.mixture.specs.Faults.{below, hasEntry, hasTdEntry, hasSize, hasCount, caseFault}
 use Rattle.mixture.specs.Layout.{place}
-use Rattle.mixture.specs.Pins.{FractionsAlike, Over, ValuesNamed, Within}
+use Rattle.mixture.specs.Pins.{Over, ValuesNamed, Within}
 use Rattle.mixture.proofs.PlaceLaws.{both, had, store-in, D, entry-places, size-places, count-places, td-places, td-entry, entry-size, size-td, td-count, size-count, entry-count}
 use Rattle.mixture.proofs.history.RangeLaws.{sound}
 use Rattle.mixture.proofs.RowLaws.{before-table, before-lens, InRow, in-row}
-
--- ---- fractions
-
-pub fractions-alike : FractionsAlike
-unfolding fractionsFault mixFault
-fractions-alike n x q =
-    elim (either (eqb (compositionFault tolerance x) 0)) [
-      | inl c ↦ elim (either (eqb (length x) n)) [ inl l ↦ rw (c, l) refl | inr l ↦ rw (c, l) refl ]
-      | inr c ↦ rw (c, c) refl
-    ]
 
 -- ---- one setting at most
 

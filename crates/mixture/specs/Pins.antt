@@ -1,15 +1,11 @@
--- Laws that pin what memory and book share (docs/REVIEW.md, "Demand 3"): what fractions are refused for, the names of a model's
--- values, and its cells; and how many cells a setting makes stale.
+-- Laws that pin what memory and book share (docs/REVIEW.md, "Demand 3"): the names of a model's values, and its cells; and how many
+-- cells a setting makes stale.
 use mathlib.Core.Path.{_≡_}
 use mathlib.Core.Bool.{_&&_, cond}
-use mathlib.Core.List.{List}
 use Prim.Native.Nat.{ℕ, _+_, _*_, _-_, _<_, _≤_}
 use lib.Dec.{eqb}
 use lib.ListN.{length}
-use lib.Ieee.{Float}
-use Rattle.models.specs.declared.answers.Quantity.{Quantity}
-use Rattle.models.specs.Answers.{first}
-use Rattle.models.specs.Faults.{indexFault, fractionsFault, dataFault, mixFault}
+use Rattle.models.specs.Faults.{dataFault}
 use Rattle.mixture.specs.declared.setting.Setting.{Setting}
 use Rattle.mixture.specs.declared.setting.Setting.the-variants.{Temperature, Entry, TdEntry, Size, Count}
 use Rattle.mixture.specs.Lists.{howManyPairs}
@@ -19,12 +15,6 @@ use Rattle.models.specs.Model.{ModelData, byModel}
 use Rattle.mixture.specs.Faults.{caseFault}
 use Rattle.mixture.specs.Layout.{place, numbers}
 use Rattle.mixture.specs.Calls.{stales}
-
--- ---- fractions
-
--- the plain call's fault of fractions is that of giving them to a mixture, then that of the query
-abbrev pub FractionsAlike : Type 0
-FractionsAlike = (n : ℕ) (x : List Float) (q : Quantity) → fractionsFault n x q ≡ first (mixFault n x) (indexFault n q)
 
 -- ---- values
 
