@@ -19,7 +19,7 @@ pub fn sum(xs: &[f64]) -> f64
 }
 
 // The sum of x[k]·y[k] over the first n.
-pub fn dot(x: &[f64], y: &[f64], n: usize) -> f64
+pub fn dot(n: usize, x: &[f64], y: &[f64]) -> f64
     requires { ⌜ (n ≤ length (now x)) × (n ≤ length (now y)) ⌝ }
     ensures { λ r. ⌜ r ≡ Sums·sum n (λ k. at (now (x .entry)) k ⊗ at (now (y .entry)) k) ⌝ }
 {

@@ -24,7 +24,7 @@ pub struct Head {
 }
 
 // The bytes in the first places.
-fn copy_bytes(r: &mut [u8], s: &[u8])
+fn copy_bytes(s: &[u8], r: &mut [u8])
     requires { ⌜ length (now s) ≤ length (now r) ⌝ }
     ensures { λ _. ⌜ now (r .exit)
         ≡ now (s .entry) ++ drop (length (now (s .entry))) (now (r .entry)) ⌝ }
@@ -83,9 +83,9 @@ pub fn listed_head(n: usize, ng: usize, lens: &[u8], groups: &[u8]) -> Head
     ensures { λ r. ⌜ r ≡ freshHead 4 n ng (now (lens .entry)) (now (groups .entry)) ⌝ }
 {
     let mut all_lens = [0u8; COMPONENTS];
-    copy_bytes(&mut all_lens, lens);
+    copy_bytes(lens, &mut all_lens);
     let mut all_groups = [0u8; PLACES];
-    copy_bytes(&mut all_groups, groups);
+    copy_bytes(groups, &mut all_groups);
     unset_head(4, n, ng, all_lens, all_groups)
 }
 

@@ -53,7 +53,7 @@ fn stale_cells(model: Model, n: usize, ng: usize, marks: &mut [u8])
         left: 0,
         columns: w,
     };
-    stale(marks, w, diagonal, all);
+    stale(w, diagonal, all, marks);
 }
 
 // The head of a load that is accepted, with 0 in its unset and unused fields.

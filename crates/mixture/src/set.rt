@@ -83,7 +83,7 @@ fn store_at(head: Head, s: Setting) -> usize
 }
 
 // The numbers of a setting in turn.
-fn put(values: &mut [f64], at: usize, s: Setting)
+fn put(s: Setting, at: usize, values: &mut [f64])
     requires { ⌜ at + length (numbers s) ≤ length (now values) ⌝ }
     ensures { λ _. ⌜ now (values .exit) ≡ sets (now (values .entry)) at (numbers s) ⌝ }
 {
@@ -164,7 +164,7 @@ fn block_of(model: Model, w: usize, s: Setting) -> Block
 }
 
 // Writes 0 to the marks of the cells that a setting makes stale.
-fn stale_by(marks: &mut [u8], head: Head, s: Setting)
+fn stale_by(head: Head, s: Setting, marks: &mut [u8])
     requires { ⌜ (Settable head s) × (leastMarks ≤ length (now marks)) ⌝ }
     ensures { λ _. ⌜ Staled (stalesAt (held (headOnly head)) s) marks ⌝ }
 {
@@ -172,7 +172,7 @@ fn stale_by(marks: &mut [u8], head: Head, s: Setting)
     let w = table_width(model, head.n, head.ng);
     let diagonal = has_groups(model);
     let block = block_of(model, w, s);
-    stale(marks, w, diagonal, block);
+    stale(w, diagonal, block, marks);
 }
 
 // The head's T after a setting that may have been declined.
@@ -228,8 +228,8 @@ fn change(values: &mut [f64], cells: &[f64], marks: &mut [u8], head: Head, s: Se
         return fault;
     }
     let at = store_at(head, s);
-    put(values, at, s);
-    stale_by(marks, head, s);
+    put(s, at, values);
+    stale_by(head, s, marks);
     0
 }
 

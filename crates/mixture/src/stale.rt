@@ -14,7 +14,7 @@ pub struct Block {
 }
 
 // Writes 0 from left to below right of the row that begins at start, except at skip.
-fn stale_row(marks: &mut [u8], start: usize, left: usize, right: usize, skip: usize)
+fn stale_row(start: usize, left: usize, right: usize, skip: usize, marks: &mut [u8])
     requires { ⌜ (left ≤ right) × (start + right ≤ length (now marks)) ⌝ }
     ensures { λ _. ⌜ Staled (inRow start left right skip) marks ⌝ }
 {
@@ -36,7 +36,7 @@ fn skipped(w: usize, diagonal: bool, i: usize) -> usize
 }
 
 // Writes 0 to the marks of the block's cells in rows of w, those of the diagonal only where it has cells.
-pub fn stale(marks: &mut [u8], w: usize, diagonal: bool, block: Block)
+pub fn stale(w: usize, diagonal: bool, block: Block, marks: &mut [u8])
     requires { ⌜ BlockFits w block (length (now marks)) ⌝ }
     ensures { λ _. ⌜ Staled (inBlock w diagonal block) marks ⌝ }
 {
@@ -45,6 +45,6 @@ pub fn stale(marks: &mut [u8], w: usize, diagonal: bool, block: Block)
     let right = left + block.columns;
     for i in block.top..bottom {
         let skip = skipped(w, diagonal, i);
-        stale_row(marks, i * w, left, right, skip);
+        stale_row(i * w, left, right, skip, marks);
     }
 }

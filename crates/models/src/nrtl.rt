@@ -68,7 +68,7 @@ pub fn fill_arguments(alpha: &[f64], tau: &[f64], count: usize, out: &mut [f64])
 }
 
 // Writes the first count entries of G: every argument first, then exp of them all at once.
-fn fill_exponentials(alpha: &[f64], tau: &[f64], count: usize, out: &mut [f64])
+fn fill_exponentials(count: usize, alpha: &[f64], tau: &[f64], out: &mut [f64])
     requires { ⌜ (count ≤ length (now alpha))
         × (count ≤ length (now tau))
         × (count ≤ length (now out)) ⌝ }
@@ -209,7 +209,7 @@ pub fn value_at(n: usize, values: &[f64], t: f64, x: &[f64], q: Quantity) -> f64
     fill_taus(n, values, t, &mut tau[..]);
     let at = n * n * 5;
     let mut g = [0.0; PAIRS];
-    fill_exponentials(&values[at..], &tau[..], n * n, &mut g[..]);
+    fill_exponentials(n * n, &values[at..], &tau[..], &mut g[..]);
     value_over(n, &tau[..], &g[..], x, q)
 }
 

@@ -93,7 +93,7 @@ fn theta(ng: usize, q: &[f64], xg: &[f64], out: &mut [f64])
     requires { ⌜ (ng ≤ length (now q)) × (ng ≤ length (now xg)) × (ng ≤ length (now out)) ⌝ }
     ensures { λ _. ⌜ Filled (Unifac·theta ng (vectorOf q) (vectorOf xg)) ng (now (out .exit)) ⌝ }
 {
-    let qs = arithmetic::dot(q, xg, ng);
+    let qs = arithmetic::dot(ng, q, xg);
     for g in 0..ng {
         out[g] = q[g] * xg[g] / qs;
     }
@@ -299,8 +299,8 @@ fn share(
 {
     let r_each = crate::groups::sizes(n, lens, groups, counts, r);
     let q_each = crate::groups::sizes(n, lens, groups, counts, q);
-    let rs = arithmetic::dot(x, &r_each[..], n);
-    let qs = arithmetic::dot(x, &q_each[..], n);
+    let rs = arithmetic::dot(n, x, &r_each[..]);
+    let qs = arithmetic::dot(n, x, &q_each[..]);
     Shared {
         r: r_each,
         q: q_each,

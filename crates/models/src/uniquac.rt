@@ -31,7 +31,7 @@ fn shares(n: usize, s: &[f64], x: &[f64], shares: &mut [f64])
     ensures { λ _. ⌜ Filled (share n (at (now (s .entry))) (at (now (x .entry)))) n
         (now (shares .exit)) ⌝ }
 {
-    let sum = arithmetic::dot(x, s, n);
+    let sum = arithmetic::dot(n, x, s);
     for i in 0..n {
         shares[i] = x[i] * s[i] / sum;
     }
@@ -158,7 +158,7 @@ fn fill_ratios(
 }
 
 // Writes log of each of the first n places of a.
-fn fill_logs(a: &[f64], n: usize, out: &mut [f64])
+fn fill_logs(n: usize, a: &[f64], out: &mut [f64])
     requires { ⌜ (n ≤ length (now a)) × (n ≤ length (now out)) ⌝ }
     ensures { λ _. ⌜ Filled (λ k. logOf (at (now (a .entry)) k)) n (now (out .exit)) ⌝ }
 {
@@ -192,9 +192,9 @@ fn excess_gibbs(
     let mut ln_areas = [0.0; COMPONENTS];
     fill_ratios(n, r, x, rx, theta, &mut segments[..], &mut ln_areas[..]);
     let mut ln_segments = [0.0; COMPONENTS];
-    fill_logs(&segments[..], n, &mut ln_segments[..]);
+    fill_logs(n, &segments[..], &mut ln_segments[..]);
     let mut ln_sums = [0.0; COMPONENTS];
-    fill_logs(sums, n, &mut ln_sums[..]);
+    fill_logs(n, sums, &mut ln_sums[..]);
     arithmetic::log_each(&mut ln_areas[..], n);
     let mut s = 0.0;
     for i in 0..n {
@@ -212,7 +212,7 @@ pub fn value_over(n: usize, r: &[f64], q: &[f64], e: &[f64], x: &[f64], k: Quant
         let E = grid n (now (e .entry)) in
         ⌜ v ≡ uniquac n (at (now (r .entry))) (at (now (q .entry))) E (at (now (x .entry))) k ⌝ }
 {
-    let rx = arithmetic::dot(x, r, n);
+    let rx = arithmetic::dot(n, x, r);
     let lx = l_sum(n, r, q, x);
     let mut theta = [0.0; COMPONENTS];
     shares(n, q, x, &mut theta[..]);

@@ -11,10 +11,10 @@ use Rattle.arithmetic.proofs.sums.dot.Statement.{statement}
 use Rattle.arithmetic.proofs.sums.dot.Tie as tie
 
 abbrev Inv-loop : tie.InvT-loop
-Inv-loop x y n s₀ k₀ s k = (k ≤ n) × (s ≡ sum k (λ i. at x i ⊗ at y i))
+Inv-loop n x y s₀ k₀ s k = (k ≤ n) × (s ≡ sum k (λ i. at x i ⊗ at y i))
 
 abbrev μ-loop : tie.MeasureT-loop
-μ-loop x y n s₀ k₀ s k = n - k
+μ-loop n x y s₀ k₀ s k = n - k
 
 loop-holds : tie.Need-loop-holds Inv-loop μ-loop
 loop-holds c = (omega arith, sum-none _)

@@ -11,10 +11,10 @@ use Rattle.mixture.proofs.head.copy_bytes.Statement.{statement}
 use Rattle.mixture.proofs.head.copy_bytes.Tie as tie
 
 abbrev Inv-loop : tie.InvT-loop
-Inv-loop r₀ s k₀ k-end r k = (k ≤ length s) × (length r ≡ length r₀) × (r ≡ take k s ++ drop k r₀)
+Inv-loop s r₀ k₀ k-end r k = (k ≤ length s) × (length r ≡ length r₀) × (r ≡ take k s ++ drop k r₀)
 
 abbrev μ-loop : tie.MeasureT-loop
-μ-loop r₀ s k₀ k-end r k = length s - k
+μ-loop s r₀ k₀ k-end r k = length s - k
 
 loop-again : tie.Need-loop-again Inv-loop μ-loop
 loop-again c =

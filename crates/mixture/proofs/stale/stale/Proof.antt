@@ -11,10 +11,10 @@ use Rattle.mixture.proofs.stale.stale.Statement.{statement}
 use Rattle.mixture.proofs.stale.stale.Tie as tie
 
 abbrev Inv-loop : tie.InvT-loop
-Inv-loop marks₀ w diagonal bottom left right i₀ marks i = (i₀ ≤ i) × (i ≤ bottom) × (marks ≡ written (toRow w diagonal i₀ left right i) (λ c. 0) marks₀)
+Inv-loop w diagonal marks₀ bottom left right i₀ marks i = (i₀ ≤ i) × (i ≤ bottom) × (marks ≡ written (toRow w diagonal i₀ left right i) (λ c. 0) marks₀)
 
 abbrev μ-loop : tie.MeasureT-loop
-μ-loop marks₀ w diagonal bottom left right i₀ marks i = bottom - i
+μ-loop w diagonal marks₀ bottom left right i₀ marks i = bottom - i
 
 abbrev entry : tie.In-loop Inv-loop μ-loop → tie.Start Inv-loop μ-loop
 entry c = c .before .before .before .before .before
@@ -54,7 +54,7 @@ stale-spec =
     (λ c. omega arith)
     loop-holds
     (λ c κs. tt)
-    (λ c. omega (arith, room (c .before .before), entry (c .before .before) .pre))
+    (λ c. omega (arith, room (c .before), entry (c .before) .pre))
     (λ c κs. (omega arith, omega (arith, room (c .before .before))))
     (λ c. omega arith)
     (λ c. omega arith)

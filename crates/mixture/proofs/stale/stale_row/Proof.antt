@@ -11,10 +11,10 @@ use Rattle.mixture.proofs.stale.stale_row.Statement.{statement}
 use Rattle.mixture.proofs.stale.stale_row.Tie as tie
 
 abbrev Inv-loop : tie.InvT-loop
-Inv-loop marks₀ start left right skip j₀ marks j = (left ≤ j) × (j ≤ right) × (marks ≡ written (inRow start left j skip) (λ c. 0) marks₀)
+Inv-loop start left right skip marks₀ j₀ marks j = (left ≤ j) × (j ≤ right) × (marks ≡ written (inRow start left j skip) (λ c. 0) marks₀)
 
 abbrev μ-loop : tie.MeasureT-loop
-μ-loop marks₀ start left right skip j₀ marks j = right - j
+μ-loop start left right skip marks₀ j₀ marks j = right - j
 
 loop-holds : tie.Need-loop-holds Inv-loop μ-loop
 loop-holds c = (omega arith, omega arith, written-none _ _ _ (row-none _ _ _ _ (omega arith)))

@@ -46,9 +46,9 @@ value-at-spec =
     (λ c. omega (arith, fits (c .before .before .before .before .before)))
     (λ c. omega (arith, fits (c .before .before .before .before .before)))
     (λ c. omega (arith, fits (c .before .before .before .before .before)))
+    (λ c. omega (arith, fits (c .before .before .before .before .before)))
     (λ c. search needs)
     (λ c. search needs)
-    (λ c. omega (arith, fits (c .before .before .before .before .before .before .before)))
     (λ c. search needs)
     fill-exponentials-requires
     (λ c. search needs)

@@ -11,10 +11,10 @@ use Rattle.models.proofs.uniquac.fill_logs.Statement.{statement}
 use Rattle.models.proofs.uniquac.fill_logs.Tie as tie
 
 abbrev Inv-loop : tie.InvT-loop
-Inv-loop a n out₀ k₀ out k = Filling (at a) n (length out₀) k out
+Inv-loop n a out₀ k₀ out k = Filling (at a) n (length out₀) k out
 
 abbrev μ-loop : tie.MeasureT-loop
-μ-loop a n out₀ k₀ out k = n - k
+μ-loop n a out₀ k₀ out k = n - k
 
 loop-again : tie.Need-loop-again Inv-loop μ-loop
 loop-again c = filling-more (omega arith) (c .before .before .loop .inv) refl
