@@ -10,8 +10,8 @@ ghost use Rattle.mixture.specs.Lists.{howMany};
 ghost use Rattle.mixture.specs.steps.Refills.{argumentIn, argumentOf, cellIn, packed};
 ghost use Rattle.mixture.specs.steps.Refills.{rowCount, staleCell, staleIn, tableCount, unmarked};
 ghost use Rattle.mixture.specs.steps.Refills.{AllStale, Laid, Lifted, OffDiagonalTaken, RowFits};
-ghost use Rattle.mixture.specs.steps.Refills.{RowGathered, RowRefilled, RowTaken, TableFits};
-ghost use Rattle.mixture.specs.steps.Refills.{TableRefilled, TableTaken};
+ghost use Rattle.mixture.specs.steps.Refills.{RowGathered, RowRefilled, RowTaken, SquareFits};
+ghost use Rattle.mixture.specs.steps.Refills.{TableFits, TableRefilled, TableTaken, TakeFits};
 use models::Model;
 use models::limits::COMPONENTS;
 use models::limits::GROUPS;
@@ -299,7 +299,7 @@ fn fill_table(rows: Rows, table: &[f64], tau: &[f64], out: &mut [f64])
 
 // Puts the last row of a table by rows of w, but for its own diagonal, on the diagonal of the rows above it.
 fn lay_last(w: usize, a: &mut [f64])
-    requires { ⌜ (1 ≤ w) × (w ≤ mostGroups) × (w * w ≤ length (now a)) ⌝ }
+    requires { ⌜ SquareFits w (now a) ⌝ }
     ensures { λ _. ⌜ Laid w (now (a .entry)) (now (a .exit)) ⌝ }
 {
     let last = (w - 1) * w;
@@ -310,7 +310,7 @@ fn lay_last(w: usize, a: &mut [f64])
 
 // Takes it back from there.
 fn lift_last(w: usize, a: &mut [f64])
-    requires { ⌜ (1 ≤ w) × (w ≤ mostGroups) × (w * w ≤ length (now a)) ⌝ }
+    requires { ⌜ SquareFits w (now a) ⌝ }
     ensures { λ _. ⌜ Lifted w (now (a .entry)) (now (a .exit)) ⌝ }
 {
     let last = (w - 1) * w;
@@ -322,10 +322,7 @@ fn lift_last(w: usize, a: &mut [f64])
 // Each place off the diagonal takes its exp; there are `count`. Meanwhile the last row stands on the diagonal
 // of the others, so that exp runs over so many places in one go, and over no other.
 fn exp_off_diagonal(w: usize, count: usize, a: &mut [f64])
-    requires { ⌜ (1 ≤ w)
-        × (w ≤ mostGroups)
-        × (w * w ≤ length (now a))
-        × (count ≡ (w - 1) * w) ⌝ }
+    requires { ⌜ SquareFits w (now a) × (count ≡ (w - 1) * w) ⌝ }
     ensures { λ _. ⌜ OffDiagonalTaken w (now (a .entry)) (now (a .exit)) ⌝ }
 {
     lay_last(w, a);
@@ -350,10 +347,7 @@ fn take_stale(model: Model, w: usize, worked: &[f64], i: usize, cells: &mut [f64
 
 // The same for w rows.
 fn take_rows(model: Model, w: usize, worked: &[f64], cells: &mut [f64], marks: &mut [u8])
-    requires { ⌜ (w ≤ mostGroups)
-        × (w * w ≤ length (now worked))
-        × (w * w ≤ length (now cells))
-        × (w * w ≤ length (now marks)) ⌝ }
+    requires { ⌜ TakeFits w (now worked) (now cells) (now marks) ⌝ }
     ensures { λ _. ⌜ TableTaken model w (at (now (worked .entry))) cells marks ⌝ }
 {
     for i in 0..w {

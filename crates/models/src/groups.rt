@@ -82,9 +82,7 @@ fn put_counts(list: &[u8], counts: &[f64], num: &mut [f64])
 
 // Adds x_i·count to each group's number, and gives the sum of x_i times all counts of i.
 fn amounts(n: usize, lens: &[u8], groups: &[u8], counts: &[f64], x: &[f64], num: &mut [f64]) -> f64
-    requires { ⌜ Listed n (length (now num)) (now lens) (now groups) (now counts)
-        × (n ≤ mostComponents)
-        × (n ≤ length (now x))
+    requires { ⌜ Mixed n (length (now num)) (now lens) (now groups) (now counts) (now x)
         × Filled (λ _. +0) (length (now num)) (now num) ⌝ }
     ensures { λ r. ⌜ (r ≡ Unifac·amounts n (listsOf lens groups counts) (vectorOf x))
         × Filled (amount n (listsOf lens groups counts) (vectorOf x))

@@ -5,7 +5,7 @@ ghost use lib.ListN.{length};
 ghost use lib.Ieee.{neg};
 ghost use Rattle.arithmetic.specs.Exponential.{expOf};
 ghost use Rattle.arithmetic.specs.Parameters.{tdAt};
-ghost use Rattle.arithmetic.specs.Floats.{_⊕_, _⊖_, _⊗_, _⊘_, +0};
+ghost use Rattle.arithmetic.specs.Floats.{_⊕_, _⊖_, _⊗_, _⊘_};
 ghost use Rattle.arithmetic.specs.Tables.{at, grid, Filled};
 ghost use Rattle.models.specs.Limits.{mostComponents};
 ghost use Rattle.models.specs.Faults.{indexFault};
@@ -15,7 +15,7 @@ ghost use Rattle.models.specs.Plain.{nrtlPlain};
 ghost use Rattle.models.specs.Values.{fiveAt, nrtlSize, taus, alphas};
 ghost use Rattle.models.specs.steps.Model.{ValueFits};
 ghost use Rattle.models.specs.steps.Columns.{Added};
-ghost use Rattle.models.specs.steps.Nrtl.{NrtlFits, NrtlSums};
+ghost use Rattle.models.specs.steps.Nrtl.{NrtlFits, NrtlSums, NrtlZeros};
 ghost use Rattle.models.specs.Nrtl.{tau as Nrtl·tau};
 ghost use Rattle.arithmetic.specs.Sums.{sum};
 use crate::answers::Answer;
@@ -110,10 +110,7 @@ fn add_terms(n: usize, x: f64, g: &[f64], tau: &[f64], i: usize, sums: &mut [f64
 // For each j the numerator Σ_m x_m G_mj τ_mj in u and the denominator Σ_m x_m G_mj in d; both have zeros
 // at first.
 fn column_sums(n: usize, tau: &[f64], g: &[f64], x: &[f64], u: &mut [f64], d: &mut [f64])
-    requires { ⌜ NrtlFits n (now tau) (now g) (now x)
-        × NrtlSums n (now u) (now d)
-        × Filled (λ _. +0) n (now u)
-        × Filled (λ _. +0) n (now d) ⌝ }
+    requires { ⌜ NrtlFits n (now tau) (now g) (now x) × NrtlZeros n (now u) (now d) ⌝ }
     ensures { λ _.
         let G = grid n (now (g .entry)) in
         let X = at (now (x .entry)) in

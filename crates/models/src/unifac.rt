@@ -13,14 +13,14 @@ ghost use Rattle.models.specs.Faults.{indexFault};
 ghost use Rattle.models.specs.Columns.{columnSum};
 ghost use Rattle.models.specs.Exponentials.{groupEnergy};
 ghost use Rattle.models.specs.Answers.{reads};
-ghost use Rattle.models.specs.steps.GroupLists.{Listed, Named, Paired, ListedRows};
+ghost use Rattle.models.specs.steps.GroupLists.{Named, ListedRows};
 ghost use Rattle.models.specs.steps.GroupLists.{ownList, listsOf, heldLists};
 ghost use Rattle.models.specs.Plain.{unifacPlain};
 ghost use Rattle.models.specs.Unifac.{theta as Unifac·theta, pure as Unifac·pure, fraction};
 ghost use Rattle.models.specs.Unifac.{lnGroup};
 ghost use Rattle.models.specs.Unifac.{combinatorialBy, residual, unifac, unifacBy, unifacAt};
-ghost use Rattle.models.specs.steps.Unifac.{Grouped, Mixed, Pure, Tables, Shares};
-ghost use Rattle.models.specs.steps.Unifac.{UnifacFits, ResidualFits};
+ghost use Rattle.models.specs.steps.Unifac.{Grouped, Mixed, Pure, PureList, Tables, Shares};
+ghost use Rattle.models.specs.steps.Unifac.{UnifacFits, ShareFits, ResidualFits};
 ghost use Rattle.models.specs.steps.Unifac.{psiBy, combinatorialFrom, lnFrom, vectorOf, tableOf};
 ghost use Rattle.models.specs.Values.{fiveAt, countsAt, groupRs, groupQs, groupAs};
 use crate::answers::Answer;
@@ -208,10 +208,7 @@ fn theta_mixed(
 
 // Writes ln Γ of the groups that a component lists, in the pure component.
 fn pure_listed(ng: usize, list: &[u8], counts: &[f64], q: &[f64], psi: &[f64], row: &mut [f64])
-    requires { ⌜ Paired ng (now list) (now counts)
-        × (ng ≤ mostGroups)
-        × (ng ≤ length (now q))
-        × (ng * ng ≤ length (now psi))
+    requires { ⌜ PureList ng (now list) (now counts) (now q) (now psi)
         × (ng ≤ length (now row)) ⌝ }
     ensures { λ _. ⌜ Named (length (now (list .entry))) (λ p. getD (now (list .entry)) p 0)
         (Unifac·pure ng (ownList list counts) (vectorOf q) (tableOf ng psi) 0) (now (row .exit)) ⌝ }
@@ -291,10 +288,7 @@ fn share(
     q: &[f64],
     x: &[f64],
 ) -> Shared
-    requires { ⌜ Listed n (length (now r)) (now lens) (now groups) (now counts)
-        × Listed n (length (now q)) (now lens) (now groups) (now counts)
-        × (n ≤ mostComponents)
-        × (n ≤ length (now x)) ⌝ }
+    requires { ⌜ ShareFits n (now lens) (now groups) (now counts) (now r) (now q) (now x) ⌝ }
     ensures { λ s. ⌜ Shares n (listsOf lens groups counts) (vectorOf r) (vectorOf q) (vectorOf x) s ⌝ }
 {
     let r_each = crate::groups::sizes(n, lens, groups, counts, r);

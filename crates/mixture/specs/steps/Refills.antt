@@ -127,6 +127,19 @@ pub record TableFits (w stride : ℕ) (table tau out : List Float) : Type 0 wher
   pub taus : (w - 1) * stride + w ≤ length tau
   pub room : w * w ≤ length out
 
+-- a slice of w·w places, for one row at least
+pub record SquareFits (w : ℕ) (a : List Float) : Type 0 where
+  pub some : 1 ≤ w
+  pub few : w ≤ mostGroups
+  pub room : w * w ≤ length a
+
+-- the exponentials, cells and marks of w rows
+pub record TakeFits (w : ℕ) (worked cells : List Float) (marks : List ℕ) : Type 0 where
+  pub few : w ≤ mostGroups
+  pub table : w * w ≤ length worked
+  pub room : w * w ≤ length cells
+  pub marked : w * w ≤ length marks
+
 -- all cells of a model's few rows are stale, none of them on the diagonal, and r is their number
 pub record AllStale (g : Rows) (marks : List ℕ) (r : ℕ) : Type 0 where
   pub some : 1 ≤ g .w

@@ -16,7 +16,7 @@ use Rattle.models.specs.declared.unifac.Shared.{Shared}
 use Rattle.models.specs.Faults.{indexFault}
 use Rattle.models.specs.Unifac.{Groups, size, sizeSum, combinatorialBy, lnGroup, residual}
 use Rattle.models.specs.Values.{fiveAt}
-use Rattle.models.specs.steps.GroupLists.{Listed, Loaded}
+use Rattle.models.specs.steps.GroupLists.{Listed, Paired, Loaded}
 
 -- what a call's slice holds: numbers by one index, and a table by full rows of n
 abbrev pub vectorOf : {A : Type 0} → Both (RefT (List Float)) A → Vector
@@ -63,6 +63,20 @@ pub record Pure (n ng : ℕ) (lens groups : List ℕ) (counts q psi : List Float
   pub fewGroups : ng ≤ mostGroups
   pub sizes : ng ≤ length q
   pub square : ng * ng ≤ length psi
+
+-- one list in slices of its own, Q and Ψ, which its pure ln Γ read
+pub record PureList (ng : ℕ) (list : List ℕ) (counts q psi : List Float) : Type 0 where
+  pub paired : Paired ng list counts
+  pub few : ng ≤ mostGroups
+  pub sizes : ng ≤ length q
+  pub square : ng * ng ≤ length psi
+
+-- the lists of n components, the R and Q of each group that they name, and their fractions lie within their slices
+pub record ShareFits (n : ℕ) (lens groups : List ℕ) (counts r q x : List Float) : Type 0 where
+  pub rs : Listed n (length r) lens groups counts
+  pub qs : Listed n (length q) lens groups counts
+  pub few : n ≤ mostComponents
+  pub fractions : n ≤ length x
 
 -- and R, Q, Ψ and the table of pure ln Γ
 pub record Tables (n ng : ℕ) (r q psi table : List Float) : Type 0 where

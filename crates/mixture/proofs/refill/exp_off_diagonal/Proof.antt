@@ -10,7 +10,7 @@ exp-each-requires : tie.Need-exp-each-requires
 exp-each-requires c κs =
     let lay = c .before .before .before in
     let s = lay .before .before .before in
-    omega (arith, last-row (s .args .w), s .pre .2, s .pre .3, lay .lay-last .kept)
+    omega (arith, last-row (s .args .w), s .pre .0 .room, s .pre .1, lay .lay-last .kept)
 
 returns : tie.Need-returns
 returns c =
@@ -18,7 +18,7 @@ returns c =
     let each = lift .before .before .before .before in
     let lay = each .before .before .before .before in
     let s = lay .before .before .before in
-    exp-off (s .args .w) (s .pre .3) (omega (arith, last-row (s .args .w), s .pre .2, s .pre .3, lay .lay-last .kept)) (lay .lay-last .ensures) (each .exp-each .ensures) (lift .lift-last .ensures)
+    exp-off (s .args .w) (s .pre .1) (omega (arith, last-row (s .args .w), s .pre .0 .room, s .pre .1, lay .lay-last .kept)) (lay .lay-last .ensures) (each .exp-each .ensures) (lift .lift-last .ensures)
 
 pub exp-off-diagonal-spec : {M : Type 1} → statement M
 exp-off-diagonal-spec =

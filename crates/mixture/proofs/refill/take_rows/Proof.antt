@@ -24,7 +24,7 @@ entry c = c .before .before .before .before .before
 
 -- row i ends within the w·w cells
 room : (c : tie.In-loop Inv-loop μ-loop) → let w = entry c .args .w in (c .before .loop .i * w + w ≤ w * w) × (w * w ≤ 1024)
-room c = let r = row-room _ 0 _ (entry c .pre .0) (c .loop-test .taken) in (r .0, r .1)
+room c = let r = row-room _ 0 _ (entry c .pre .few) (c .loop-test .taken) in (r .0, r .1)
 
 take-stale-requires : tie.Need-take-stale-requires Inv-loop μ-loop
 take-stale-requires c κs =
@@ -33,7 +33,7 @@ take-stale-requires c κs =
     let above = turn .before .loop in
     let kept = above .inv .1 .long in
     let b = turn .loop-test .taken in
-    (part-long (now (entry turn .args .worked)) b refl (p .1), part-long (above .cells) b (kept .0) (p .2), part-long (above .marks) b (kept .1) (p .3))
+    (part-long (now (entry turn .args .worked)) b refl (p .table), part-long (above .cells) b (kept .0) (p .room), part-long (above .marks) b (kept .1) (p .marked))
 
 loop-again : tie.Need-loop-again Inv-loop μ-loop
 loop-again c =
@@ -41,8 +41,8 @@ loop-again c =
     let a = entry turn .args in
     let p = entry turn .pre in
     let more =
-    rows-more (a .model) (a .w) (turn .before .loop .i) _ _ (now (a .cells)) (now (a .marks)) (turn .loop-test .taken) (p .2) (p .3)
-    (λ j b. from-at (now (a .worked)) _ j (omega (arith, room turn, p .1))) (turn .before .loop .inv .1 .all) (c .before .before .before .before .take-stale .ensures) in
+    rows-more (a .model) (a .w) (turn .before .loop .i) _ _ (now (a .cells)) (now (a .marks)) (turn .loop-test .taken) (p .room) (p .marked)
+    (λ j b. from-at (now (a .worked)) _ j (omega (arith, room turn, p .table))) (turn .before .loop .inv .1 .all) (c .before .before .before .before .take-stale .ensures) in
     (more .0, refilling-count (more .1))
 
 returns : tie.Need-returns Inv-loop μ-loop

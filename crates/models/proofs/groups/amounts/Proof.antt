@@ -31,7 +31,7 @@ abbrev entry : tie.In-loop Inv-loop μ-loop → tie.Start Inv-loop μ-loop
 entry c = c .before .before .before .before .before .before .before
 
 listed : (c : tie.In-loop Inv-loop μ-loop) → let a = entry c .args in Listed (c .before .loop .i + 1) (length (c .before .loop .num)) (now (a .lens)) (now (a .groups)) (now (a .counts))
-listed c = listed-less (entry c .pre .0) (c .before .loop .i) _ (c .loop-test .taken) (omega (arith, c .before .loop .inv .1))
+listed c = listed-less (entry c .pre .0 .listed) (c .before .loop .i) _ (c .loop-test .taken) (omega (arith, c .before .loop .inv .1))
 
 -- the list of i ends within the slices
 ends : (c : tie.In-loop Inv-loop μ-loop) → let a = entry c .args in let end = c .before .loop .start + getD (now (a .lens)) (c .before .loop .i) 0 in
@@ -67,8 +67,8 @@ amounts-spec =
     (tie.spec
     Inv-loop
     μ-loop
-    (λ c. (omega arith, refl, sum-none _, amount-none _ _ _ (c .before .before .before .before .before .pre .3), start-none _))
-    (λ c. omega (arith, c .before .before .before .before .before .before .before .before .pre .0 .many))
+    (λ c. (omega arith, refl, sum-none _, amount-none _ _ _ (c .before .before .before .before .before .pre .1), start-none _))
+    (λ c. omega (arith, c .before .before .before .before .before .before .before .before .pre .0 .listed .many))
     (λ c. omega (arith, c .shared-slice-known5 .given (c .before .before .loop .i)))
     (λ c. omega (arith, ends (c .before), entry (c .before) .good))
     (λ c. omega (arith, ends (c .before)))

@@ -7,7 +7,7 @@ use Rattle.models.proofs.groups.group_fractions.Statement.{statement}
 use Rattle.models.proofs.groups.group_fractions.Tie as tie
 
 amounts-requires : tie.Need-amounts-requires
-amounts-requires c κs = let pre = c .before .before .before .before .before .before .pre in (listed-wider (pre .0 .listed) 32 (pre .0 .fewGroups), pre .0 .few, pre .0 .fractions, zeros 32)
+amounts-requires c κs = let pre = c .before .before .before .before .before .before .pre in (record { listed = listed-wider (pre .0 .listed) 32 (pre .0 .fewGroups); few = pre .0 .few; fewGroups = omega arith; fractions = pre .0 .fractions }, zeros 32)
 
 returns : tie.Need-returns
 returns c =

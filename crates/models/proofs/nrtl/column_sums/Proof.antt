@@ -33,7 +33,7 @@ ends c =
     (le-trans row (entry c .pre .0 .taus), le-trans row (entry c .pre .0 .table))
 
 loop-holds : tie.Need-loop-holds Inv-loop μ-loop
-loop-holds c = let pre = c .before .before .before .before .before .pre in (columns-none (omega arith) refl (pre .2), columns-none (omega arith) refl (pre .3))
+loop-holds c = let zeros = c .before .before .before .before .before .pre .1 in (columns-none (zeros .sums .above) refl (zeros .noneAbove), columns-none (zeros .sums .below) refl (zeros .noneBelow))
 
 add-terms-requires : tie.Need-add-terms-requires Inv-loop μ-loop
 add-terms-requires c κs =

@@ -16,7 +16,7 @@ ends : (c : tie.After-shared-slice-known6) → let a = entry c .args in let end 
 ends c = list-ends (entry c .args .i) (entry c .pre .0 .listed) (c .before .start-of .ensures)
 
 pure-listed-requires : tie.Need-pure-listed-requires
-pure-listed-requires c κs = let start = c .before .before .before .before .before .before .before .before .before .before .before in let fits = start .pre .0 in (list-paired (start .args .i) (fits .listed) (c .before .before .before .before .start-of .ensures), fits .fewGroups, fits .sizes, fits .square, start .pre .1)
+pure-listed-requires c κs = let start = c .before .before .before .before .before .before .before .before .before .before .before in let fits = start .pre .0 in (record { paired = list-paired (start .args .i) (fits .listed) (c .before .before .before .before .start-of .ensures); few = fits .fewGroups; sizes = fits .sizes; square = fits .square }, start .pre .1)
 
 returns : tie.Need-returns
 returns c = let start = c .before .before .before .before .before .before .before .before .before .before .before .before .before .before in pure-own (start .args .i) (start .pre .0 .listed) (c .before .before .before .before .before .before .before .start-of .ensures) _ _ (c .before .before .pure-listed .ensures)

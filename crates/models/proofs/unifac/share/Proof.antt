@@ -8,8 +8,8 @@ pub share-spec : {M : Type 1} → statement M
 share-spec =
     tie.close
     (tie.spec
-    (λ c κs. (c .before .before .before .before .before .before .pre .0, c .before .before .before .before .before .before .pre .2))
-    (λ c κs. (c .before .before .before .before .before .before .before .pre .1, c .before .before .before .before .before .before .before .pre .2))
+    (λ c κs. (c .before .before .before .before .before .before .pre .rs, c .before .before .before .before .before .before .pre .few))
+    (λ c κs. (c .before .before .before .before .before .before .before .pre .qs, c .before .before .before .before .before .before .before .pre .few))
     (λ c. search needs)
     (λ c κs. search needs)
     (λ c. search needs)

@@ -30,7 +30,7 @@ residual-fits c here long =
     }
 
 share-requires : tie.Need-share-requires
-share-requires c κs = let pre = c .before .before .before .before .before .before .before .before .pre in (listed-wider (pre .0 .listed) _ (pre .1 .rs), listed-wider (pre .0 .listed) _ (pre .1 .qs), pre .0 .few, pre .0 .fractions)
+share-requires c κs = let pre = c .before .before .before .before .before .before .before .before .pre in record { rs = listed-wider (pre .0 .listed) _ (pre .1 .rs); qs = listed-wider (pre .0 .listed) _ (pre .1 .qs); few = pre .0 .few; fractions = pre .0 .fractions }
 
 theta-mixed-requires : tie.Need-theta-mixed-requires
 theta-mixed-requires c κs = let pre = c .before .before .before .before .before .before .before .before .before .before .pre in (pre .0, pre .1 .qs, pre .0 .fewGroups)
