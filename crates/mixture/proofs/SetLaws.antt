@@ -13,6 +13,7 @@ use lib.Ieee.{Float, lt}
 use borrow.Author.Tests.{le-ltb, eq-eqb, ne-eqb}
 use Rattle.arithmetic.specs.Floats.{+0}
 use Rattle.arithmetic.specs.declared.parameters.TdParam.{TdParam}
+use Rattle.arithmetic.proofs.TableLaws.{cell-lt}
 use Rattle.models.specs.Values.{countsAt, start, lists}
 use Rattle.models.proofs.GroupListLaws.{start-up}
 use Rattle.mixture.specs.declared.head.Head.{Head}
@@ -344,6 +345,10 @@ module _ (a : ℕ) where
   first-le Uniquac = omega arith
   first-le Nrtl = omega arith
   first-le Unifac = omega arith
+
+-- entry i, j lies within w rows, and these within 1,024 places
+pub entry-room : {w i j : ℕ} → (w ≤ 32) × (i < w) × (j < w) → (w * w ≤ 1024) × (i * w + j < w * w)
+entry-room fits = (mul-le-mul (fits .0) (fits .0), cell-lt _ _ _ _ (fits .1) (fits .2))
 
 -- ---- a setting that passes
 

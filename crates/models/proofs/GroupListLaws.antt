@@ -88,6 +88,13 @@ module _ (i : ℕ) {ng : ℕ} {lens groups : List ℕ} {counts : List Float} {s 
     below = λ p h. let b : p < getD lens i 0 = omega (arith, list-part-length) in rw (list-part p b) (list-group p b);
   }
 
+-- place p lies within a list and its counts, and its group below m
+abbrev pub PairedAt : ℕ → List ℕ → List Float → ℕ → Type 0
+PairedAt m list counts p = (p < length list) × (p < length counts) × (getD list p 0 < m)
+
+pub paired-at : {ng m p : ℕ} {list : List ℕ} {counts : List Float} → Paired ng list counts → p < length list → ng ≤ m → PairedAt m list counts p
+paired-at fits within wide = (within, omega (arith, within, fits .counted), omega (arith, fits .below _ within))
+
 pub paired-wider : {ng : ℕ} {list : List ℕ} {counts : List Float} (m : ℕ) → ng ≤ m → Paired ng list counts → Paired m list counts
 paired-wider m b all = record { counted = all .counted; below = λ p h. omega (arith, all .below p h) }
 

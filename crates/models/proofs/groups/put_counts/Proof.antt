@@ -1,11 +1,11 @@
 -- Each place of a list puts its count at its group. The loop has put those of the places passed, for every group.
 use mathlib.Core.Path.{_≡_, refl}
-use Prim.Native.Nat.{_-_, _<_}
+use Prim.Native.Nat.{_-_}
 use native.Mathlib.Omega.{arith}
 use denote.Ref.{now}
 use lib.ListN.{length, getD}
 use Rattle.arithmetic.specs.Tables.{at}
-use Rattle.models.proofs.GroupListLaws.{Gathering, gathering-none, gathering-more, gathering-done}
+use Rattle.models.proofs.GroupListLaws.{PairedAt, paired-at, Gathering, gathering-none, gathering-more, gathering-done}
 use Rattle.models.proofs.groups.put_counts.Statement.{statement}
 use Rattle.models.proofs.groups.put_counts.Tie as tie
 
@@ -15,14 +15,8 @@ Inv-loop list counts num₀ p₀ p-end num p = (p-end ≡ length list) × Gather
 abbrev μ-loop : tie.MeasureT-loop
 μ-loop list counts num₀ p₀ p-end num p = p-end - p
 
--- place p lies within the list and its counts, and its group within the numbers
-group : (c : tie.In-loop Inv-loop μ-loop) → let a = c .before .before .args in let p = c .before .loop .p in
-    (p < length (now (a .list))) × (p < length (now (a .counts))) × (getD (now (a .list)) p 0 < length (c .before .loop .num))
-group c =
-    let pre = c .before .before .pre in
-    let inv = c .before .loop .inv in
-    let within : c .before .loop .p < length (now (c .before .before .args .list)) = omega (arith, c .loop-test .taken, inv .0) in
-    (within, omega (arith, within, pre .counted), omega (arith, pre .below _ within, inv .1 .long))
+group : (c : tie.In-loop Inv-loop μ-loop) → let a = c .before .before .args in PairedAt (length (c .before .loop .num)) (now (a .list)) (now (a .counts)) (c .before .loop .p)
+group c = let inv = c .before .loop .inv in paired-at (c .before .before .pre) (omega (arith, c .loop-test .taken, inv .0)) (omega (arith, inv .1 .long))
 
 loop-again : tie.Need-loop-again Inv-loop μ-loop
 loop-again c = let inv = c .before .before .before .loop .inv in (inv .0, gathering-more (group (c .before .before) .0) refl (group (c .before .before) .2) refl (inv .1))

@@ -1,6 +1,6 @@
 -- The sum of count·(m - p) over a list, whose groups lie within m and p.
 use mathlib.Core.Path.{_≡_, refl}
-use Prim.Native.Nat.{_-_, _<_, _≤_}
+use Prim.Native.Nat.{_-_, _≤_}
 use native.Mathlib.Omega.{arith}
 use denote.Ref.{now}
 use lib.ListN.{length, getD}
@@ -9,6 +9,7 @@ use Rattle.arithmetic.specs.Sums.{sum}
 use Rattle.arithmetic.specs.Floats.{_⊖_, _⊗_}
 use Rattle.arithmetic.proofs.SumLaws.{sum-none, sum-more, sum-done}
 use Rattle.models.specs.Unifac as Unifac
+use Rattle.models.proofs.GroupListLaws.{PairedAt, paired-at}
 use Rattle.models.proofs.groups.residual.Statement.{statement}
 use Rattle.models.proofs.groups.residual.Tie as tie
 
@@ -18,13 +19,8 @@ Inv-loop list counts m p resid₀ k₀ k-end resid k = (k ≤ length list) × (k
 abbrev μ-loop : tie.MeasureT-loop
 μ-loop list counts m p resid₀ k₀ k-end resid k = k-end - k
 
--- place k lies within the list and its counts, and its group within m and p
-group : (c : tie.In-loop Inv-loop μ-loop) → let a = c .before .before .args in let k = c .before .loop .k in
-    (k < length (now (a .list))) × (k < length (now (a .counts))) × (getD (now (a .list)) k 0 < length (now (a .m))) × (length (now (a .m)) ≤ length (now (a .p)))
-group c =
-    let pre = c .before .before .pre in
-    let within : c .before .loop .k < length (now (c .before .before .args .list)) = omega (arith, c .loop-test .taken, c .before .loop .inv .1) in
-    (within, omega (arith, within, pre .0 .counted), pre .0 .below _ within, pre .1)
+group : (c : tie.In-loop Inv-loop μ-loop) → let a = c .before .before .args in PairedAt (length (now (a .m))) (now (a .list)) (now (a .counts)) (c .before .loop .k)
+group c = paired-at (c .before .before .pre .0) (omega (arith, c .loop-test .taken, c .before .loop .inv .1)) (omega arith)
 
 loop-again : tie.Need-loop-again Inv-loop μ-loop
 loop-again c = let inv = c .before .before .before .before .before .loop .inv in (omega (arith, group (c .before .before .before .before)), inv .1, sum-more _ _ (inv .2) refl)

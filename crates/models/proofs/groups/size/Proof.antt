@@ -1,6 +1,6 @@
 -- The sum of count·s over a list, whose groups lie below the length of s.
 use mathlib.Core.Path.{_≡_, refl}
-use Prim.Native.Nat.{_-_, _<_, _≤_}
+use Prim.Native.Nat.{_-_, _≤_}
 use native.Mathlib.Omega.{arith}
 use denote.Ref.{now}
 use lib.ListN.{length, getD}
@@ -9,6 +9,7 @@ use Rattle.arithmetic.specs.Sums.{sum}
 use Rattle.arithmetic.specs.Floats.{_⊗_}
 use Rattle.arithmetic.proofs.SumLaws.{sum-none, sum-more, sum-done}
 use Rattle.models.specs.Unifac as Unifac
+use Rattle.models.proofs.GroupListLaws.{PairedAt, paired-at}
 use Rattle.models.proofs.groups.size.Statement.{statement}
 use Rattle.models.proofs.groups.size.Tie as tie
 
@@ -18,13 +19,8 @@ Inv-loop list counts s r-i₀ p₀ p-end r-i p = (p ≤ length list) × (p-end �
 abbrev μ-loop : tie.MeasureT-loop
 μ-loop list counts s r-i₀ p₀ p-end r-i p = p-end - p
 
--- place p lies within the list and its counts, and its group within s
-group : (c : tie.In-loop Inv-loop μ-loop) → let a = c .before .before .args in let p = c .before .loop .p in
-    (p < length (now (a .list))) × (p < length (now (a .counts))) × (getD (now (a .list)) p 0 < length (now (a .s)))
-group c =
-    let pre = c .before .before .pre in
-    let within : c .before .loop .p < length (now (c .before .before .args .list)) = omega (arith, c .loop-test .taken, c .before .loop .inv .1) in
-    (within, omega (arith, within, pre .counted), pre .below _ within)
+group : (c : tie.In-loop Inv-loop μ-loop) → let a = c .before .before .args in PairedAt (length (now (a .s))) (now (a .list)) (now (a .counts)) (c .before .loop .p)
+group c = paired-at (c .before .before .pre) (omega (arith, c .loop-test .taken, c .before .loop .inv .1)) (omega arith)
 
 loop-again : tie.Need-loop-again Inv-loop μ-loop
 loop-again c = let inv = c .before .before .before .before .loop .inv in (omega (arith, group (c .before .before .before)), inv .1, sum-more _ _ (inv .2) refl)
