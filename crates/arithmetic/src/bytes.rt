@@ -50,7 +50,7 @@ pub fn float_at(s: &[u8], at: usize) -> f64
 }
 
 // Puts the n floats from a place on at the start of a slice.
-pub fn fill_floats(a: &mut [f64], s: &[u8], at: usize, n: usize)
+pub fn fill_floats(n: usize, s: &[u8], at: usize, a: &mut [f64])
     requires { ⌜ (n ≤ length (now a)) × (at + 8 * n ≤ length (now s)) ⌝ }
     ensures { λ _. ⌜ (n ≡ length (take n (now (a .exit))))
         × (take n (now (a .exit)) ≡ floatsAt (now (s .entry)) at n) ⌝ }

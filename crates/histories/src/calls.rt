@@ -172,7 +172,7 @@ pub fn call(
     let floats_at = first + r.second;
     let count = r.floats;
     let mut floats = [0.0; 7000];
-    fill_floats(&mut floats[..], rows, floats_at, count);
+    fill_floats(count, rows, floats_at, &mut floats[..]);
     on_parts(
         r,
         &rows[..first],

@@ -29,8 +29,8 @@ fn put_memory(rows: &[u8], values: &mut [f64], cells: &mut [f64], marks: &mut [u
         × (1100 ≤ length (now cells)) ⌝ }
 {
     calls::put_bytes(marks, rows);
-    fill_floats(values, rows, 1100, 5400);
-    fill_floats(cells, rows, 44300, 1100);
+    fill_floats(5400, rows, 1100, values);
+    fill_floats(1100, rows, 44300, cells);
 }
 
 // What a record and its rows bring about.

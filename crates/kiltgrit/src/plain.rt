@@ -82,7 +82,7 @@ fn call_with(
         return Answer::Refused(fault);
     }
     let mut f = [0.0; COMPONENTS];
-    bytes::fill_floats(&mut f[..], x, 0, n);
+    bytes::fill_floats(n, x, 0, &mut f[..]);
     Answer::Value(value_at(model, n, ng, lens, groups, values, t, &f[..n], q))
 }
 
@@ -114,7 +114,7 @@ fn call(
         return Answer::Refused(2);
     }
     let mut v = [0.0; VALUES];
-    bytes::fill_floats(&mut v[..], values, 0, count);
+    bytes::fill_floats(count, values, 0, &mut v[..]);
     let model = model_numbered(model as usize);
     call_with(model, n, ng, lens, groups, &v[..count], t, x, q)
 }

@@ -341,9 +341,9 @@ pub extern "C" fn kiltgrit_repeat(
         return 0.0;
     }
     let mut given = [0.0; VALUES];
-    bytes::fill_floats(&mut given[..], values, 0, count);
+    bytes::fill_floats(count, values, 0, &mut given[..]);
     let mut fractions = [0.0; COMPONENTS];
-    bytes::fill_floats(&mut fractions[..], x, 0, parts);
+    bytes::fill_floats(parts, x, 0, &mut fractions[..]);
     repeat(
         model_of(model),
         n,

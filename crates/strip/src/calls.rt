@@ -45,11 +45,11 @@ fn load(s: &[u8], r: Rec, values: &mut [f64], cells: &[f64], marks: &mut [u8], h
     let body = r.body;
     let k = r.floats;
     let mut given = [0.0; 8192];
-    fill_floats(&mut given, s, body, k);
+    fill_floats(k, s, body, &mut given);
     let mut lens = [0u8; 256];
     let mut groups = [0u8; 5461];
     let at = body + 8 * k;
-    let met = fill_lists(&mut lens, &mut groups, &mut given, k, s, at, r.lists);
+    let met = fill_lists(r.lists, s, at, k, &mut lens, &mut groups, &mut given);
     let n = met.lists;
     let m = met.groups;
     let e = k + m;
@@ -92,7 +92,7 @@ pub fn make(
     let body = r.body;
     let k = r.floats;
     let mut given = [0.0; 256];
-    fill_floats(&mut given, s, body, k);
+    fill_floats(k, s, body, &mut given);
     if kind == 6 {
         return mixture::fractions::fractions(
             &values[..],

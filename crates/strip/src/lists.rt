@@ -106,13 +106,13 @@ fn store_float(a: &mut [f64], k: usize, m: usize, v: f64)
 // Stores the lengths of n lists in `lens`, their groups in `groups`, and their counts in `a` from place k on,
 // as far as there is room, up to the first word that is missing.
 pub fn fill_lists(
+    n: usize,
+    s: &[u8],
+    at: usize,
+    k: usize,
     lens: &mut [u8],
     groups: &mut [u8],
     a: &mut [f64],
-    k: usize,
-    s: &[u8],
-    at: usize,
-    n: usize,
 ) -> Met
     ensures { λ r. ⌜ Stored (listsAt (now (s .entry)) n at) k r
         (now (lens .entry)) (now (groups .entry)) (now (a .entry))

@@ -10,10 +10,10 @@ use Rattle.arithmetic.proofs.bytes.fill_floats.Statement.{statement}
 use Rattle.arithmetic.proofs.bytes.fill_floats.Tie as tie
 
 abbrev Inv-loop : tie.InvT-loop
-Inv-loop a₀ s at n k₀ a k = (k ≤ n) × (length a ≡ length a₀) × (take k a ≡ floatsAt s at k)
+Inv-loop n s at a₀ k₀ a k = (k ≤ n) × (length a ≡ length a₀) × (take k a ≡ floatsAt s at k)
 
 abbrev μ-loop : tie.MeasureT-loop
-μ-loop a₀ s at n k₀ a k = n - k
+μ-loop n s at a₀ k₀ a k = n - k
 
 loop-holds : tie.Need-loop-holds Inv-loop μ-loop
 unfolding floatsAt

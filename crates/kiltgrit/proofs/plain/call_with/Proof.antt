@@ -23,7 +23,7 @@ fill-floats-requires : tie.Need-fill-floats-requires
 fill-floats-requires c κs = let ready = c .before .before .before .before .data-fault .ensures .1 (c .before .before .before .if1 .left) in (ready .few, omega (arith, c .before .before .fractions-fault .ensures .1 (c .before .if2 .left) .0))
 
 array-share-prefix-f : tie.Need-array-share-prefix-f
-array-share-prefix-f c = omega (arith, c .before .before .before .before .before .before .data-fault .ensures .1 (c .before .before .before .before .before .if1 .left) .few, c .before .fill-floats .kept .0)
+array-share-prefix-f c = omega (arith, c .before .before .before .before .before .before .data-fault .ensures .1 (c .before .before .before .before .before .if1 .left) .few, c .before .fill-floats .kept .1 .1 .1 .0)
 
 value-at-requires : tie.Need-value-at-requires
 value-at-requires c κs =

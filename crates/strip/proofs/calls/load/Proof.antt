@@ -28,10 +28,10 @@ stored c = c .before .before .before .before .before .before .before .before
 fit : (c : tie.Else1) → Fitting (start c .args .s .now) (start c .args .r)
 fit c = fitting _ _ (omega arith) (omega arith) (sym (c .before .does-fit .ensures) ∙ not-false _ (c .if1 .left))
 
-room : (c : tie.After-fill-lists) → Room (start (passed (filled c)) .args .r) (c .fill-lists .result) (c .fill-lists .last .0) (c .fill-lists .last .1 .0) (c .fill-lists .last .1 .1 .0)
+room : (c : tie.After-fill-lists) → Room (start (passed (filled c)) .args .r) (c .fill-lists .result) (c .fill-lists .last .1 .1 .1 .1 .0) (c .fill-lists .last .1 .1 .1 .1 .1 .0) (c .fill-lists .last .1 .1 .1 .1 .1 .1 .0)
 room c =
-    let k = c .fill-lists .kept in
-    has-room (fit (passed (filled c))) (omega arith) (c .fill-lists .ensures) (k .0) (k .1 .0) (k .1 .1 .0 ∙ filled c .fill-floats .kept .0)
+    let k = c .fill-lists .kept .1 .1 .1 .1 in
+    has-room (fit (passed (filled c))) (omega arith) (c .fill-lists .ensures) (k .0) (k .1 .0) (k .1 .1 .0 ∙ filled c .fill-floats .kept .1 .1 .1 .0)
 
 returns : tie.Need-returns
 returns c = made-none _ (c .before .before .before .before .before .before .args .r) _ _ _ (sym (c .before .does-fit .ensures) ∙ not-true _ (c .if1 .taken))

@@ -71,7 +71,7 @@ make-spec =
     returns-2
     (λ c. search needs)
     (λ c κs. (omega (arith, few (c .before)), fit (c .before) .floats))
-    (λ c. let f = filled (c .before .before .before .before) in omega (arith, few (passed f), f .fill-floats .kept .0))
+    (λ c. let f = filled (c .before .before .before .before) in omega (arith, few (passed f), f .fill-floats .kept .1 .1 .1 .0))
     (λ c. search needs)
     (λ c κs. tt)
     (λ c. search needs)
@@ -87,7 +87,7 @@ make-spec =
     (λ c. search needs)
     returns-4
     (λ c. search needs)
-    (λ c κs. omega (arith, filled (other (c .before .before) .before) .fill-floats .kept .0))
+    (λ c κs. omega (arith, filled (other (c .before .before) .before) .fill-floats .kept .1 .1 .1 .0))
     (λ c κs. tt)
     (λ c κs. tt)
     (λ c. search needs)

@@ -11,11 +11,11 @@ use Rattle.strip.proofs.lists.fill_lists.Statement.{statement}
 use Rattle.strip.proofs.lists.fill_lists.Tie as tie
 
 abbrev Inv-loop : tie.InvT-loop
-Inv-loop lens₀ groups₀ a₀ k s at n place₀ lists₀ pairs₀ filled₀ lens groups a place lists pairs filled =
+Inv-loop n s at k lens₀ groups₀ a₀ place₀ lists₀ pairs₀ filled₀ lens groups a place lists pairs filled =
     (lists ≤ n) × (filled ≤ place) × Storing (listsAt s n at) k lens₀ groups₀ a₀ (ahead s (n - lists) pairs place) lists filled lens groups a
 
 abbrev μ-loop : tie.MeasureT-loop
-μ-loop lens₀ groups₀ a₀ k s at n place₀ lists₀ pairs₀ filled₀ lens groups a place lists pairs filled = length s - place
+μ-loop n s at k lens₀ groups₀ a₀ place₀ lists₀ pairs₀ filled₀ lens groups a place lists pairs filled = length s - place
 
 -- ---- places: the start of the turn and of the function, from the test of a kind 12 and of a kind 13
 
