@@ -13,7 +13,7 @@ use Rattle.mixture.specs.declared.answers.Answer.{Answer}
 use Rattle.mixture.specs.declared.answers.Reply.{Reply}
 use Rattle.mixture.specs.Answers.{numberOf}
 use Rattle.mixture.specs.Memory.{Memory, After, after}
-use Rattle.models.specs.Model.{modelOf}
+use Rattle.models.specs.Model.{modelOf, modelData}
 use Rattle.kiltgrit.specs.declared.border.CHead.{CHead}
 use Rattle.kiltgrit.specs.declared.border.CReply.{CReply}
 use Rattle.kiltgrit.specs.declared.border.CAnswer.{CAnswer}
@@ -36,7 +36,7 @@ unfolding answerOf
 answer-is a e f g = rw (e, f, g)
 
 pub load-is : (model form n : ℕ) {ng : ℕ} {lens groups : List ℕ} {given : List Float} {d : Model} {k : ℕ} → d ≡ modelOf model → k ≡ knownN model form n
-    → record { model = d; n = k; ng = ng; lens = lens; groups = groups; values = given } ≡ loadOf model form n ng lens groups given
+    → modelData d k ng lens groups given ≡ loadOf model form n ng lens groups given
 load-is model form n e f = rw (e, f)
 
 -- a call f of the head that crossed and of an argument; of the head alone; and one that gives the answer alone

@@ -23,7 +23,7 @@ use Rattle.models.specs.declared.model.Model.the-variants.{Wilson, Uniquac, Nrt
 use Rattle.mixture.specs.declared.setting.Setting.{Setting}
 use Rattle.mixture.specs.declared.setting.Setting.the-variants.{Temperature, Entry, TdEntry, Size, Count}
 use Rattle.mixture.specs.Holdings.{held, entries, tdEntries, sizes}
-use Rattle.models.specs.Model.{ModelData, byModel, sizeOf}
+use Rattle.models.specs.Model.{ModelData, modelData, byModel, sizeOf}
 use Rattle.mixture.specs.Faults.{below, hasEntry, hasTdEntry, hasSize, hasCount, caseFault}
 use Rattle.mixture.specs.Layout.{place, numbers}
 use Rattle.mixture.proofs.ListLaws.{never}
@@ -172,7 +172,7 @@ module _ (d : ModelData) where
 
   -- the same sizes and values for a model k; D (d .model) is d
   abbrev pub D : Model → ModelData
-  D k = record { model = k; n = n; ng = ng; lens = lens; groups = d .groups; values = v }
+  D k = modelData k n ng lens (d .groups) v
 
   entry-bounds : (k : Model) (i j : ℕ) (a : Float) → hasEntry (held (D k)) i j ≡ true
       → (byModel k 0 0 (n * n * 5) 0 ≤ place (D k) (Entry i j a))

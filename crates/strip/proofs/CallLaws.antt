@@ -19,7 +19,7 @@ use Rattle.mixture.specs.declared.setting.Setting.{Setting}
 use Rattle.mixture.specs.declared.setting.Setting.the-variants.{Temperature, Entry, TdEntry, Size, Count}
 use Rattle.mixture.specs.declared.answers.Answer.the-variants.{Refused}
 use Rattle.mixture.specs.Memory.{Memory, After, after}
-use Rattle.models.specs.Model.{modelOf}
+use Rattle.models.specs.Model.{modelOf, modelData}
 use Rattle.mixture.specs.Book.{Call, Load}
 use Rattle.mixture.specs.Calls.{afterLoad, afterSetting, afterFractions, afterQuery}
 use Rattle.mixture.specs.History.{afterCall}
@@ -75,7 +75,7 @@ stored-whole t l l′ e f h = put-whole (record { long = e; text = f }) (omega (
 
 -- the buffers of a load hold the definition's lists and floats
 pub load-is : {s : List ℕ} {r : Rec} → Fitting s r → (m : Memory) (h : Head) {x : After} {k : Model} {met : Met} {ls gs ls′ gs′ : List ℕ} {a a′ : List Float}
-    → x ≡ afterLoad m h (record { model = k; n = r .i; ng = r .j; lens = take (met .lists) ls′; groups = take (met .groups) gs′; values = take (r .floats + met .groups) a′ })
+    → x ≡ afterLoad m h (modelData k (r .i) (r .j) (take (met .lists) ls′) (take (met .groups) gs′) (take (r .floats + met .groups) a′))
     → k ≡ modelOf (r .kind) → take (r .floats) a ≡ floatsOf s r → Stored (listsOf s r) (r .floats) met ls gs a ls′ gs′ a′ → Room r met ls′ gs′ a′
     → x ≡ made s r m h (Load (dataOf s r))
 unfolding afterCall

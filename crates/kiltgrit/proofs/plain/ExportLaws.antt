@@ -22,7 +22,7 @@ use Rattle.models.specs.declared.model.Model.the-variants.{Wilson, Uniquac, Nrt
 use Rattle.models.specs.Answers.{numberOf, answer, first}
 use Rattle.models.specs.Faults.{tolerance, sumFault, compositionFault, mixFault, indexFault, fractionsFault}
 use Rattle.models.specs.Faults.{between, shapeFault, allTo, listsFault, unifacFault, dataFault}
-use Rattle.models.specs.Model.{modelOf, ModelData}
+use Rattle.models.specs.Model.{modelOf, ModelData, modelData}
 use Rattle.models.specs.Plain.{valueAt, plainCall}
 use Rattle.models.specs.Values.{wilsonSize, uniquacSize, nrtlSize, countsAt, start, unifacSize}
 use Rattle.models.proofs.AnswerLaws.{first-left, first-right, answer-refused}
@@ -161,7 +161,7 @@ rest-long d T x q h =
 
 module _ (m n ng : ℕ) (lens groups values : List ℕ) (T : Float) (x : List ℕ) (q : Quantity) where
   abbrev named : ModelData
-  named = record { model = modelOf m; n = n; ng = ng; lens = lens; groups = groups; values = floats values }
+  named = modelData (modelOf m) n ng lens groups (floats values)
 
   pub exported-rest : (length values % 8 ≡ 0 → ⊥) → Refused 2 ≡ exported m n ng lens groups values T x q
   unfolding exported

@@ -19,15 +19,14 @@ use Rattle.models.specs.Values.{fiveAt, countsAt, start, lists}
 use Rattle.mixture.specs.declared.setting.Setting.{Setting}
 use Rattle.mixture.specs.declared.setting.Setting.the-variants.{Temperature, Entry, TdEntry, Size, Count}
 use Rattle.mixture.specs.Holdings.{held, entries, tdEntries, sizes}
-use Rattle.models.specs.Model.{ModelData, sizeOf}
+use Rattle.models.specs.Model.{ModelData, modelData, sizeOf}
 use Rattle.mixture.specs.Faults.{hasEntry, hasTdEntry, hasSize, hasCount, caseFault}
 use Rattle.mixture.specs.Layout.{place, numbers}
 use Rattle.mixture.specs.Book.{replaced, setIn}
 use Rattle.mixture.proofs.PlaceLaws.{both, had, at-set, Away, at-away, five-away, five-within, entry-reads, td-reads, size-reads, count-reads, entry-places, size-places, count-places, td-places, td-entry, entry-size, size-td, td-count, size-count, entry-count, entry-in, td-in, size-in, count-in}
 
 abbrev pub stored : ModelData → Setting → ModelData
-stored d s =
-    record { model = d .model; n = d .n; ng = d .ng; lens = d .lens; groups = d .groups; values = sets (d .values) (place d s) (numbers s) }
+stored d s = modelData (d .model) (d .n) (d .ng) (d .lens) (d .groups) (sets (d .values) (place d s) (numbers s))
 
 module _ (d : ModelData) (room : sizeOf d ≤ length (d .values)) where
   -- ---- a store that doesn't reach a name leaves it

@@ -17,7 +17,7 @@ use Rattle.mixture.specs.declared.setting.Setting.{Setting}
 use Rattle.mixture.specs.declared.setting.Setting.the-variants.{Temperature}
 use Rattle.mixture.specs.declared.answers.Answer.{Answer}
 use Rattle.models.specs.Answers.{quantityOf}
-use Rattle.models.specs.Model.{ModelData, modelOf}
+use Rattle.models.specs.Model.{ModelData, modelData, modelOf}
 use Rattle.mixture.specs.Memory.{Memory, memory, After, after}
 use Rattle.mixture.specs.Calls.{noHead, afterOpen, afterLoad, afterSetting, afterFractions, afterQuery}
 use Rattle.models.specs.Plain.{plainCall}
@@ -121,7 +121,7 @@ kept-is n change k v q T d x {h = h} hh p e =
 pub bytes-are : (model n ng : ℕ) (lens groups values x : List ℕ) (asked i change : ℕ) (v : Float) (temperatures : List ℕ) {k : Model} {l y : List Float} {q : Quantity} {r : Float} →
     length values / 8 ≤ 5328 → length x / 8 ≤ 12 → 8 ≤ length temperatures →
     k ≡ modelOf model → l ≡ floatsAt values 0 (length values / 8) → y ≡ floatsAt x 0 (length x / 8) → q ≡ quantityOf asked i →
-    r ≡ repeated (length temperatures / 8) (record { model = k; n = n; ng = ng; lens = lens; groups = groups; values = l }) y q change v (λ j. floatAt temperatures (8 * j)) →
+    r ≡ repeated (length temperatures / 8) (modelData k n ng lens groups l) y q change v (λ j. floatAt temperatures (8 * j)) →
     r ≡ repeatedBytes model n ng lens groups values x asked i change v temperatures
 unfolding repeatedBytes floats
 bytes-are model n ng lens groups values x asked i change v temperatures a b c km el ey eq p =

@@ -2,7 +2,7 @@
 use mathlib.Core.Path.{_≡_, refl, sym, _∙_}
 use denote.Ref.{now}
 use borrow.Author.Needs.{needs}
-use Rattle.models.specs.Model.{ModelData}
+use Rattle.models.specs.Model.{ModelData, modelData}
 use Rattle.models.specs.Faults.{dataFault}
 use Rattle.mixture.specs.Memory.{Memory, memory}
 use Rattle.mixture.specs.Faults.{memoryFault}
@@ -17,16 +17,7 @@ abbrev memOf : tie.After-memory-fault → Memory
 memOf c = let a = entry c .args in memory (a .values .now) (now (a .cells)) (a .marks .now)
 
 abbrev dataOf : tie.After-memory-fault → ModelData
-dataOf c =
-    let a = entry c .args in
-    record {
-      model = a .model;
-      n = a .n;
-      ng = a .ng;
-      lens = now (a .lens);
-      groups = now (a .groups);
-      values = now (a .given);
-    }
+dataOf c = let a = entry c .args in modelData (a .model) (a .n) (a .ng) (now (a .lens)) (now (a .groups)) (now (a .given))
 
 long : (c : tie.Else1) → memoryFault (memOf (c .before)) ≡ 0
 unfolding memoryFault

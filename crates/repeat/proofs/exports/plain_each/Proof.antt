@@ -6,7 +6,7 @@ use borrow.Author.Needs.{needs}
 use lib.ListN.{length}
 use lib.Ieee.{Float}
 use denote.Ref.{now}
-use Rattle.models.specs.Model.{ModelData}
+use Rattle.models.specs.Model.{ModelData, modelData}
 use Rattle.arithmetic.specs.Bytes.{floatAt}
 use Rattle.models.specs.Plain.{plainCall}
 use Rattle.repeat.specs.Exports.{plainValue, plainTurns}
@@ -15,14 +15,13 @@ use Rattle.repeat.proofs.exports.plain_each.Statement.{statement}
 use Rattle.repeat.proofs.exports.plain_each.Tie as tie
 
 abbrev Inv-loop : tie.InvT-loop
-Inv-loop model n ng lens groups given temperatures x q last₀ k₀ k-end last k = (k ≤ length temperatures / 8) × (last ≡ plainTurns k (record { model = model; n = n; ng = ng; lens = lens; groups = groups; values = given }) x q (λ j. floatAt temperatures (8 * j)))
+Inv-loop model n ng lens groups given temperatures x q last₀ k₀ k-end last k = (k ≤ length temperatures / 8) × (last ≡ plainTurns k (modelData model n ng lens groups given) x q (λ j. floatAt temperatures (8 * j)))
 
 abbrev μ-loop : tie.MeasureT-loop
 μ-loop model n ng lens groups given temperatures x q last₀ k₀ k-end last k = length temperatures / 8 - k
 
 abbrev given-data : tie.Start Inv-loop μ-loop → ModelData
-given-data s =
-    record { model = s .args .model; n = s .args .n; ng = s .args .ng; lens = now (s .args .lens); groups = now (s .args .groups); values = now (s .args .given) }
+given-data s = let a = s .args in modelData (a .model) (a .n) (a .ng) (now (a .lens)) (now (a .groups)) (now (a .given))
 
 loop-holds : tie.Need-loop-holds Inv-loop μ-loop
 loop-holds c = (omega arith, plain-none _ _ _ _)
