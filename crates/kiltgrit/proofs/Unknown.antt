@@ -1,16 +1,16 @@
 -- A model, form, kind or quantity that means nothing becomes an n or an index that no model has: a head that passes has at most 12
 -- components and 32 groups.
 use mathlib.Core.Path.{_≡_, refl, sym, ap, _∙_}
-use mathlib.Core.Bool.{Bool, true, false, _||_}
+use mathlib.Core.Bool.{false}
 use mathlib.Core.Logic.{inl, inr}
 use Prim.Native.Nat.{ℕ, _≤_, _<_}
 use native.Mathlib.Omega.{arith}
 use lib.Dec.{eqb, leb, ltb}
-use borrow.Author.Tests.{eqb-true, eq-eqb, ne-eqb, le-leb, leb-false, le-ltb, ltb-false}
+use borrow.Author.Tests.{eqb-true, leb-false, le-ltb}
 use Rattle.arithmetic.specs.Floats.{+0}
-use Rattle.arithmetic.proofs.Tests.{either, le-or}
+use Rattle.arithmetic.proofs.Tests.{either}
 use Rattle.models.specs.Answers.{first}
-use Rattle.models.specs.Faults.{indexFault, between, shapeFault, listsFault, unifacFault, dataFault}
+use Rattle.models.specs.Faults.{indexFault, shapeFault, listsFault, unifacFault, dataFault}
 use Rattle.models.specs.Model.{ModelData}
 use Rattle.models.specs.declared.answers.Quantity.the-variants.{LnGamma}
 use Rattle.mixture.specs.declared.head.Head.{Head}
@@ -23,12 +23,11 @@ use Rattle.mixture.specs.Faults.{caseFault, hasSize}
 use Rattle.mixture.specs.Memory.{Memory}
 use Rattle.mixture.specs.Layout.{dataIn}
 use Rattle.mixture.specs.Faults.{memoryFault, headFault, readyFault, loadFault, settingFault, queryFault}
-use Rattle.mixture.proofs.ListLaws.{never}
 use Rattle.mixture.proofs.CallLaws.{head-passed, ready-passed}
 use Rattle.mixture.proofs.history.RangeLaws.{Bounds}
 use Rattle.kiltgrit.specs.declared.arguments.CSetting.{CSetting}
-use Rattle.kiltgrit.specs.Arguments.{noIndex, knownN, loadOf, settingOf, quantityAsked}
-use Rattle.kiltgrit.specs.Unknown.{UnknownModel, isKind, UnknownKind, UnknownAsked}
+use Rattle.kiltgrit.specs.Arguments.{noIndex, knownN, loadOf, isKind, settingOf, quantityAsked}
+use Rattle.kiltgrit.specs.Unknown.{UnknownModel, UnknownKind, UnknownAsked}
 
 -- ---- the model
 
@@ -73,18 +72,9 @@ no-size d b = go (d .model) refl
     go Nrtl e = rw e refl
     go Unifac e = let h : d .ng ≤ 32 = rw e at (b .wide .1) in rw (e, far h) refl
 
-neither : (a b : Bool) → (a || b) ≡ false → (a ≡ false) × (b ≡ false)
-neither true b h = never h
-neither false b h = (refl, h)
-
 unknown-setting : (s : CSetting) → isKind (s .kind) ≡ false → settingOf s ≡ Size noIndex 0 +0
 unfolding settingOf
-unknown-setting s u =
-    let a = neither (eqb (s .kind) 5 || eqb (s .kind) 7 || eqb (s .kind) 8 || eqb (s .kind) 9) (eqb (s .kind) 10) u in
-    let b = neither (eqb (s .kind) 5 || eqb (s .kind) 7 || eqb (s .kind) 8) (eqb (s .kind) 9) (a .0) in
-    let c = neither (eqb (s .kind) 5 || eqb (s .kind) 7) (eqb (s .kind) 8) (b .0) in
-    let d = neither (eqb (s .kind) 5) (eqb (s .kind) 7) (c .0) in
-    rw (d .0, d .1, c .1, b .1, a .1) refl
+unknown-setting s u = rw u
 
 pub unknown-kind : UnknownKind
 unfolding settingFault

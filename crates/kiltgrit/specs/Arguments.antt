@@ -1,19 +1,20 @@
 -- C's numbers. One that means nothing becomes an index or an n that no model has, so that it is declined in that argument's own
 -- place.
-use mathlib.Core.Bool.{_&&_, cond}
+use mathlib.Core.Bool.{Bool, _&&_, _||_, cond}
 use mathlib.Core.List.{List}
 use Prim.Native.Nat.{ℕ}
 use lib.Dec.{ltb, eqb}
 use lib.Ieee.{Float}
 use Rattle.arithmetic.specs.Floats.{+0}
-use Rattle.arithmetic.specs.Tables.{at}
 use Rattle.models.specs.declared.answers.Quantity.{Quantity}
 use Rattle.models.specs.declared.answers.Quantity.the-variants.{LnGamma}
 use Rattle.models.specs.Answers.{quantityOf}
 use Rattle.mixture.specs.declared.setting.Setting.{Setting}
-use Rattle.mixture.specs.declared.setting.Setting.the-variants.{Temperature, Entry, TdEntry, Size, Count}
+use Rattle.mixture.specs.declared.setting.Setting.the-variants.{Size}
 use Rattle.models.specs.Faults.{between}
 use Rattle.models.specs.Model.{modelOf, ModelData, modelData}
+use Rattle.models.specs.Values.{fiveAt}
+use Rattle.strip.specs.Calls.{settingOf as settingOfKind}
 use Rattle.kiltgrit.specs.declared.arguments.CSetting.{CSetting}
 
 -- 2^64 - 1
@@ -32,11 +33,9 @@ knownN model form n = cond (between 1 4 model && eqb form 0) n 0
 abbrev pub loadOf : ℕ → ℕ → ℕ → ℕ → List ℕ → List ℕ → List Float → ModelData
 loadOf model form n ng lens groups given = modelData (modelOf model) (knownN model form n) ng lens groups given
 
--- by the strip's kinds
+-- a kind of the strip's that is a setting
+abbrev pub isKind : ℕ → Bool
+isKind k = eqb k 5 || eqb k 7 || eqb k 8 || eqb k 9 || eqb k 10
+
 unfoldable pub settingOf : CSetting → Setting
-settingOf s =
-    cond (eqb (s .kind) 5) (Temperature (at (s .v) 0))
-    (cond (eqb (s .kind) 7) (Entry (s .i) (s .j) (at (s .v) 0))
-    (cond (eqb (s .kind) 8) (TdEntry (s .i) (s .j) (record { a = at (s .v) 0; b = at (s .v) 1; c = at (s .v) 2; d = at (s .v) 3; e = at (s .v) 4 }))
-    (cond (eqb (s .kind) 9) (Size (s .i) (s .j) (at (s .v) 0))
-    (cond (eqb (s .kind) 10) (Count (s .i) (s .j) (at (s .v) 0)) (Size noIndex 0 +0)))))
+settingOf s = cond (isKind (s .kind)) (settingOfKind (s .kind) (s .i) (s .j) (fiveAt (s .v) 0)) (Size noIndex 0 +0)

@@ -1,7 +1,7 @@
 -- A model, form, kind or quantity that means nothing is declined in its own place: after what is judged before it, by the number
 -- that document 01 has for an argument out of range there.
 use mathlib.Core.Path.{_≡_}
-use mathlib.Core.Bool.{Bool, false, _&&_, _||_}
+use mathlib.Core.Bool.{false, _&&_}
 use mathlib.Core.List.{List}
 use Prim.Native.Nat.{ℕ}
 use lib.Dec.{eqb, leb}
@@ -12,15 +12,12 @@ use Rattle.mixture.specs.declared.head.Head.{Head}
 use Rattle.mixture.specs.Memory.{Memory}
 use Rattle.mixture.specs.Faults.{memoryFault, headFault, readyFault, loadFault, settingFault, queryFault}
 use Rattle.kiltgrit.specs.declared.arguments.CSetting.{CSetting}
-use Rattle.kiltgrit.specs.Arguments.{loadOf, settingOf, quantityAsked}
+use Rattle.kiltgrit.specs.Arguments.{loadOf, isKind, settingOf, quantityAsked}
 
 -- 1, then 2
 abbrev pub UnknownModel : Type 0
 UnknownModel = (m : Memory) (model form n ng : ℕ) (lens groups : List ℕ) (given : List Float) → between 1 4 model && eqb form 0 ≡ false
     → loadFault m (loadOf model form n ng lens groups given) ≡ first (memoryFault m) 2
-
-abbrev pub isKind : ℕ → Bool
-isKind k = eqb k 5 || eqb k 7 || eqb k 8 || eqb k 9 || eqb k 10
 
 -- 1 or 8, then 10
 abbrev pub UnknownKind : Type 0

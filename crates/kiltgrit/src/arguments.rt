@@ -1,7 +1,7 @@
 // What is asked, set and loaded, by C's numbers. A number that means nothing becomes an index or an n that no
 // model has, so that the call declines it in that argument's own place.
 ghost use mathlib.Core.Path.{_≡_};
-ghost use Rattle.kiltgrit.specs.Arguments.{knownN, settingOf, quantityAsked};
+ghost use Rattle.kiltgrit.specs.Arguments.{knownN, isKind, settingOf, quantityAsked};
 use arithmetic::TdParam;
 use mixture::Setting;
 use models::Quantity;
@@ -45,31 +45,33 @@ pub fn known_n(model: u32, form: u32, n: usize) -> usize
     n
 }
 
+// Whether a kind of the strip's is a setting.
+fn is_kind(kind: u32) -> bool
+    ensures { λ r. ⌜ r ≡ isKind kind ⌝ }
+{
+    match kind {
+        5 => true,
+        7 => true,
+        8 => true,
+        9 => true,
+        10 => true,
+        _ => false,
+    }
+}
+
 pub fn setting_of(s: CSetting) -> Setting
     ensures { λ r. ⌜ r ≡ settingOf s ⌝ }
 {
-    let v = s.v;
-    if s.kind == 5 {
-        return Setting::Temperature(v[0]);
-    }
-    if s.kind == 7 {
-        return Setting::Entry(s.i, s.j, v[0]);
-    }
-    if s.kind == 8 {
-        let p = TdParam {
+    if is_kind(s.kind) {
+        let v = s.v;
+        let five = TdParam {
             a: v[0],
             b: v[1],
             c: v[2],
             d: v[3],
             e: v[4],
         };
-        return Setting::TdEntry(s.i, s.j, p);
-    }
-    if s.kind == 9 {
-        return Setting::Size(s.i, s.j, v[0]);
-    }
-    if s.kind == 10 {
-        return Setting::Count(s.i, s.j, v[0]);
+        return strip::setting_of(s.kind as usize, s.i, s.j, five);
     }
     Setting::Size(NO_INDEX, 0, 0.0)
 }

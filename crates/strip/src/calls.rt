@@ -18,7 +18,7 @@ use models::model::model_numbered;
 use models::parameters::five_at;
 
 // The setting of a kind, by its first floats: a td entry takes five, another setting one.
-fn setting_of(kind: usize, i: usize, j: usize, five: TdParam) -> Setting
+pub fn setting_of(kind: usize, i: usize, j: usize, five: TdParam) -> Setting
     ensures { λ q. ⌜ q ≡ settingOf kind i j five ⌝ }
 {
     match kind {

@@ -7,4 +7,5 @@ pub mod run;
 mod text;
 mod words;
 
+pub use calls::setting_of;
 pub use words::MOST_BYTES;
