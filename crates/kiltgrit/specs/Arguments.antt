@@ -11,8 +11,7 @@ use Rattle.models.specs.declared.answers.Quantity.the-variants.{LnGamma}
 use Rattle.models.specs.Answers.{quantityOf}
 use Rattle.mixture.specs.declared.setting.Setting.{Setting}
 use Rattle.mixture.specs.declared.setting.Setting.the-variants.{Size}
-use Rattle.models.specs.Faults.{between}
-use Rattle.models.specs.Model.{modelOf, ModelData, modelData}
+use Rattle.models.specs.Model.{modelOf, isModel, ModelData, modelData}
 use Rattle.models.specs.Values.{fiveAt}
 use Rattle.strip.specs.Calls.{settingOf as settingOfKind}
 use Rattle.kiltgrit.specs.declared.arguments.CSetting.{CSetting}
@@ -25,9 +24,9 @@ noIndex = 18446744073709551615
 unfoldable pub quantityAsked : ℕ → ℕ → Quantity
 quantityAsked asked i = cond (ltb asked 3) (quantityOf asked i) (LnGamma noIndex)
 
--- n, where the model is from 1 to 4 and the form, which is kept for later, is 0
+-- n, where there is such a model and the form, which is kept for later, is 0
 unfoldable pub knownN : ℕ → ℕ → ℕ → ℕ
-knownN model form n = cond (between 1 4 model && eqb form 0) n 0
+knownN model form n = cond (isModel model && eqb form 0) n 0
 
 -- what a load brings
 abbrev pub loadOf : ℕ → ℕ → ℕ → ℕ → List ℕ → List ℕ → List Float → ModelData

@@ -13,8 +13,7 @@ use Rattle.models.specs.declared.answers.Quantity.{Quantity}
 use Rattle.models.specs.declared.answers.Answer.{Answer}
 use Rattle.models.specs.declared.answers.Answer.the-variants.{Value, Refused}
 use Rattle.models.specs.Answers.{numberOf}
-use Rattle.models.specs.Faults.{between}
-use Rattle.models.specs.Model.{modelOf, ModelData, modelData}
+use Rattle.models.specs.Model.{modelOf, isModel, ModelData, modelData}
 use Rattle.models.specs.Plain.{plainCall}
 
 -- the answer where r bytes of the fractions are left over: 7 in place of a value
@@ -29,7 +28,7 @@ plainRest d T x q = withRest (length x % 8) (plainCall d T (floats x) q)
 -- of the model with the number m, with the values in bytes too; 2 where there is none, or a rest that is no f64
 unfoldable pub exported : ℕ → ℕ → ℕ → List ℕ → List ℕ → List ℕ → Float → List ℕ → Quantity → Answer
 exported m n ng lens groups values T x q =
-    cond (eqb (length values % 8) 0) (cond (between 1 4 m)
+    cond (eqb (length values % 8) 0) (cond (isModel m)
     (plainRest (modelData (modelOf m) n ng lens groups (floats values)) T x q)
     (Refused 2)) (Refused 2)
 

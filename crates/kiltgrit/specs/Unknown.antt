@@ -7,7 +7,7 @@ use Prim.Native.Nat.{ℕ}
 use lib.Dec.{eqb, leb}
 use lib.Ieee.{Float}
 use Rattle.models.specs.Answers.{first}
-use Rattle.models.specs.Faults.{between}
+use Rattle.models.specs.Model.{isModel}
 use Rattle.mixture.specs.declared.head.Head.{Head}
 use Rattle.mixture.specs.Memory.{Memory}
 use Rattle.mixture.specs.Faults.{memoryFault, headFault, readyFault, loadFault, settingFault, queryFault}
@@ -16,7 +16,7 @@ use Rattle.kiltgrit.specs.Arguments.{loadOf, isKind, settingOf, quantity
 
 -- 1, then 2
 abbrev pub UnknownModel : Type 0
-UnknownModel = (m : Memory) (model form n ng : ℕ) (lens groups : List ℕ) (given : List Float) → between 1 4 model && eqb form 0 ≡ false
+UnknownModel = (m : Memory) (model form n ng : ℕ) (lens groups : List ℕ) (given : List Float) → isModel model && eqb form 0 ≡ false
     → loadFault m (loadOf model form n ng lens groups given) ≡ first (memoryFault m) 2
 
 -- 1 or 8, then 10

@@ -6,6 +6,7 @@ use arithmetic::TdParam;
 use mixture::Setting;
 use models::Quantity;
 use models::answers::quantity_of;
+use models::model::is_model;
 
 // An index that no model has.
 const NO_INDEX: usize = 18446744073709551615;
@@ -29,14 +30,11 @@ pub fn quantity_asked(asked: u32, i: usize) -> Quantity
     Quantity::LnGamma(NO_INDEX)
 }
 
-// n, where the model is from 1 to 4 and the form, which is kept for later, is 0; else 0.
+// n, where there is such a model and the form, which is kept for later, is 0; else 0.
 pub fn known_n(model: u32, form: u32, n: usize) -> usize
     ensures { λ r. ⌜ r ≡ knownN model form n ⌝ }
 {
-    if model < 1 {
-        return 0;
-    }
-    if 4 < model {
+    if !is_model(model as usize) {
         return 0;
     }
     if form != 0 {

@@ -19,6 +19,7 @@ use models::Quantity;
 use models::faults;
 use models::limits::COMPONENTS;
 use models::limits::VALUES;
+use models::model::is_model;
 use models::model::model_numbered;
 use models::model::value_at;
 
@@ -103,10 +104,7 @@ fn call(
     if values.len() % 8 != 0 {
         return Answer::Refused(2);
     }
-    if model < 1 {
-        return Answer::Refused(2);
-    }
-    if 4 < model {
+    if !is_model(model as usize) {
         return Answer::Refused(2);
     }
     let count = values.len() / 8;

@@ -7,7 +7,7 @@ use native.Mathlib.Omega.{arith}
 use lib.Dec.{leb, ltb, eqb}
 use lib.ListN.{length, getD, drop, replicate, length-replicate}
 use lib.Ieee.{Float}
-use borrow.Author.Tests.{le-leb, eqb-true, lt-ltb, le-ltb, eq-eqb, ne-eqb}
+use borrow.Author.Tests.{le-leb, eqb-true, lt-ltb, eq-eqb, ne-eqb}
 use Rattle.arithmetic.specs.Floats.{+0}
 use Rattle.models.specs.Faults.{tolerance, compositionFault, between, allTo, dataFault, mixFault}
 use Rattle.models.specs.Values.{start}
@@ -19,7 +19,7 @@ use Rattle.mixture.specs.declared.answers.Answer.the-variants.{Refused, 
 use Rattle.mixture.specs.Lists.{written}
 use Rattle.mixture.specs.Holdings.{held}
 use Rattle.mixture.specs.Cells.{width}
-use Rattle.models.specs.Model.{ModelData, byModel, tableWidth}
+use Rattle.models.specs.Model.{ModelData, byModel, tableWidth, isModel}
 use Rattle.mixture.specs.Memory.{Memory, memory, leastValues, leastMarks, short, isShort, After, after}
 use Rattle.mixture.specs.Layout.{dataIn, cellAt}
 use Rattle.mixture.specs.Calls.{outcome, loadedHead, loadedMemory, afterLoad}
@@ -76,13 +76,13 @@ module _ (m : Memory) (h : Head) where
     unfolding headFault
     judged-none e = rw (eq-eqb _ _ long, eq-eqb _ _ e)
 
-    pub judged-many : 4 < h .model → 1 ≡ headFault m h
+    pub judged-many : (h .model ≡ 0 → ⊥) → isModel (h .model) ≡ false → 1 ≡ headFault m h
     unfolding headFault
-    judged-many b = let n : h .model ≡ 0 → ⊥ = λ e. omega arith in rw (eq-eqb _ _ long, ne-eqb _ _ n, le-ltb (h .model) 5 (omega arith))
+    judged-many n l = rw (eq-eqb _ _ long, ne-eqb _ _ n, l)
 
-    pub judged-by : {b : Bool} → (h .model ≡ 0 → ⊥) → h .model ≤ 4 → b ≡ inRange (dataIn m h) → cond b 0 1 ≡ headFault m h
+    pub judged-by : {b : Bool} → (h .model ≡ 0 → ⊥) → isModel (h .model) ≡ true → b ≡ inRange (dataIn m h) → cond b 0 1 ≡ headFault m h
     unfolding headFault
-    judged-by n l e = rw (eq-eqb _ _ long, ne-eqb _ _ n, lt-ltb (h .model) 5 (omega arith), e)
+    judged-by n l e = rw (eq-eqb _ _ long, ne-eqb _ _ n, l, e)
 
   pub ready-head : {k : ℕ} → k ≡ headFault m h → (k ≡ 0 → ⊥) → k ≡ readyFault m h
   unfolding readyFault
@@ -117,7 +117,7 @@ module _ (m : Memory) (h : Head) (e : headFault m h ≡ 0) where
   in-range =
       let f = first-is (memoryFault m) _ e in
       let g = spared (eqb (h .model) 0) _ 8 (nought 7) (f .1) in
-      both (ltb (h .model) 5) (inRange (dataIn m h)) (passed (ltb (h .model) 5 && inRange (dataIn m h)) 0 1 (nought 0) (g .1) .0) .1
+      both (isModel (h .model)) (inRange (dataIn m h)) (passed (isModel (h .model) && inRange (dataIn m h)) 0 1 (nought 0) (g .1) .0) .1
 
   pub head-passed : Passed m h
   unfolding headFault

@@ -23,7 +23,7 @@ use Rattle.mixture.specs.declared.answers.Answer.the-variants.{Refused, 
 use Rattle.mixture.specs.Lists.{written, padded, howMany}
 use Rattle.mixture.specs.Holdings.{Held, held}
 use Rattle.mixture.specs.Cells.{width}
-use Rattle.models.specs.Model.{ModelData, byModel}
+use Rattle.models.specs.Model.{ModelData, byModel, hasGroups, modelNumber}
 use Rattle.mixture.specs.Faults.{memoryFault, loadFault, settingFault, fractionsFault, queryFault}
 use Rattle.mixture.specs.Memory.{Memory, memory, After, after}
 use Rattle.mixture.specs.Layout.{dataIn, place, numbers, cellAt}
@@ -67,8 +67,8 @@ afterOpen m h = outcome (memoryFault m) m h (after m noHead Done)
 
 unfoldable pub loadedHead : ModelData → Head
 loadedHead d =
-    byModel (d .model) (freshHead 1 (d .n) 0 [] []) (freshHead 2 (d .n) 0 [] []) (freshHead 3 (d .n) 0 [] [])
-    (freshHead 4 (d .n) (d .ng) (d .lens) (d .groups))
+    cond (hasGroups (d .model)) (freshHead (modelNumber (d .model)) (d .n) (d .ng) (d .lens) (d .groups))
+    (freshHead (modelNumber (d .model)) (d .n) 0 [] [])
 
 -- the model's values, and all its cells stale
 unfoldable pub loadedMemory : Memory → ModelData → Memory

@@ -11,7 +11,7 @@ use Rattle.models.specs.Limits.{mostComponents, mostGroups, mostListed}
 use Rattle.models.specs.declared.answers.Quantity.{Quantity}
 use Rattle.models.specs.Answers.{first}
 use Rattle.models.specs.Faults.{mixFault, indexFault, between, allTo, dataFault}
-use Rattle.models.specs.Model.{byModel, ModelData}
+use Rattle.models.specs.Model.{byModel, isModel, ModelData}
 use Rattle.models.specs.Values.{start}
 use Rattle.mixture.specs.declared.head.Head.{Head}
 use Rattle.mixture.specs.declared.setting.Setting.{Setting}
@@ -62,7 +62,7 @@ inRange d =
 -- from setting to query: 1, a slice is short or the head is out of range; 8, no model, where only the slices count
 unfoldable pub headFault : Memory → Head → ℕ
 headFault m h =
-    first (memoryFault m) (cond (eqb (h .model) 0) 8 (cond (ltb (h .model) 5 && inRange (dataIn m h)) 0 1))
+    first (memoryFault m) (cond (eqb (h .model) 0) 8 (cond (isModel (h .model) && inRange (dataIn m h)) 0 1))
 
 unfoldable pub loadFault : Memory → ModelData → ℕ
 loadFault m d = first (memoryFault m) (dataFault d)

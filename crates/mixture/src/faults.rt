@@ -24,6 +24,7 @@ use models::limits::GROUPS;
 use models::limits::PLACES;
 use models::limits::TABLE;
 use models::model::by_model;
+use models::model::is_model;
 use models::model::model_of;
 use models::model::table_width;
 
@@ -118,7 +119,7 @@ pub fn head_fault(lv: usize, lc: usize, lm: usize, head: Head) -> u8
     if head.model == 0 {
         return 8;
     }
-    if 4 < head.model {
+    if !is_model(head.model as usize) {
         return 1;
     }
     if in_range(head) {

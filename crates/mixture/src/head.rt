@@ -77,16 +77,16 @@ pub fn bare_head(model: u8, n: usize) -> Head
     unset_head(model, n, 0, [0u8; COMPONENTS], [0u8; PLACES])
 }
 
-// UNIFAC's head with T and fractions unset.
-pub fn listed_head(n: usize, ng: usize, lens: &[u8], groups: &[u8]) -> Head
+// The same with lists.
+pub fn listed_head(model: u8, n: usize, ng: usize, lens: &[u8], groups: &[u8]) -> Head
     requires { ⌜ (length (now lens) ≤ mostComponents) × (length (now groups) ≤ mostPlaces) ⌝ }
-    ensures { λ r. ⌜ r ≡ freshHead 4 n ng (now (lens .entry)) (now (groups .entry)) ⌝ }
+    ensures { λ r. ⌜ r ≡ freshHead model n ng (now (lens .entry)) (now (groups .entry)) ⌝ }
 {
     let mut all_lens = [0u8; COMPONENTS];
     copy_bytes(lens, &mut all_lens);
     let mut all_groups = [0u8; PLACES];
     copy_bytes(groups, &mut all_groups);
-    unset_head(4, n, ng, all_lens, all_groups)
+    unset_head(model, n, ng, all_lens, all_groups)
 }
 
 // The head with another T and other fractions.

@@ -23,6 +23,7 @@ use crate::stale::Block;
 use crate::stale::stale;
 use models::Model;
 use models::model::has_groups;
+use models::model::model_number;
 use models::model::table_width;
 
 // The given values in the first places.
@@ -63,12 +64,11 @@ fn loaded_head(model: Model, n: usize, ng: usize, lens: &[u8], groups: &[u8]) ->
     ensures { λ r. ⌜ ((v : List Float) → r
         ≡ loadedHead (modelData model n ng (now (lens .entry)) (now (groups .entry)) v)) ⌝ }
 {
-    match model {
-        Model::Wilson => bare_head(1, n),
-        Model::Uniquac => bare_head(2, n),
-        Model::Nrtl => bare_head(3, n),
-        Model::Unifac => listed_head(n, ng, lens, groups),
+    let number = model_number(model);
+    if has_groups(model) {
+        return listed_head(number, n, ng, lens, groups);
     }
+    bare_head(number, n)
 }
 
 // Writes the model's values, unsets T and fractions and makes all cells stale.

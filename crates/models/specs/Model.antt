@@ -1,8 +1,8 @@
 -- The four models, and what goes by them.
-use mathlib.Core.Bool.{Bool, true, false, cond}
+use mathlib.Core.Bool.{Bool, true, false, _&&_, cond}
 use mathlib.Core.List.{List}
 use Prim.Native.Nat.{ℕ}
-use lib.Dec.{eqb}
+use lib.Dec.{eqb, leb}
 use lib.Ieee.{Float}
 use denote.Ref.{RefT, now}
 use denote.Triple.Both.{Both}
@@ -28,6 +28,12 @@ hasGroups m = byModel m false false false true
 -- the model of a number from 1 to 4, a head's or a kind's
 unfoldable pub modelOf : ℕ → Model
 modelOf k = cond (eqb k 1) Wilson (cond (eqb k 2) Uniquac (cond (eqb k 3) Nrtl Unifac))
+
+abbrev pub isModel : ℕ → Bool
+isModel k = leb 1 k && leb k 4
+
+abbrev pub modelNumber : Model → ℕ
+modelNumber m = byModel m 1 2 3 4
 
 -- what a load brings: values in the strip's order, groups list after list
 pub record ModelData : Type 0 where

@@ -5,7 +5,16 @@ ghost use lib.ListN.{length};
 ghost use Rattle.arithmetic.specs.Tables.{at};
 ghost use Rattle.models.specs.Faults.{indexFault};
 ghost use Rattle.models.specs.Limits.{mostComponents};
-ghost use Rattle.models.specs.Model.{byModel, tableWidth, hasGroups, modelOf, modelData, given};
+ghost use Rattle.models.specs.Model.{
+  byModel,
+  tableWidth,
+  hasGroups,
+  modelOf,
+  isModel,
+  modelNumber,
+  modelData,
+  given,
+};
 ghost use Rattle.models.specs.Plain.{valueAt, plainCall};
 ghost use Rattle.models.specs.Values.{wilsonSize, uniquacSize, nrtlSize};
 ghost use Rattle.models.specs.steps.Model.{Ready};
@@ -46,6 +55,28 @@ pub fn model_of(k: u8) -> Model
     ensures { λ r. ⌜ r ≡ modelOf k ⌝ }
 {
     model_numbered(k as usize)
+}
+
+// Whether a number is a model's.
+pub fn is_model(k: usize) -> bool
+    ensures { λ r. ⌜ r ≡ isModel k ⌝ }
+{
+    if k < 1 {
+        return false;
+    }
+    k <= 4
+}
+
+// A model's number.
+pub fn model_number(model: Model) -> u8
+    ensures { λ r. ⌜ r ≡ modelNumber model ⌝ }
+{
+    match model {
+        Model::Wilson => 1,
+        Model::Uniquac => 2,
+        Model::Nrtl => 3,
+        Model::Unifac => 4,
+    }
 }
 
 // One of four, by the model.

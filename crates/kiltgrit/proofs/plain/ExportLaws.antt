@@ -8,7 +8,7 @@ use native.Mathlib.Omega.{arith}
 use lib.Dec.{eqb, leb}
 use lib.ListN.{length, getD}
 use lib.Ieee.{Float}
-use borrow.Author.Tests.{eq-eqb, ne-eqb, leb-true, le-leb, lt-leb}
+use borrow.Author.Tests.{eq-eqb, ne-eqb, leb-true}
 use Rattle.arithmetic.specs.Bytes.{floatAt, floatsAt, floats}
 use Rattle.arithmetic.specs.Sums.{sum, total}
 use Rattle.arithmetic.specs.Tables.{at}
@@ -22,7 +22,7 @@ use Rattle.models.specs.declared.model.Model.the-variants.{Wilson, Uniquac, Nrt
 use Rattle.models.specs.Answers.{numberOf, answer, first}
 use Rattle.models.specs.Faults.{tolerance, sumFault, compositionFault, mixFault, indexFault, fractionsFault}
 use Rattle.models.specs.Faults.{between, shapeFault, allTo, listsFault, unifacFault, dataFault}
-use Rattle.models.specs.Model.{modelOf, ModelData, modelData}
+use Rattle.models.specs.Model.{modelOf, isModel, ModelData, modelData}
 use Rattle.models.specs.Plain.{valueAt, plainCall}
 use Rattle.models.specs.Values.{wilsonSize, uniquacSize, nrtlSize, countsAt, start, unifacSize}
 use Rattle.models.proofs.AnswerLaws.{first-left, first-right, answer-refused}
@@ -168,22 +168,17 @@ module _ (m n ng : ℕ) (lens groups values : List ℕ) (T : Float) (x : List �
   exported-rest h = rw (ne-eqb _ 0 h)
 
   module _ (whole : length values % 8 ≡ 0) where
-    pub exported-none : m < 1 → Refused 2 ≡ exported m n ng lens groups values T x q
+    pub exported-none : isModel m ≡ false → Refused 2 ≡ exported m n ng lens groups values T x q
     unfolding exported
-    exported-none h = rw (eq-eqb _ 0 whole, lt-leb 1 m h)
+    exported-none h = rw (eq-eqb _ 0 whole, h)
 
-    module _ (some : 1 ≤ m) where
-      pub exported-over : 4 < m → Refused 2 ≡ exported m n ng lens groups values T x q
+    module _ (some : isModel m ≡ true) where
+      pub exported-whole : {a : Answer} → a ≡ plainRest named T x q → a ≡ exported m n ng lens groups values T x q
       unfolding exported
-      exported-over h = rw (eq-eqb _ 0 whole, le-leb 1 m some, lt-leb m 4 h)
+      exported-whole p = rw (eq-eqb _ 0 whole, some) p
 
-      module _ (four : m ≤ 4) where
-        pub exported-whole : {a : Answer} → a ≡ plainRest named T x q → a ≡ exported m n ng lens groups values T x q
-        unfolding exported
-        exported-whole p = rw (eq-eqb _ 0 whole, le-leb 1 m some, le-leb m 4 four) p
-
-        pub exported-long : 5328 < length values / 8 → Refused 2 ≡ exported m n ng lens groups values T x q
-        exported-long h = exported-whole (rest-long named T x q (rw (length-eights values) h))
+      pub exported-long : 5328 < length values / 8 → Refused 2 ≡ exported m n ng lens groups values T x q
+      exported-long h = exported-whole (rest-long named T x q (rw (length-eights values) h))
 
 -- the number and the value of an equal answer
 pub given-as : {a b : Answer} {r : ℕ} (old : Float) {new : Float} → a ≡ b → (r ≡ numberOf a) × (new ≡ left a old) → (r ≡ numberOf b) × (new ≡ left b old)

@@ -9,7 +9,7 @@ use mathlib.Core.Option.{Option, none, some}
 use Prim.Native.Nat.{ℕ, _+_, _*_, _/_, _%_, _-_, _<_, _≤_}
 use native.Mathlib.Nat.{mul-le-mul}
 use native.Mathlib.Omega.{arith}
-use lib.Dec.{ltb, eqb}
+use lib.Dec.{eqb}
 use lib.ListN.{length, getD, drop, replicate, length-append, length-drop, List·getD-append}
 use lib.Seq.{length-sets}
 use lib.Ieee.{Float, nan}
@@ -33,7 +33,7 @@ use Rattle.mixture.specs.Answers.{numberOf, unless}
 use Rattle.mixture.specs.Lists.{written, padded, anyOf, howMany}
 use Rattle.mixture.specs.Holdings.{Held, held}
 use Rattle.mixture.specs.Cells.{width, isCell, inputs}
-use Rattle.models.specs.Model.{ModelData, sizeOf}
+use Rattle.models.specs.Model.{ModelData, isModel, sizeOf}
 use Rattle.mixture.specs.Faults.{caseFault, memoryFault, inRange, headFault, loadFault, settingFault, fractionsFault, readyFault, queryFault}
 use Rattle.mixture.specs.Memory.{Memory, memory, leastValues, leastCells, leastMarks, After}
 use Rattle.mixture.specs.Layout.{dataIn, place, numbers, cellAt}
@@ -60,7 +60,7 @@ KeptX (some x) n h = (h .«has_x» ≡ true) × (length x ≡ n) × (h .x ≡ pa
 
 record KeptModel (m : Memory) (h : Head) (d : Held) (T : Option Float) (x : Option (List Float)) (past : List Call) : Type 0 where
   number : h .model ≡ 0 → ⊥
-  range : (ltb (h .model) 5 && inRange (dataIn m h)) ≡ true
+  range : (isModel (h .model) && inRange (dataIn m h)) ≡ true
   agrees : Agrees (held (dataIn m h)) d
   keptT : KeptT T h
   keptX : KeptX x (d .n) h
@@ -146,12 +146,12 @@ head-none : (m : Memory) (h : Head) → Long m → h .model ≡ 0 → headFault 
 unfolding headFault
 head-none m h l e = rw (short-no m l, eq-eqb (h .model) 0 e)
 
-head-fine : (m : Memory) (h : Head) → Long m → (h .model ≡ 0 → ⊥) → (ltb (h .model) 5 && inRange (dataIn m h)) ≡ true → headFault m h ≡ 0
+head-fine : (m : Memory) (h : Head) → Long m → (h .model ≡ 0 → ⊥) → (isModel (h .model) && inRange (dataIn m h)) ≡ true → headFault m h ≡ 0
 unfolding headFault
 head-fine m h l n r = rw (short-no m l, ne-eqb (h .model) 0 n, r)
 
 kept-range : (m : Memory) (h : Head) {d : Held} {T : Option Float} {x : Option (List Float)} {past : List Call} → KeptModel m h d T x past → inRange (dataIn m h) ≡ true
-kept-range m h k = both (ltb (h .model) 5) (inRange (dataIn m h)) (k .range) .1
+kept-range m h k = both (isModel (h .model)) (inRange (dataIn m h)) (k .range) .1
 
 -- ---- open
 
@@ -258,7 +258,7 @@ module _ (m : Memory) (h : Head) (d : Held) (T : Option Float) (x : Option (List
       rw (cellAt-is (held e) d (k .agrees .alike) i j hi hj, c, width-same (held e) d (k .agrees .alike), cell-row (width d) i j hj, cell-column (width d) i j hj)
       (stales-same (held e) d (k .agrees .alike) s i j)
 
-  set-range : (s : Setting) → (ltb (setHead h s .model) 5 && inRange (dataIn (setMemory m e s) (setHead h s))) ≡ true
+  set-range : (s : Setting) → (isModel (setHead h s .model) && inRange (dataIn (setMemory m e s) (setHead h s))) ≡ true
   unfolding inRange
   set-range s = k .range
 

@@ -17,7 +17,7 @@ use Rattle.mixture.specs.declared.setting.Setting.{Setting}
 use Rattle.mixture.specs.declared.setting.Setting.the-variants.{Temperature, Entry, TdEntry, Size, Count}
 use Rattle.mixture.specs.Lists.{padded}
 use Rattle.mixture.specs.Holdings.{held}
-use Rattle.models.specs.Model.{ModelData, byModel, modelOf, sizeOf}
+use Rattle.models.specs.Model.{ModelData, byModel, modelOf, isModel, sizeOf}
 use Rattle.mixture.specs.Memory.{Memory}
 use Rattle.mixture.specs.Layout.{dataIn, place}
 use Rattle.mixture.specs.Calls.{loadedHead, loadedMemory}
@@ -150,7 +150,7 @@ module _ (m : Memory) (d : ModelData) where
         at-all (start lens n) (λ p. ltb (getD (padded 144 0 groups) p 0) ng) (λ p b. rw (getD-past (144 - length groups) 0 groups p) (lt-ltb _ _ (l .group p b))),
       )
 
-  pub left-number : (k : Model) → (loadedHead (D d k) .model ≡ 0 → ⊥) × (ltb (loadedHead (D d k) .model) 5 ≡ true)
+  pub left-number : (k : Model) → (loadedHead (D d k) .model ≡ 0 → ⊥) × (isModel (loadedHead (D d k) .model) ≡ true)
   unfolding loadedHead
   left-number Wilson = (nought 0, refl)
   left-number Uniquac = (nought 1, refl)

@@ -1,5 +1,6 @@
--- n or 0, by the definition's three tests.
-use borrow.Author.Tests.{eq-eqb, ne-eqb, le-leb, lt-leb}
+-- n or 0, by the definition's two tests.
+use mathlib.Core.Path.{_∙_, sym}
+use borrow.Author.Tests.{eq-eqb, ne-eqb, not-true, not-false}
 use Rattle.kiltgrit.specs.Arguments.{knownN}
 use Rattle.kiltgrit.proofs.arguments.known_n.Statement.{statement}
 use Rattle.kiltgrit.proofs.arguments.known_n.Tie as tie
@@ -9,7 +10,7 @@ unfolding knownN
 known-n-spec =
     tie.close
     (tie.spec
-    (λ c. simp (lt-leb _ _ (c .if1 .taken)))
-    (λ c. simp (le-leb _ _ (c .before .if1 .left), lt-leb _ _ (c .if2 .taken)))
-    (λ c. simp (le-leb _ _ (c .before .before .if1 .left), le-leb _ _ (c .before .if2 .left), ne-eqb _ _ (c .if3 .taken)))
-    (λ c. simp (le-leb _ _ (c .before .before .if1 .left), le-leb _ _ (c .before .if2 .left), eq-eqb _ _ (c .if3 .left))))
+    (λ c κs. tt)
+    (λ c. rw (sym (c .before .is-model .ensures) ∙ not-true _ (c .if1 .taken)))
+    (λ c. rw (sym (c .before .before .is-model .ensures) ∙ not-false _ (c .before .if1 .left), ne-eqb _ _ (c .if2 .taken)))
+    (λ c. rw (sym (c .before .before .is-model .ensures) ∙ not-false _ (c .before .if1 .left), eq-eqb _ _ (c .if2 .left))))

@@ -1,4 +1,4 @@
--- UNIFAC's head with T and fractions unset: the lists are copied into zeros.
+-- A head with T and fractions unset: the lists are copied into zeros.
 use mathlib.Core.Path.{_∙_}
 use borrow.Author.Needs.{needs}
 use denote.Ref.{now}
