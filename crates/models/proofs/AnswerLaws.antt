@@ -121,26 +121,26 @@ quantity-read n ExcessGibbs f g a b z p e = e (λ i h. p i h refl)
 
 -- ---- a model's size, which code works out for n within range alone
 
-pub shape-size : (n s size : ℕ) (values : List Float) → (n ≤ 12 → s ≡ size) → shapeFault n s values ≡ shapeFault n size values
+pub shape-size : (n s size : ℕ) (values : List Float) → (n ≤ 255 → s ≡ size) → shapeFault n s values ≡ shapeFault n size values
 unfolding shapeFault
 shape-size n s size values e = by-test (leb n 12) refl
   where
     by-test : (t : Bool) → leb n 12 ≡ t → shapeFault n s values ≡ shapeFault n size values
-    by-test true p = rw (e (leb-true n 12 p))
+    by-test true p = rw (e (omega (arith, leb-true n 12 p)))
     by-test false p = rw (p, and-false (leb 1 n))
 
 -- what `shape_fault` of that size shows
-pub shaped : (n : ℕ) {s size : ℕ} (values : List Float) → (n ≤ 12 → s ≡ size) → {k : ℕ} →
+pub shaped : (n : ℕ) {s size : ℕ} (values : List Float) → (n ≤ 255 → s ≡ size) → {k : ℕ} →
     (k ≡ shapeFault n s values) × (k ≡ 0 → (1 ≤ n) × (n ≤ 12) × (length values ≡ s)) →
     (k ≡ shapeFault n size values) × (k ≡ 0 → (n ≤ 12) × (size ≤ length values))
-shaped n {s} {size} values e p = (p .0 ∙ shape-size n s size values e, λ z. let q = p .1 z in (q .1, omega (arith, q .2, e (q .1))))
+shaped n {s} {size} values e p = (p .0 ∙ shape-size n s size values e, λ z. let q = p .1 z in (q .1, omega (arith, q .2, e (omega (arith, q .1)))))
 
 -- the size that the code works out is the model's
-pub sized-fits : {n s size : ℕ} {values x : List Float} {q : Quantity} → (n ≤ 12 → s ≡ size) → ValueFits n s values x q → ValueFits n size values x q
-sized-fits e f = record { few = f .few; sized = omega (arith, e (f .few), f .sized); fractions = f .fractions; index = f .index }
+pub sized-fits : {n s size : ℕ} {values x : List Float} {q : Quantity} → (n ≤ 255 → s ≡ size) → ValueFits n s values x q → ValueFits n size values x q
+sized-fits e f = record { few = f .few; sized = omega (arith, e (omega (arith, f .few)), f .sized); fractions = f .fractions; index = f .index }
 
 -- what a plain call of Wilson, UNIQUAC or NRTL answers, s being the size that its code works out
-module _ (n : ℕ) {s size : ℕ} (values : List Float) (e : n ≤ 12 → s ≡ size) (x : List Float) (q : Quantity) {k : ℕ}
+module _ (n : ℕ) {s size : ℕ} (values : List Float) (e : n ≤ 255 → s ≡ size) (x : List Float) (q : Quantity) {k : ℕ}
     (f : k ≡ first (shapeFault n s values) (fractionsFault n x q)) where
   fault : k ≡ first (shapeFault n size values) (fractionsFault n x q)
   fault = f ∙ ap (λ (f : ℕ). first f (fractionsFault n x q)) (shape-size n s size values e)

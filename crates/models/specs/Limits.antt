@@ -7,6 +7,10 @@ mostComponents = 12
 abbrev pub mostGroups : ℕ
 mostGroups = 32
 
+-- that a byte can name, as a record's does
+abbrev pub mostNamed : ℕ
+mostNamed = 255
+
 -- of one list, and of all
 abbrev pub mostListed : ℕ
 mostListed = 12

@@ -7,6 +7,9 @@ pub const GROUPS: usize = 32;
 
 pub const LIST: usize = 12;
 
+// The most components or groups that a byte can name, as a record's does.
+pub const NAMED: usize = 255;
+
 // The most places of all lists, and values of any model.
 pub const PLACES: usize = COMPONENTS * LIST;
 

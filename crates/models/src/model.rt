@@ -4,7 +4,7 @@ ghost use Prim.Native.Nat.{_≤_};
 ghost use lib.ListN.{length};
 ghost use Rattle.arithmetic.specs.Tables.{at};
 ghost use Rattle.models.specs.Faults.{indexFault};
-ghost use Rattle.models.specs.Limits.{mostComponents};
+ghost use Rattle.models.specs.Limits.{mostNamed};
 ghost use Rattle.models.specs.Model.{
   byModel,
   tableWidth,
@@ -21,7 +21,7 @@ ghost use Rattle.models.specs.steps.Model.{Ready};
 use crate::answers::Answer;
 use crate::answers::Quantity;
 use crate::faults;
-use crate::limits::COMPONENTS;
+use crate::limits::NAMED;
 use crate::nrtl;
 use crate::unifac;
 use crate::uniquac;
@@ -98,13 +98,13 @@ pub fn table_width(model: Model, n: usize, ng: usize) -> usize
     by_model(model, n, n, n, ng)
 }
 
-// How many values n components have, in a model without groups. Past 12, which `shape_fault` refuses, it
-// answers 0.
+// How many values n components have, in a model without groups. Past 255, which no record names and
+// `shape_fault` refuses, it answers 0.
 pub fn size_of(model: Model, n: usize) -> usize
-    ensures { λ r. ⌜ (n ≤ mostComponents
+    ensures { λ r. ⌜ (n ≤ mostNamed
         → r ≡ byModel model (wilsonSize n) (uniquacSize n) (nrtlSize n) 0) ⌝ }
 {
-    if COMPONENTS < n {
+    if NAMED < n {
         return 0;
     }
     let pairs = n * n;

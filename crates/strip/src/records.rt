@@ -13,6 +13,8 @@ use crate::words::j_of;
 use crate::words::kind_of;
 use crate::words::rest_of;
 use arithmetic::bytes::word_at;
+use models::Model;
+use models::model::size_of;
 
 // Whether the fields i and j are as the kind has them, how many floats follow the head word, and how many
 // lists follow these.
@@ -80,13 +82,11 @@ fn shape_of(kind: usize, i: u8, j: u8) -> Shape
 {
     let n = i as usize;
     let m = j as usize;
-    let nn = n * n;
-    let mm = m * m;
     match kind {
-        1 => with_shape(j == 0, nn + n, 0),
-        2 => with_shape(j == 0, nn + n + n, 0),
-        3 => with_shape(j == 0, nn * 5 + nn, 0),
-        4 => with_shape(true, m + m + mm * 5, n),
+        1 => with_shape(j == 0, size_of(Model::Wilson, n), 0),
+        2 => with_shape(j == 0, size_of(Model::Uniquac, n), 0),
+        3 => with_shape(j == 0, size_of(Model::Nrtl, n), 0),
+        4 => with_shape(true, m + m + m * m * 5, n),
         5 => with_shape(both_zero(i, j), 1, 0),
         6 => with_shape(j == 0, n, 0),
         7 => with_shape(true, 1, 0),

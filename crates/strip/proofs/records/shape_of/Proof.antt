@@ -11,9 +11,6 @@ use Rattle.strip.proofs.RecordLaws.{square, sized}
 use Rattle.strip.proofs.records.shape_of.Statement.{statement}
 use Rattle.strip.proofs.records.shape_of.Tie as tie
 
-i-square : (c : tie.Start) → c .args .i * c .args .i ≤ 65025
-i-square c = square (c .args .i) (omega arith)
-
 j-square : (c : tie.Start) → c .args .j * c .args .j ≤ 65025
 j-square c = square (c .args .j) (omega arith)
 
@@ -25,19 +22,16 @@ unfolding shapeOf wilsonSize uniquacSize nrtlSize countsAt
 shape-of-spec =
     tie.close
     (tie.spec
-    (λ c. omega (arith, i-square c))
-    (λ c. omega (arith, j-square c))
-    (λ c. omega (arith, i-square (c .before)))
     (λ c κs. tt)
-    (λ c. omega (arith, i-square (c .before)))
-    (λ c. omega (arith, i-square (c .before)))
     (λ c κs. tt)
-    (λ c. omega (arith, i-square (c .before)))
-    (λ c. omega (arith, i-square (c .before)))
+    (λ c κs. tt)
+    (λ c κs. tt)
+    (λ c κs. tt)
     (λ c κs. tt)
     (λ c. search needs)
     (λ c. omega (arith, j-square (c .before)))
     (λ c. omega (arith, j-square (c .before)))
+    (λ c. omega (arith, j-square (c .before)))
     (λ c κs. tt)
     (λ c κs. tt)
     (λ c κs. tt)
@@ -49,9 +43,9 @@ shape-of-spec =
     (λ c κs. tt)
     (λ c κs. tt)
     (λ c κs. tt)
-    (λ c. shaped (c .before .before) (c .with-shape .ensures ∙ sym (rw (c .before .match .keys1))))
-    (λ c. shaped (c .before .before) (c .with-shape2 .ensures ∙ sym (rw (c .before .match .keys2))))
-    (λ c. shaped (c .before .before) (c .with-shape3 .ensures ∙ sym (rw (c .before .match .keys3))))
+    (λ c. shaped (c .before .before .before) (c .with-shape .ensures ∙ sym (rw (c .before .before .match .keys1, c .before .size-of .ensures (omega arith)))))
+    (λ c. shaped (c .before .before .before) (c .with-shape2 .ensures ∙ sym (rw (c .before .before .match .keys2, c .before .size-of2 .ensures (omega arith)))))
+    (λ c. shaped (c .before .before .before) (c .with-shape3 .ensures ∙ sym (rw (c .before .before .match .keys3, c .before .size-of3 .ensures (omega arith)))))
     (λ c. shaped (c .before .before) (c .with-shape4 .ensures ∙ sym (rw (c .before .match .keys4))))
     (λ c. shaped (c .before .before .before) (c .with-shape5 .ensures ∙ sym (rw (c .before .before .match .keys5, c .before .both-zero .ensures))))
     (λ c. shaped (c .before .before) (c .with-shape6 .ensures ∙ sym (rw (c .before .match .keys6))))
