@@ -1,4 +1,4 @@
--- The exported calls: a model by its number, 1 Wilson to 4 UNIFAC, and floats in bytes. docs/DECISIONS.md, "Exported byte slices".
+-- The plain calls by bytes, for the test host: a model by its number, 1 Wilson to 4 UNIFAC, and floats in bytes. docs/DECISIONS.md, "Exported byte slices".
 use mathlib.Core.Path.{_≡_}
 use mathlib.Core.Bool.{cond}
 use mathlib.Core.List.{List}

@@ -1,4 +1,4 @@
-// The calls that a Rust or C host links.
+// exp and log, for a host in Rust or C.
 ghost use mathlib.Core.Path.{_≡_};
 ghost use Rattle.arithmetic.specs.Exponential.{expOf};
 ghost use Rattle.arithmetic.specs.Logarithm.{logOf};

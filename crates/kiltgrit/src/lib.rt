@@ -3,8 +3,8 @@
 // strip; the version.
 pub mod arguments;
 pub mod border;
+pub mod by_bytes;
 pub mod calls;
 pub mod functions;
-pub mod plain;
 pub mod strips;
 pub mod version;

@@ -7,9 +7,9 @@ use lib.ListN.{length}
 use Rattle.arithmetic.specs.Bytes.{floatAt}
 use Rattle.arithmetic.specs.Sums.{sum}
 use Rattle.arithmetic.proofs.SumLaws.{sum-none, sum-more, sum-done}
-use Rattle.kiltgrit.proofs.plain.ExportLaws.{total-eights}
-use Rattle.kiltgrit.proofs.plain.sum_floats.Statement.{statement}
-use Rattle.kiltgrit.proofs.plain.sum_floats.Tie as tie
+use Rattle.kiltgrit.proofs.by_bytes.ExportLaws.{total-eights}
+use Rattle.kiltgrit.proofs.by_bytes.sum_floats.Statement.{statement}
+use Rattle.kiltgrit.proofs.by_bytes.sum_floats.Tie as tie
 
 abbrev Inv-loop : tie.InvT-loop
 Inv-loop x s₀ k₀ k-end s k = (k ≤ length x / 8) × (k-end ≡ length x / 8) × (s ≡ sum k (λ k. floatAt x (8 * k)))

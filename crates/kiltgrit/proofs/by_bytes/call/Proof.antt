@@ -4,9 +4,9 @@ use native.Mathlib.Omega.{arith}
 use borrow.Author.Needs.{needs}
 use borrow.Author.Tests.{not-true, not-false}
 use denote.Ref.{now}
-use Rattle.kiltgrit.proofs.plain.ExportLaws.{whole-eights, exported-rest, exported-none, exported-whole, exported-long}
-use Rattle.kiltgrit.proofs.plain.call.Statement.{statement}
-use Rattle.kiltgrit.proofs.plain.call.Tie as tie
+use Rattle.kiltgrit.proofs.by_bytes.ExportLaws.{whole-eights, exported-rest, exported-none, exported-whole, exported-long}
+use Rattle.kiltgrit.proofs.by_bytes.call.Statement.{statement}
+use Rattle.kiltgrit.proofs.by_bytes.call.Tie as tie
 
 returns : tie.Need-returns
 returns c = exported-rest _ _ _ _ _ _ _ _ _ (c .if1 .taken)

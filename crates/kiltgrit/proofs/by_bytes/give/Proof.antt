@@ -3,8 +3,8 @@ use mathlib.Core.Path.{refl}
 use borrow.Author.Needs.{needs}
 use Rattle.models.specs.Answers.{numberOf}
 use Rattle.kiltgrit.specs.Exports.{left}
-use Rattle.kiltgrit.proofs.plain.give.Statement.{statement}
-use Rattle.kiltgrit.proofs.plain.give.Tie as tie
+use Rattle.kiltgrit.proofs.by_bytes.give.Statement.{statement}
+use Rattle.kiltgrit.proofs.by_bytes.give.Tie as tie
 
 returns : tie.Need-returns
 unfolding numberOf left

@@ -5,9 +5,9 @@ use lib.Ieee.{round, ofBits}
 use borrow.Author.Tests.{eq-eqb, ne-eqb}
 use Rattle.arithmetic.specs.Floats.{dec}
 use Rattle.models.specs.Faults.{tolerance}
-use Rattle.kiltgrit.proofs.plain.ExportLaws.{eights-empty, eights-off, eights-length, eights-index, eights-rest}
-use Rattle.kiltgrit.proofs.plain.fractions_fault.Statement.{statement}
-use Rattle.kiltgrit.proofs.plain.fractions_fault.Tie as tie
+use Rattle.kiltgrit.proofs.by_bytes.ExportLaws.{eights-empty, eights-off, eights-length, eights-index, eights-rest}
+use Rattle.kiltgrit.proofs.by_bytes.fractions_fault.Statement.{statement}
+use Rattle.kiltgrit.proofs.by_bytes.fractions_fault.Tie as tie
 
 returns : tie.Need-returns
 returns c = (eights-empty _ _ _ _ (c .if1 .taken), λ e. absurd (omega arith))

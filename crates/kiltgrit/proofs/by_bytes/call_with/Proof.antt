@@ -9,9 +9,9 @@ use Rattle.arithmetic.specs.Tables.{at}
 use Rattle.models.specs.Model.{ModelData}
 use Rattle.models.specs.Plain.{valueAt}
 use Rattle.models.proofs.AnswerLaws.{first-left, first-right, answer-refused, answer-value}
-use Rattle.kiltgrit.proofs.plain.ExportLaws.{whole-eights, by-parts}
-use Rattle.kiltgrit.proofs.plain.call_with.Statement.{statement}
-use Rattle.kiltgrit.proofs.plain.call_with.Tie as tie
+use Rattle.kiltgrit.proofs.by_bytes.ExportLaws.{whole-eights, by-parts}
+use Rattle.kiltgrit.proofs.by_bytes.call_with.Statement.{statement}
+use Rattle.kiltgrit.proofs.by_bytes.call_with.Tie as tie
 
 returns : tie.Need-returns
 returns c = answer-refused _ (first-left _ (c .before .data-fault .ensures .0) (c .if1 .taken)) (c .if1 .taken) ∙ by-parts _ _ _ _

@@ -1,4 +1,4 @@
-// The plain calls for a host in Rust or C: numbers and byte slices, an f64 as eight bytes, lowest
+// The plain calls by bytes, for the test host: numbers and byte slices, an f64 as eight bytes, lowest
 // first. Each answers document 01's number, 0 for none; the value goes to `value`, which a refused
 // call leaves as it was.
 ghost use mathlib.Core.Path.{_≡_};
