@@ -8,7 +8,7 @@ use Rattle.arithmetic.proofs.Tests.{either}
 use Rattle.models.specs.declared.answers.Quantity.{Quantity}
 use Rattle.mixture.specs.declared.head.Head.{Head}
 use Rattle.mixture.specs.declared.answers.Answer.the-variants.{Done}
-use Rattle.mixture.specs.Answers.{numberOf}
+use Rattle.mixture.specs.Answers.{numberOf, valueOf}
 use Rattle.mixture.specs.Memory.{Memory, After, after}
 use Rattle.mixture.specs.Layout.{dataIn}
 use Rattle.mixture.specs.Calls.{outcome, noHead, loadedHead, loadedMemory, setMemory, setHead, withFractions, answered as answeredBy, afterOpen, afterLoad, afterSetting, afterFractions, afterQuery}
@@ -17,7 +17,7 @@ use Rattle.mixture.specs.History.{afterCall, answers}
 use Rattle.mixture.proofs.history.History.{history}
 use Rattle.kiltgrit.specs.declared.border.CHead.{CHead}
 use Rattle.kiltgrit.specs.declared.border.CAnswer.{CAnswer}
-use Rattle.kiltgrit.specs.Border.{headOf, valueOf, countOf, replyOf, answerOf, replied}
+use Rattle.kiltgrit.specs.Border.{headOf, countOf, replyOf, answerOf, replied}
 use Rattle.kiltgrit.specs.Arguments.{loadOf, settingOf, quantityAsked}
 use Rattle.kiltgrit.specs.Host.{Call, Open, Load, Set, Fractions, Query, callOf, Host, taken, hostAfter, hostTold, HostHistory}
 use Rattle.kiltgrit.proofs.Laws.{head-crosses}

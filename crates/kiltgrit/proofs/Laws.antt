@@ -11,13 +11,13 @@ use Rattle.mixture.specs.declared.head.Head.{Head}
 use Rattle.models.specs.declared.model.Model.{Model}
 use Rattle.mixture.specs.declared.answers.Answer.{Answer}
 use Rattle.mixture.specs.declared.answers.Reply.{Reply}
-use Rattle.mixture.specs.Answers.{numberOf}
+use Rattle.mixture.specs.Answers.{numberOf, valueOf}
 use Rattle.mixture.specs.Memory.{Memory, After, after}
 use Rattle.models.specs.Model.{modelOf, modelData}
 use Rattle.kiltgrit.specs.declared.border.CHead.{CHead}
 use Rattle.kiltgrit.specs.declared.border.CReply.{CReply}
 use Rattle.kiltgrit.specs.declared.border.CAnswer.{CAnswer}
-use Rattle.kiltgrit.specs.Border.{headOf, cHead, valueOf, countOf, reply, replyOf, answerOf, left, replied, answered}
+use Rattle.kiltgrit.specs.Border.{headOf, cHead, countOf, reply, replyOf, answerOf, left, replied, answered}
 use Rattle.kiltgrit.specs.Arguments.{knownN, loadOf}
 
 -- the two cases of a reply

@@ -2,10 +2,11 @@
 ghost use mathlib.Core.Path.{_≡_};
 ghost use mathlib.Core.Bool.{cond};
 ghost use Rattle.mixture.specs.Answers.{numberOf};
-ghost use Rattle.kiltgrit.specs.Border.{headOf, cHead, valueOf, countOf, replyOf, answerOf, valueOr};
+ghost use Rattle.kiltgrit.specs.Border.{headOf, cHead, countOf, replyOf, answerOf, valueOr};
 use mixture::Answer;
 use mixture::Head;
 use mixture::Reply;
+use mixture::answers::value_of;
 use models::limits::COMPONENTS;
 use models::limits::PLACES;
 
@@ -108,18 +109,7 @@ fn c_head(h: Head) -> CHead
     }
 }
 
-// The value of an answered query, else 0.
-fn value_of(a: Answer) -> f64
-    ensures { λ r. ⌜ r ≡ valueOf a ⌝ }
-{
-    match a {
-        Answer::Refused(_) => 0.0,
-        Answer::Done => 0.0,
-        Answer::Value(v, _) => v,
-    }
-}
-
-// The cells that it worked out, else 0.
+// The cells that a query worked out, else 0.
 fn count_of(a: Answer) -> usize
     ensures { λ r. ⌜ r ≡ countOf a ⌝ }
 {

@@ -4,6 +4,7 @@ use mathlib.Core.List.{List, [], _∷_}
 use Prim.Native.Nat.{ℕ}
 use lib.Dec.{eqb}
 use lib.Ieee.{Float}
+use Rattle.arithmetic.specs.Floats.{+0}
 use Rattle.mixture.specs.declared.answers.Answer.{Answer}
 use Rattle.mixture.specs.declared.answers.Answer.the-variants.{Refused, Done, Value}
 
@@ -23,6 +24,12 @@ unfoldable pub countsOf : Answer → List ℕ
 countsOf (Refused k) = []
 countsOf Done = []
 countsOf (Value v count) = count ∷ []
+
+-- the value, 0 where there is none
+unfoldable pub valueOf : Answer → Float
+valueOf (Refused k) = +0
+valueOf Done = +0
+valueOf (Value v count) = v
 
 -- a refusal with the number k, or where k is 0 the answer given
 abbrev pub unless : ℕ → Answer → Answer

@@ -21,20 +21,14 @@ use Rattle.mixture.specs.declared.head.Head.{Head}
 use Rattle.models.specs.declared.model.Model.{Model}
 use Rattle.mixture.specs.declared.setting.Setting.{Setting}
 use Rattle.mixture.specs.declared.setting.Setting.the-variants.{Temperature, Entry, TdEntry}
-use Rattle.mixture.specs.declared.answers.Answer.{Answer}
-use Rattle.mixture.specs.declared.answers.Answer.the-variants.{Refused, Done, Value}
 use Rattle.models.specs.Limits.{mostComponents, mostValues}
 use Rattle.models.specs.Model.{ModelData, modelData, byModel, modelOf}
+use Rattle.mixture.specs.Answers.{valueOf}
 use Rattle.mixture.specs.Memory.{Memory, memory, leastValues, leastCells, leastMarks, After}
 use Rattle.mixture.specs.Calls.{noHead, afterOpen, afterLoad, afterSetting, afterFractions, afterQuery}
 use Rattle.models.specs.Plain.{plainCall}
 
--- the value of an answered query, +0 for any other answer
-unfoldable pub valueOf : Answer → Float
-valueOf (Refused k) = +0
-valueOf Done = +0
-valueOf (Value v count) = v
-
+-- the value of a plain call, +0 for a refusal
 unfoldable pub plainValue : Plain.Answer → Float
 plainValue (PlainAnswer.Value v) = v
 plainValue (PlainAnswer.Refused k) = +0

@@ -4,19 +4,20 @@ ghost use mathlib.Core.Path.{_≡_};
 ghost use Prim.Native.Nat.{_+_, _-_, _*_, _/_, _≤_};
 ghost use lib.ListN.{length};
 ghost use Rattle.mixture.specs.Memory.{before, later, left};
+ghost use Rattle.mixture.specs.Answers.{valueOf};
 ghost use Rattle.mixture.specs.Calls.{noHead};
 ghost use Rattle.models.specs.Model.{given as dataGiven};
 ghost use Rattle.models.specs.Plain.{plainCall};
-ghost use Rattle.repeat.specs.Exports.{valueOf, plainValue, settingOf, askedTimes};
+ghost use Rattle.repeat.specs.Exports.{plainValue, settingOf, askedTimes};
 ghost use Rattle.repeat.specs.Exports.{setTimes, turns, begun};
 ghost use Rattle.repeat.specs.Exports.{zeros, plainTurns, repeated, repeatedBytes, each, howMany};
 use arithmetic::TdParam;
 use arithmetic::bytes;
-use mixture::Answer;
 use mixture::Head;
 use mixture::Model;
 use mixture::Reply;
 use mixture::Setting;
+use mixture::answers::value_of;
 use mixture::faults::CELLS;
 use mixture::faults::MARKS;
 use mixture::faults::VALUES;
@@ -31,17 +32,6 @@ use models::answers::quantity_of;
 use models::limits::COMPONENTS;
 use models::model::model_of;
 use models::model::plain;
-
-// The value of an answered query, 0 for any other answer.
-fn value_of(a: Answer) -> f64
-    ensures { λ r. ⌜ r ≡ valueOf a ⌝ }
-{
-    match a {
-        Answer::Refused(_) => 0.0,
-        Answer::Done => 0.0,
-        Answer::Value(v, _) => v,
-    }
-}
 
 fn plain_value(a: models::Answer) -> f64
     ensures { λ r. ⌜ r ≡ plainValue a ⌝ }

@@ -18,10 +18,11 @@ use Rattle.mixture.specs.declared.setting.Setting.the-variants.{Temperature}
 use Rattle.mixture.specs.declared.answers.Answer.{Answer}
 use Rattle.models.specs.Answers.{quantityOf}
 use Rattle.models.specs.Model.{ModelData, modelData, modelOf}
+use Rattle.mixture.specs.Answers.{valueOf}
 use Rattle.mixture.specs.Memory.{Memory, memory, After, after}
 use Rattle.mixture.specs.Calls.{noHead, afterOpen, afterLoad, afterSetting, afterFractions, afterQuery}
 use Rattle.models.specs.Plain.{plainCall}
-use Rattle.repeat.specs.Exports.{valueOf, plainValue, settingOf, asked, setAndAsked, askedTimes, setTimes, turns, begun, zeros, plainTurns, repeated, repeatedBytes}
+use Rattle.repeat.specs.Exports.{plainValue, settingOf, asked, setAndAsked, askedTimes, setTimes, turns, begun, zeros, plainTurns, repeated, repeatedBytes}
 
 pub begun-is : (m : Memory) (h : Head) (d : ModelData) (x : List Float) {m₁ m₂ : Memory} {h₁ h₂ : Head} {a₁ a₂ : Answer} {r : After} →
     after m₁ h₁ a₁ ≡ afterOpen m h → after m₂ h₂ a₂ ≡ afterLoad m₁ h₁ d → r ≡ afterFractions m₂ h₂ x → r ≡ begun m h d x

@@ -1,9 +1,9 @@
 -- An answer's value, 0 where it has none: each case is the definition's.
 use lib.Ieee.{ofBits}
 use borrow.Author.Needs.{needs}
-use Rattle.repeat.specs.Exports.{valueOf}
-use Rattle.repeat.proofs.exports.value_of.Statement.{statement}
-use Rattle.repeat.proofs.exports.value_of.Tie as tie
+use Rattle.mixture.specs.Answers.{valueOf}
+use Rattle.mixture.proofs.answers.value_of.Statement.{statement}
+use Rattle.mixture.proofs.answers.value_of.Tie as tie
 
 pub value-of-spec : {M : Type 1} → statement M
 unfolding valueOf ofBits
