@@ -1,7 +1,9 @@
 // A record's call, on the parts of the memory that it lends.
 ghost use Prim.Native.Nat.{_+_, _*_, _≤_};
 ghost use lib.ListN.{length};
+ghost use Rattle.histories.specs.Rows.{floatsRoom};
 use crate::records;
+use crate::records::FLOATS_ROOM;
 use crate::records::Record;
 use arithmetic::TdParam;
 use arithmetic::bytes::fill_floats;
@@ -13,6 +15,14 @@ use models::answers::quantity_of;
 use models::limits::COMPONENTS;
 use models::limits::PLACES;
 use models::model::model_numbered;
+
+// A head's record: where T stands among the floats, behind the fractions, and in the first row, behind the
+// lengths, whether T and whether the fractions are set.
+const T_AT: usize = COMPONENTS;
+
+const HAS_T_AT: usize = COMPONENTS;
+
+const HAS_X_AT: usize = COMPONENTS + 1;
 
 // The float at a place of a row, and 0 past its end.
 fn float(s: &[f64], k: usize) -> f64 {
@@ -67,7 +77,7 @@ fn put_floats(a: &mut [f64], s: &[f64]) {
     }
 }
 
-// Any head: 12 lengths, then whether T and the fractions are set; the groups; the fractions and T.
+// Any head: the lengths, and whether T and the fractions are set; the groups; the fractions and T.
 fn head_of(r: Record, first: &[u8], second: &[u8], floats: &[f64]) -> Head {
     let mut lens = [0u8; COMPONENTS];
     put_bytes(&mut lens[..], first);
@@ -81,10 +91,10 @@ fn head_of(r: Record, first: &[u8], second: &[u8], floats: &[f64]) -> Head {
         ng: r.c,
         lens: lens,
         groups: groups,
-        t: float(floats, 12),
+        t: float(floats, T_AT),
         x: x,
-        has_t: byte(first, 12) == 1,
-        has_x: byte(first, 13) == 1,
+        has_t: byte(first, HAS_T_AT) == 1,
+        has_x: byte(first, HAS_X_AT) == 1,
     }
 }
 
@@ -163,7 +173,8 @@ pub fn call(
     marks: &mut [u8],
     head: Head,
 ) -> Reply
-    requires { ⌜ (r .first + r .second + 8 * r .floats ≤ length (now rows)) × (r .floats ≤ 7000) ⌝ }
+    requires { ⌜ (r .first + r .second + 8 * r .floats ≤ length (now rows))
+        × (r .floats ≤ floatsRoom) ⌝ }
     requires { ⌜ (r .values ≤ length (now values))
         × (r .cells ≤ length (now cells))
         × (r .marks ≤ length (now marks)) ⌝ }
@@ -171,7 +182,7 @@ pub fn call(
     let first = r.first;
     let floats_at = first + r.second;
     let count = r.floats;
-    let mut floats = [0.0; 7000];
+    let mut floats = [0.0; FLOATS_ROOM];
     fill_floats(count, rows, floats_at, &mut floats[..]);
     on_parts(
         r,

@@ -21,6 +21,21 @@ pub const FRACTIONS: usize = 5;
 
 pub const QUERY: usize = 6;
 
+// The places of the memory: values, cells and marks.
+pub const VALUES_ROOM: usize = 5400;
+
+pub const CELLS_ROOM: usize = 1100;
+
+pub const MARKS_ROOM: usize = 1100;
+
+// The most bytes of a row of bytes, the most floats of the row of floats, and room for all three rows, or for
+// the memory as a record of it has it.
+pub const BYTES_ROOM: usize = 2000;
+
+pub const FLOATS_ROOM: usize = 7000;
+
+pub const ROWS_ROOM: usize = 65536;
+
 // How many places of values, cells and marks are lent; up to five numbers of the call; the lengths of the
 // rows.
 pub struct Record {
@@ -67,22 +82,22 @@ pub fn begun_by(s: &[u8; 96]) -> Record {
 pub fn has_room(r: Record) -> bool
     ensures { λ b. ⌜ (b ≡ true → Fitting r) ⌝ }
 {
-    if 5400 < r.values {
+    if VALUES_ROOM < r.values {
         return false;
     }
-    if 1100 < r.cells {
+    if CELLS_ROOM < r.cells {
         return false;
     }
-    if 1100 < r.marks {
+    if MARKS_ROOM < r.marks {
         return false;
     }
-    if 2000 < r.first {
+    if BYTES_ROOM < r.first {
         return false;
     }
-    if 2000 < r.second {
+    if BYTES_ROOM < r.second {
         return false;
     }
-    if 7000 < r.floats {
+    if FLOATS_ROOM < r.floats {
         return false;
     }
     true

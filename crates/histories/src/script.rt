@@ -1,12 +1,16 @@
 // Runs a script, record by record.
 ghost use Prim.Native.Nat.{_≤_};
 ghost use lib.ListN.{length};
-ghost use Rattle.histories.specs.Rows.{Fitting};
+ghost use Rattle.histories.specs.Rows.{rowsRoom, Fitting, Roomy};
 use crate::calls;
 use crate::digest;
 use crate::lines;
 use crate::records;
+use crate::records::CELLS_ROOM;
+use crate::records::MARKS_ROOM;
+use crate::records::ROWS_ROOM;
 use crate::records::Record;
+use crate::records::VALUES_ROOM;
 use arithmetic::bytes::fill_floats;
 use mixture::Answer;
 use mixture::Head;
@@ -24,13 +28,11 @@ pub struct Turn {
 
 // The rows in place of the memory: marks, values and cells.
 fn put_memory(rows: &[u8], values: &mut [f64], cells: &mut [f64], marks: &mut [u8])
-    requires { ⌜ (65536 ≤ length (now rows))
-        × (5400 ≤ length (now values))
-        × (1100 ≤ length (now cells)) ⌝ }
+    requires { ⌜ (rowsRoom ≤ length (now rows)) × Roomy (now values) (now cells) (now marks) ⌝ }
 {
     calls::put_bytes(marks, rows);
-    fill_floats(5400, rows, 1100, values);
-    fill_floats(1100, rows, 44300, cells);
+    fill_floats(VALUES_ROOM, rows, MARKS_ROOM, values);
+    fill_floats(CELLS_ROOM, rows, MARKS_ROOM + 8 * VALUES_ROOM, cells);
 }
 
 // What a record and its rows bring about.
@@ -43,10 +45,7 @@ fn answered(
     head: Head,
 ) -> Reply
     requires { ⌜ Fitting r ⌝ }
-    requires { ⌜ (65536 ≤ length (now rows))
-        × (5400 ≤ length (now values))
-        × (1100 ≤ length (now cells))
-        × (1100 ≤ length (now marks)) ⌝ }
+    requires { ⌜ (rowsRoom ≤ length (now rows)) × Roomy (now values) (now cells) (now marks) ⌝ }
 {
     if r.kind == records::MEMORY {
         put_memory(rows, values, cells, marks);
@@ -83,11 +82,9 @@ fn with_rows(
     head: Head,
 ) -> Turn
     requires { ⌜ Fitting r ⌝ }
-    requires { ⌜ (5400 ≤ length (now values))
-        × (1100 ≤ length (now cells))
-        × (1100 ≤ length (now marks)) ⌝ }
+    requires { ⌜ Roomy (now values) (now cells) (now marks) ⌝ }
 {
-    let mut rows = [0u8; 65536];
+    let mut rows = [0u8; ROWS_ROOM];
     if !read_rows(fd, &mut rows[..], r.first + r.second + 8 * r.floats) {
         return broken(head);
     }
@@ -102,9 +99,7 @@ fn with_rows(
 }
 
 fn one_record(fd: i32, values: &mut [f64], cells: &mut [f64], marks: &mut [u8], head: Head) -> Turn
-    requires { ⌜ (5400 ≤ length (now values))
-        × (1100 ≤ length (now cells))
-        × (1100 ≤ length (now marks)) ⌝ }
+    requires { ⌜ Roomy (now values) (now cells) (now marks) ⌝ }
 {
     let mut start = [0u8; 96];
     let got = io::read_full(fd, &mut start);
@@ -125,9 +120,7 @@ fn one_record(fd: i32, values: &mut [f64], cells: &mut [f64], marks: &mut [u8], 
 }
 
 fn all_records(fd: i32, values: &mut [f64], cells: &mut [f64], marks: &mut [u8])
-    requires { ⌜ (5400 ≤ length (now values))
-        × (1100 ≤ length (now cells))
-        × (1100 ≤ length (now marks)) ⌝ }
+    requires { ⌜ Roomy (now values) (now cells) (now marks) ⌝ }
 {
     let mut head = no_head();
     for _ in 0..MOST_RECORDS {
@@ -141,8 +134,8 @@ fn all_records(fd: i32, values: &mut [f64], cells: &mut [f64], marks: &mut [u8])
 
 // Runs the script that a file has, on memory that is first all 0.
 pub fn run(fd: i32) {
-    let mut values = [0.0; 5400];
-    let mut cells = [0.0; 1100];
-    let mut marks = [0u8; 1100];
+    let mut values = [0.0; VALUES_ROOM];
+    let mut cells = [0.0; CELLS_ROOM];
+    let mut marks = [0u8; MARKS_ROOM];
     all_records(fd, &mut values[..], &mut cells[..], &mut marks[..]);
 }

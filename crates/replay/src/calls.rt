@@ -13,6 +13,12 @@ use models::answers::quantity_of;
 use models::limits::VALUES;
 use models::model::plain;
 
+// Room for the fractions or the lists of a line, and for the groups of these: for more than any model has,
+// since a line may be one that is refused for that.
+const LINE_ROOM: usize = 16;
+
+const GROUPS_ROOM: usize = 160;
+
 fn is_stored(a: Answer, number: u64, value: u64) -> bool {
     match a {
         Answer::Value(v) => {
@@ -67,10 +73,10 @@ fn with_lists(
         return Line::Broken;
     };
     let parts = words::count(fd);
-    if 16 < parts {
+    if LINE_ROOM < parts {
         return Line::Broken;
     }
-    let mut x = [0.0; 16];
+    let mut x = [0.0; LINE_ROOM];
     if !words::fill_floats(fd, &mut x[..], parts) {
         return Line::Broken;
     }
@@ -93,18 +99,18 @@ fn with_lists(
 // From the lengths of the lists on.
 fn with_quantity(fd: i32, model: Model, n: usize, ng: usize, q: Quantity) -> Line {
     let count = words::count(fd);
-    if 16 < count {
+    if LINE_ROOM < count {
         return Line::Broken;
     }
-    let mut lens = [0u8; 16];
+    let mut lens = [0u8; LINE_ROOM];
     if !words::fill_bytes(fd, &mut lens[..], count) {
         return Line::Broken;
     }
     let pairs = words::count(fd);
-    if 160 < pairs {
+    if GROUPS_ROOM < pairs {
         return Line::Broken;
     }
-    let mut groups = [0u8; 160];
+    let mut groups = [0u8; GROUPS_ROOM];
     if !words::fill_bytes(fd, &mut groups[..], pairs) {
         return Line::Broken;
     }
