@@ -5,16 +5,8 @@ ghost use lib.ListN.{length};
 ghost use Rattle.arithmetic.specs.Tables.{at};
 ghost use Rattle.models.specs.Faults.{indexFault};
 ghost use Rattle.models.specs.Limits.{mostNamed};
-ghost use Rattle.models.specs.Model.{
-  byModel,
-  tableWidth,
-  hasGroups,
-  modelOf,
-  isModel,
-  modelNumber,
-  modelData,
-  given,
-};
+ghost use Rattle.models.specs.Model.{byModel, tableWidth, hasGroups, modelOf, isModel, modelNumber};
+ghost use Rattle.models.specs.Model.{modelData, given};
 ghost use Rattle.models.specs.Plain.{valueAt, plainCall};
 ghost use Rattle.models.specs.Values.{wilsonSize, uniquacSize, nrtlSize};
 ghost use Rattle.models.specs.steps.Model.{Ready};
