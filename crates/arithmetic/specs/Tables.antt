@@ -33,7 +33,7 @@ abbrev pub part : {A : Type 0} → ℕ → ℕ → List A → List A
 part s e l = take (e - s) (drop s l)
 
 -- the first p places are F 0, .., F (p - 1)
-pub record Filled (F : ℕ → Float) (p : ℕ) (g : List Float) : Type 0 where
+pub record Filled (F : Vector) (p : ℕ) (g : List Float) : Type 0 where
   pub each : (k : ℕ) → k < p → at g k ≡ F k
 
 -- the first n places as new says, the others as they were

@@ -4,7 +4,7 @@ use mathlib.Core.List.{[]}
 use Prim.Native.Nat.{ℕ}
 use lib.Dec.{eqb}
 use lib.Ieee.{Float, nan}
-use Rattle.arithmetic.specs.Tables.{from}
+use Rattle.arithmetic.specs.Tables.{Table, from}
 use Rattle.arithmetic.specs.declared.parameters.TdParam.{TdParam}
 use Rattle.models.specs.Unifac.{Groups}
 use Rattle.models.specs.Values.{fiveAt, energies, volumes, rs, qs, taus, alphas, countsAt, groupRs, groupQs, groupAs, lists}
@@ -19,9 +19,9 @@ pub record Held : Type 0 where
   pub n : ℕ
   pub ng : ℕ
   pub lists : Groups
-  pub entry : ℕ → ℕ → Float
+  pub entry : Table
   pub tdEntry : ℕ → ℕ → TdParam
-  pub size : ℕ → ℕ → Float
+  pub size : Table
 
 -- ---- the names read off a load's slices; NaN for those that the model doesn't have
 

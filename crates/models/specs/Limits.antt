@@ -7,10 +7,6 @@ mostComponents = 12
 abbrev pub mostGroups : ℕ
 mostGroups = 32
 
--- that a byte can name, as a record's does
-abbrev pub mostNamed : ℕ
-mostNamed = 255
-
 -- of one list, and of all
 abbrev pub mostListed : ℕ
 mostListed = 12
@@ -25,3 +21,7 @@ mostValues = 5328
 -- a table of exponentials by full rows
 abbrev pub tableSize : ℕ
 tableSize = 1024
+
+-- components that a record can name: it has a byte for them
+abbrev pub mostNamed : ℕ
+mostNamed = 255

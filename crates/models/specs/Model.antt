@@ -29,9 +29,11 @@ hasGroups m = byModel m false false false true
 unfoldable pub modelOf : ℕ → Model
 modelOf k = cond (eqb k 1) Wilson (cond (eqb k 2) Uniquac (cond (eqb k 3) Nrtl Unifac))
 
+-- there is such a model
 abbrev pub isModel : ℕ → Bool
 isModel k = leb 1 k && leb k 4
 
+-- and back: the number of each
 abbrev pub modelNumber : Model → ℕ
 modelNumber m = byModel m 1 2 3 4
 

@@ -20,7 +20,7 @@ use Rattle.models.specs.Exponentials.{groupEnergy}
 pub record Groups : Type 0 where
   pub length : ℕ → ℕ
   pub group : ℕ → ℕ → ℕ
-  pub count : ℕ → ℕ → Float
+  pub count : Table
 
 -- Σ_p count·S_group over the list of i: r_i for S = R, q_i for S = Q
 unfoldable pub size : Groups → Vector → ℕ → Float

@@ -7,9 +7,6 @@ pub const GROUPS: usize = 32;
 
 pub const LIST: usize = 12;
 
-// The most components or groups that a byte can name, as a record's does.
-pub const NAMED: usize = 255;
-
 // The most places of all lists, and values of any model.
 pub const PLACES: usize = COMPONENTS * LIST;
 
@@ -22,3 +19,6 @@ pub const TABLE: usize = GROUPS * GROUPS;
 
 // The places of a table of pure ln Γ by n rows of ng.
 pub const PURE: usize = COMPONENTS * GROUPS;
+
+// The most components that a record can name: it has a byte for them.
+pub const NAMED: usize = 255;

@@ -51,13 +51,13 @@ abbrev pub unmarked : List ℕ → ℕ → Bool
 unmarked marks c = not (eqb (getD marks c 0) 1)
 
 -- of the first n places those that pass are worked out and marked fresh, and r is their number
-pub record Refilled (n : ℕ) (p : ℕ → Bool) (f : ℕ → Float) (cells : List Float) (marks : List ℕ) (cells′ : List Float) (marks′ : List ℕ) (r : ℕ) : Type 0 where
+pub record Refilled (n : ℕ) (p : ℕ → Bool) (f : Vector) (cells : List Float) (marks : List ℕ) (cells′ : List Float) (marks′ : List ℕ) (r : ℕ) : Type 0 where
   pub worked : cells′ ≡ written (λ c. ltb c n && p c) f cells
   pub marked : marks′ ≡ written (λ c. ltb c n && p c) (λ c. 1) marks
   pub counted : r ≡ howMany n p
 
 -- f of each of the first n places that pass stands in l, one after the other, and r is their number
-pub record Gathered (n : ℕ) (p : ℕ → Bool) (f : ℕ → Float) (l : List Float) (r : ℕ) : Type 0 where
+pub record Gathered (n : ℕ) (p : ℕ → Bool) (f : Vector) (l : List Float) (r : ℕ) : Type 0 where
   pub counted : r ≡ howMany n p
   pub each : (j : ℕ) → j < n → p j ≡ true → at l (howMany j p) ≡ f j
 

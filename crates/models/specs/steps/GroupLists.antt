@@ -10,7 +10,7 @@ use lib.ListN.{length, getD}
 use lib.Ieee.{Float}
 use Rattle.arithmetic.specs.Floats.{_⊕_, _⊗_}
 use Rattle.arithmetic.specs.Sums.{fold}
-use Rattle.arithmetic.specs.Tables.{Table, at, from}
+use Rattle.arithmetic.specs.Tables.{Table, Vector, at, from}
 use Rattle.models.specs.Limits.{mostComponents, mostGroups}
 use Rattle.models.specs.Unifac.{Groups}
 use Rattle.models.specs.Values.{start, countsAt, lists}
@@ -61,7 +61,7 @@ pub record Loaded (n ng : ℕ) (lens groups : List ℕ) (values : List Float) : 
   pub listed : Listed n ng lens groups (from (countsAt ng) values)
 
 -- g has F of each of the first m groups named, at the group's own place
-pub record Named (m : ℕ) (group : ℕ → ℕ) (F : ℕ → Float) (g : List Float) : Type 0 where
+pub record Named (m : ℕ) (group : ℕ → ℕ) (F : Vector) (g : List Float) : Type 0 where
   pub each : (p : ℕ) → p < m → at g (group p) ≡ F (group p)
 
 -- g has, by rows of ng, F i of each group that component i lists, for the components from first to below last

@@ -86,7 +86,7 @@ pub record Tables (n ng : ℕ) (r q psi table : List Float) : Type 0 where
   pub rows : n * ng ≤ length table
 
 -- s has what the components share: their sizes r and q, and the sums of these
-pub record Shares (n : ℕ) (c : Groups) (R Q : ℕ → Float) (x : ℕ → Float) (s : Shared) : Type 0 where
+pub record Shares (n : ℕ) (c : Groups) (R Q x : Vector) (s : Shared) : Type 0 where
   pub rEach : Filled (size c R) n (s .r)
   pub qEach : Filled (size c Q) n (s .q)
   pub rSum : s .rs ≡ sizeSum n c R x

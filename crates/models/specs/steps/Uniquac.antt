@@ -6,7 +6,7 @@ use lib.Ieee.{Float}
 use lib.ListN.{length}
 use Rattle.arithmetic.specs.Floats.{_⊗_}
 use Rattle.arithmetic.specs.Sums.{sum}
-use Rattle.arithmetic.specs.Tables.{Filled}
+use Rattle.arithmetic.specs.Tables.{Table, Vector, Filled}
 use Rattle.models.specs.Limits.{mostComponents}
 use Rattle.models.specs.Columns.{columnSum}
 use Rattle.models.specs.Uniquac.{tau, share, l}
@@ -20,7 +20,7 @@ pub record UniquacFits (n : ℕ) (r q e x : List Float) : Type 0 where
   pub fractions : n ≤ length x
 
 -- Σ_j x_j r_j, Σ_j x_j l_j, θ and Σ_k θ_k τ_kj
-pub record UniquacShared (n : ℕ) (r q : ℕ → Float) (E : ℕ → ℕ → Float) (x : ℕ → Float) (rx lx : Float) (theta sums : List Float) : Type 0 where
+pub record UniquacShared (n : ℕ) (r q : Vector) (E : Table) (x : Vector) (rx lx : Float) (theta sums : List Float) : Type 0 where
   pub rSum : rx ≡ sum n (λ j. x j ⊗ r j)
   pub lSum : lx ≡ sum n (λ j. x j ⊗ l r q j)
   pub shares : Filled (share n q x) n theta
