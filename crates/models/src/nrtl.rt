@@ -124,6 +124,13 @@ fn column_sums(n: usize, tau: &[f64], g: &[f64], x: &[f64], u: &mut [f64], d: &m
     }
 }
 
+// A term of the second sum of ln γ_i: that of j, from x_j, G_ij, τ_ij, its numerator and its denominator.
+fn term(x: f64, g: f64, tau: f64, u: f64, d: f64) -> f64
+    ensures { λ r. ⌜ r ≡ x ⊗ g ⊘ d ⊗ (tau ⊖ u ⊘ d) ⌝ }
+{
+    x * g / d * (tau - u / d)
+}
+
 // The second sum of ln γ_i; tau and g are row i of their tables, u the numerators and d the
 // denominators. The terms run without a test for the diagonal, then its own is put right.
 fn second(n: usize, tau: &[f64], g: &[f64], u: &[f64], d: &[f64], x: &[f64], i: usize) -> f64
@@ -143,9 +150,9 @@ fn second(n: usize, tau: &[f64], g: &[f64], u: &[f64], d: &[f64], x: &[f64], i: 
 {
     let mut terms = [0.0; COMPONENTS];
     for j in 0..n {
-        terms[j] = x[j] * g[j] / d[j] * (tau[j] - u[j] / d[j]);
+        terms[j] = term(x[j], g[j], tau[j], u[j], d[j]);
     }
-    terms[i] = x[i] * 1.0 / d[i] * (0.0 - u[i] / d[i]);
+    terms[i] = term(x[i], 1.0, 0.0, u[i], d[i]);
     arithmetic::sum(&terms[..n])
 }
 

@@ -73,23 +73,23 @@ column-sums-spec =
     Inv-loop
     μ-loop
     loop-holds
-    (λ c. omega (arith, ends c))
+    (λ c. omega (arith, ends c .1))
     (λ c. omega arith)
     (λ c. omega arith)
-    (λ c. omega (arith, ends (c .before)))
-    (λ c. omega (arith, ends (c .before)))
-    (λ c. omega (arith, ends (c .before)))
+    (λ c. omega (arith, ends (c .before) .1))
+    (λ c. omega (arith, ends (c .before) .1))
+    (λ c. omega (arith, ends (c .before) .1))
     (λ c. omega arith)
-    (λ c. omega (arith, ends (c .before .before)))
-    (λ c. omega (arith, ends (c .before .before)))
-    (λ c. omega (arith, ends (c .before .before)))
+    (λ c. omega (arith, ends (c .before .before) .0))
+    (λ c. omega (arith, ends (c .before .before) .0))
+    (λ c. omega (arith, ends (c .before .before) .0))
     (λ c. omega arith)
     add-terms-requires
     (λ c. omega arith)
     (λ c. omega arith)
-    (λ c. omega (arith, ends (c .before .before .before .before .before .before .before .before)))
-    (λ c. omega (arith, ends (c .before .before .before .before .before .before .before .before)))
-    (λ c. omega (arith, ends (c .before .before .before .before .before .before .before .before)))
+    (λ c. omega (arith, ends (c .before .before .before .before .before .before .before .before) .1))
+    (λ c. omega (arith, ends (c .before .before .before .before .before .before .before .before) .1))
+    (λ c. omega (arith, ends (c .before .before .before .before .before .before .before .before) .1))
     (λ c. omega arith)
     add-unit-row-requires
     (λ c. omega arith)

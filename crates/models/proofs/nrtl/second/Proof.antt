@@ -1,6 +1,6 @@
 -- The terms are the definition's off the diagonal, whose own is put right; the sum is their fold.
-use mathlib.Core.Path.{refl}
 use Prim.Native.Nat.{_-_}
+use mathlib.Core.Path.{refl}
 use native.Mathlib.Omega.{arith}
 use lib.Ieee.{round, ofBits}
 use Rattle.arithmetic.specs.Floats.{_⊖_, _⊗_, _⊘_, dec, one}
@@ -18,14 +18,14 @@ abbrev μ-loop : tie.MeasureT-loop
 μ-loop n tau g u d x i terms₀ j₀ terms j = n - j
 
 loop-again : tie.Need-loop-again Inv-loop μ-loop
-loop-again c = filling-more (omega arith) (c .before .before .before .before .before .before .before .loop .inv) refl
+loop-again c = filling-more (omega arith) (c .before .before .before .before .before .before .before .loop .inv) (c .term .ensures)
 
 returns : tie.Need-returns Inv-loop μ-loop
 unfolding one dec round ofBits
 returns c =
     let done = c .before .before .before .before .before .before in
     let start = done .before .before .before .before .before .before .before in
-    second-folded _ _ _ _ _ _ (start .pre .5) (done .loop-test .left) (done .before .loop .inv) refl (c .sum .ensures)
+    second-folded _ _ _ _ _ _ (start .pre .5) (done .loop-test .left) (done .before .loop .inv) (c .before .before .term2 .ensures) (c .sum .ensures)
 
 pub second-spec : {M : Type 1} → statement M
 second-spec =
@@ -44,8 +44,7 @@ second-spec =
     (λ c. omega arith)
     (λ c. omega arith)
     (λ c. omega arith)
-    (λ c. omega arith)
-    (λ c. omega arith)
+    (λ c κs. tt)
     (λ c. omega arith)
     (λ c. omega arith)
     (λ c. omega arith)
@@ -57,8 +56,7 @@ second-spec =
     (λ c. omega arith)
     (λ c. omega arith)
     (λ c. omega arith)
-    (λ c. omega arith)
-    (λ c. omega arith)
+    (λ c κs. tt)
     (λ c. omega arith)
     (λ c. omega (arith, c .before .before .before .before .before .loop .inv, c .before .before .before .before .before .before .before .before .before .before .before .pre .5))
     (λ c. terms-room (c .before .before .before .before .before .loop .inv) _ _)
