@@ -7,7 +7,7 @@ ghost use Rattle.models.specs.Faults.{indexFault};
 ghost use Rattle.models.specs.Limits.{mostNamed};
 ghost use Rattle.models.specs.Model.{byModel, tableWidth, hasGroups, modelOf, isModel, modelNumber};
 ghost use Rattle.models.specs.Model.{modelData, given};
-ghost use Rattle.models.specs.Plain.{valueAt, plainCall};
+ghost use Rattle.models.specs.Plain.{valueAt, plainCall, bare};
 ghost use Rattle.models.specs.Values.{wilsonSize, uniquacSize, nrtlSize};
 ghost use Rattle.models.specs.steps.Model.{Ready};
 use crate::answers::Answer;
@@ -188,4 +188,11 @@ pub fn plain(
             Answer::Value(unifac::value_at(n, ng, lens, groups, values, t, x, q))
         }
     }
+}
+
+// The same of a model without lists.
+pub fn plain_bare(model: Model, n: usize, values: &[f64], t: f64, x: &[f64], q: Quantity) -> Answer
+    ensures { λ r. ⌜ r ≡ plainCall (bare model n (now (values .entry))) t (now (x .entry)) q ⌝ }
+{
+    plain(model, n, 0, &[], &[], values, t, x, q)
 }

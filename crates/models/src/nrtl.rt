@@ -24,7 +24,7 @@ use crate::columns;
 use crate::limits::COMPONENTS;
 use crate::limits::PAIRS;
 use crate::model::Model;
-use crate::model::plain;
+use crate::model::plain_bare;
 use crate::parameters;
 
 // τ at T, by rows of n: the five of entry k stand from place 5·k on.
@@ -221,47 +221,17 @@ pub fn value_at(n: usize, values: &[f64], t: f64, x: &[f64], q: Quantity) -> f64
 pub fn ln_gamma_at(n: usize, values: &[f64], t: f64, x: &[f64], i: usize) -> Answer
     ensures { λ r. ⌜ r ≡ nrtlPlain n (now (values .entry)) t (now (x .entry)) (Quantity.LnGamma i) ⌝ }
 {
-    plain(
-        Model::Nrtl,
-        n,
-        0,
-        &[],
-        &[],
-        values,
-        t,
-        x,
-        Quantity::LnGamma(i),
-    )
+    plain_bare(Model::Nrtl, n, values, t, x, Quantity::LnGamma(i))
 }
 
 pub fn gamma_at(n: usize, values: &[f64], t: f64, x: &[f64], i: usize) -> Answer
     ensures { λ r. ⌜ r ≡ nrtlPlain n (now (values .entry)) t (now (x .entry)) (Quantity.Gamma i) ⌝ }
 {
-    plain(
-        Model::Nrtl,
-        n,
-        0,
-        &[],
-        &[],
-        values,
-        t,
-        x,
-        Quantity::Gamma(i),
-    )
+    plain_bare(Model::Nrtl, n, values, t, x, Quantity::Gamma(i))
 }
 
 pub fn reduced_excess_gibbs_at(n: usize, values: &[f64], t: f64, x: &[f64]) -> Answer
     ensures { λ r. ⌜ r ≡ nrtlPlain n (now (values .entry)) t (now (x .entry)) Quantity.ExcessGibbs ⌝ }
 {
-    plain(
-        Model::Nrtl,
-        n,
-        0,
-        &[],
-        &[],
-        values,
-        t,
-        x,
-        Quantity::ExcessGibbs,
-    )
+    plain_bare(Model::Nrtl, n, values, t, x, Quantity::ExcessGibbs)
 }

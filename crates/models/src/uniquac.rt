@@ -20,7 +20,7 @@ use crate::answers::Quantity;
 use crate::limits::COMPONENTS;
 use crate::limits::PAIRS;
 use crate::model::Model;
-use crate::model::plain;
+use crate::model::plain_bare;
 
 // The coordination number.
 const Z: f64 = 10.0;
@@ -255,48 +255,18 @@ pub fn ln_gamma_at(n: usize, values: &[f64], t: f64, x: &[f64], i: usize) -> Ans
     ensures { λ v. ⌜ v ≡ uniquacPlain n (now (values .entry)) t (now (x .entry))
         (Quantity.LnGamma i) ⌝ }
 {
-    plain(
-        Model::Uniquac,
-        n,
-        0,
-        &[],
-        &[],
-        values,
-        t,
-        x,
-        Quantity::LnGamma(i),
-    )
+    plain_bare(Model::Uniquac, n, values, t, x, Quantity::LnGamma(i))
 }
 
 pub fn gamma_at(n: usize, values: &[f64], t: f64, x: &[f64], i: usize) -> Answer
     ensures { λ v. ⌜ v ≡ uniquacPlain n (now (values .entry)) t (now (x .entry)) (Quantity.Gamma i) ⌝ }
 {
-    plain(
-        Model::Uniquac,
-        n,
-        0,
-        &[],
-        &[],
-        values,
-        t,
-        x,
-        Quantity::Gamma(i),
-    )
+    plain_bare(Model::Uniquac, n, values, t, x, Quantity::Gamma(i))
 }
 
 pub fn reduced_excess_gibbs_at(n: usize, values: &[f64], t: f64, x: &[f64]) -> Answer
     ensures { λ v. ⌜ v ≡ uniquacPlain n (now (values .entry)) t (now (x .entry))
         Quantity.ExcessGibbs ⌝ }
 {
-    plain(
-        Model::Uniquac,
-        n,
-        0,
-        &[],
-        &[],
-        values,
-        t,
-        x,
-        Quantity::ExcessGibbs,
-    )
+    plain_bare(Model::Uniquac, n, values, t, x, Quantity::ExcessGibbs)
 }

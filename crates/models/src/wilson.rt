@@ -20,7 +20,7 @@ use crate::answers::Quantity;
 use crate::limits::COMPONENTS;
 use crate::limits::PAIRS;
 use crate::model::Model;
-use crate::model::plain;
+use crate::model::plain_bare;
 
 // Σ_j x_j Λ_ij, from the part of the table that starts at row i. The terms run without a test for the
 // diagonal, then its own is put right.
@@ -132,48 +132,18 @@ pub fn ln_gamma_at(n: usize, values: &[f64], t: f64, x: &[f64], i: usize) -> Ans
     ensures { λ r. ⌜ r ≡ wilsonPlain n (now (values .entry)) t (now (x .entry))
         (Quantity.LnGamma i) ⌝ }
 {
-    plain(
-        Model::Wilson,
-        n,
-        0,
-        &[],
-        &[],
-        values,
-        t,
-        x,
-        Quantity::LnGamma(i),
-    )
+    plain_bare(Model::Wilson, n, values, t, x, Quantity::LnGamma(i))
 }
 
 pub fn gamma_at(n: usize, values: &[f64], t: f64, x: &[f64], i: usize) -> Answer
     ensures { λ r. ⌜ r ≡ wilsonPlain n (now (values .entry)) t (now (x .entry)) (Quantity.Gamma i) ⌝ }
 {
-    plain(
-        Model::Wilson,
-        n,
-        0,
-        &[],
-        &[],
-        values,
-        t,
-        x,
-        Quantity::Gamma(i),
-    )
+    plain_bare(Model::Wilson, n, values, t, x, Quantity::Gamma(i))
 }
 
 pub fn reduced_excess_gibbs_at(n: usize, values: &[f64], t: f64, x: &[f64]) -> Answer
     ensures { λ r. ⌜ r ≡ wilsonPlain n (now (values .entry)) t (now (x .entry))
         Quantity.ExcessGibbs ⌝ }
 {
-    plain(
-        Model::Wilson,
-        n,
-        0,
-        &[],
-        &[],
-        values,
-        t,
-        x,
-        Quantity::ExcessGibbs,
-    )
+    plain_bare(Model::Wilson, n, values, t, x, Quantity::ExcessGibbs)
 }
