@@ -12,11 +12,14 @@ use lib.ListN.{length}
 use lib.Ieee.{Float}
 use borrow.Author.Tests.{eq-eqb, eqb-true, ne-eqb, ltb-true, leb-true}
 use Rattle.arithmetic.specs.Exponential.{expOf}
+use Rattle.arithmetic.specs.Tables.{at}
 use Rattle.models.specs.declared.answers.Quantity.{Quantity}
 use Rattle.models.specs.declared.answers.Quantity.the-variants.{LnGamma, Gamma, ExcessGibbs}
 use Rattle.models.specs.declared.answers.Answer.the-variants.{Value, Refused}
 use Rattle.models.specs.Answers.{numberOf, valuesOf, answer, first, firstTo, quantity, reads}
-use Rattle.models.specs.Faults.{indexFault, shapeFault, fractionsFault}
+use Rattle.models.specs.Faults.{indexFault, shapeFault, fractionsFault, dataFault}
+use Rattle.models.specs.Model.{ModelData}
+use Rattle.models.specs.Plain.{valueAt, plainCall}
 use Rattle.models.specs.steps.Model.{ValueFits}
 
 in-range : (n i : ℕ) → _≡_ {A = ℕ} (cond (ltb i n) 0 7) 0 → i < n
@@ -139,14 +142,16 @@ shaped n {s} {size} values e p = (p .0 ∙ shape-size n s size values e, λ z. l
 pub sized-fits : {n s size : ℕ} {values x : List Float} {q : Quantity} → (n ≤ 255 → s ≡ size) → ValueFits n s values x q → ValueFits n size values x q
 sized-fits e f = record { few = f .few; sized = omega (arith, e (omega (arith, f .few)), f .sized); fractions = f .fractions; index = f .index }
 
--- what a plain call of Wilson, UNIQUAC or NRTL answers, s being the size that its code works out
-module _ (n : ℕ) {s size : ℕ} (values : List Float) (e : n ≤ 255 → s ≡ size) (x : List Float) (q : Quantity) {k : ℕ}
-    (f : k ≡ first (shapeFault n s values) (fractionsFault n x q)) where
-  fault : k ≡ first (shapeFault n size values) (fractionsFault n x q)
-  fault = f ∙ ap (λ (f : ℕ). first f (fractionsFault n x q)) (shape-size n s size values e)
+-- what a plain call answers, from its first fault
+module _ (d : ModelData) (T : Float) (x : List Float) (q : Quantity) {k : ℕ} (f : k ≡ first (dataFault d) (fractionsFault (d .n) x q)) where
+  pub plain-refused : (k ≡ 0 → ⊥) → Refused k ≡ plainCall d T x q
+  unfolding plainCall
+  plain-refused ne = answer-refused _ f ne
 
-  pub plain-refused : (v : Float) → (k ≡ 0 → ⊥) → Refused k ≡ answer (first (shapeFault n size values) (fractionsFault n x q)) v
-  plain-refused v ne = answer-refused v fault ne
+  pub plain-value : {v : Float} → k ≡ 0 → v ≡ valueAt d T (at x) q → Value v ≡ plainCall d T x q
+  unfolding plainCall
+  plain-value z p = answer-value f z p
 
-  pub plain-value : {v w : Float} → k ≡ 0 → w ≡ v → Value w ≡ answer (first (shapeFault n size values) (fractionsFault n x q)) v
-  plain-value z p = answer-value fault z p
+-- the first fault where the code works out the size s
+pub sized-first : {n s size : ℕ} (values : List Float) (m : ℕ) → (n ≤ 255 → s ≡ size) → {k : ℕ} → k ≡ first (shapeFault n s values) m → k ≡ first (shapeFault n size values) m
+sized-first values m e f = f ∙ ap (λ (g : ℕ). first g m) (shape-size _ _ _ values e)
