@@ -1,6 +1,6 @@
 -- Group lists that stand list after list: where they start, that their places lie within the slices, and sums kept for
 -- every group at once.
-use mathlib.Core.Path.{_≡_, refl, sym, ap, _∙_}
+use mathlib.Core.Path.{_≡_, refl, sym, ap, subst, _∙_}
 use mathlib.Core.Bool.{Bool, true, false, _&&_, cond, and-false}
 use mathlib.Core.Logic.{⊎-elim}
 use mathlib.Core.List.{List}
@@ -13,17 +13,17 @@ use lib.ListN.{length, getD, set, replicate, length-set}
 use lib.Seq.{getD-set-same, getD-set-other, getD-take, getD-drop}
 use lib.Ieee.{Float, nan, binary64, ofBits, lt}
 use borrow.Author.Tests.{eqb-true, eqb-false}
-use Rattle.arithmetic.specs.Floats.{_⊘_, +0}
-use Rattle.arithmetic.specs.Sums.{fold, total}
+use Rattle.arithmetic.specs.Floats.{_⊕_, _⊘_, +0}
+use Rattle.arithmetic.specs.Sums.{fold, sum, total}
 use Rattle.arithmetic.specs.Tables.{at, from, part, Filled}
-use Rattle.arithmetic.proofs.SumLaws.{fold-more}
+use Rattle.arithmetic.proofs.SumLaws.{fold-more, sum-none, sum-more}
 use Rattle.arithmetic.proofs.TableLaws.{part-length, from-length, by-place}
 use Rattle.models.proofs.ColumnLaws.{zeros}
 use Rattle.models.specs.Faults.{between, allTo, listsFault}
 use Rattle.models.specs.Unifac as Unifac
 use Rattle.models.specs.Unifac.{Groups, amount, amounts, fraction, pureCount, pureFraction}
 use Rattle.models.specs.Values.{start, countsAt, unifacSize}
-use Rattle.models.specs.steps.GroupLists.{Listed, Paired, Sized, Loaded, Named, own, gathered, added, put}
+use Rattle.models.specs.steps.GroupLists.{Listed, Paired, Places, Sized, Loaded, Named, own, gathered, added, put}
 
 -- ---- where a list starts
 
@@ -69,23 +69,27 @@ module _ {n ng : ℕ} {lens groups : List ℕ} {counts : List Float} (all : List
   listed-wider m b = record { many = all .many; within = all .within; counted = all .counted; below = λ p c. omega (arith, all .below p c) }
 
 module _ (i : ℕ) {ng : ℕ} {lens groups : List ℕ} {counts : List Float} {s : ℕ} (all : Listed (i + 1) ng lens groups counts) (here : s ≡ start lens i) where
-  pub list-ends : (s + getD lens i 0 ≤ length groups) × (s + getD lens i 0 ≤ length counts)
-  list-ends = (omega (arith, start-more lens i here refl, all .within), omega (arith, start-more lens i here refl, all .counted))
+  -- where its list stands
+  pub list-places : Places ng s (s + getD lens i 0) groups counts
+  list-places = record {
+    ordered = omega arith;
+    within = omega (arith, start-more lens i here refl, all .within);
+    counted = omega (arith, start-more lens i here refl, all .counted);
+    below = λ p h. all .below p (omega (arith, start-more lens i here refl));
+  }
 
-  pub list-group : (p : ℕ) → p < getD lens i 0 → getD groups (s + p) 0 < ng
-  list-group p h = all .below (s + p) (omega (arith, start-more lens i here refl))
-
+module _ {ng s e : ℕ} {groups : List ℕ} {counts : List Float} (fits : Places ng s e groups counts) where
   -- the list lent as parts
-  pub list-part : (p : ℕ) → p < getD lens i 0 → getD (part s (s + getD lens i 0) groups) p 0 ≡ getD groups (s + p) 0
-  list-part p h = let b : p < s + getD lens i 0 - s = omega arith in rw (getD-take, getD-drop)
+  pub lent-at : (p : ℕ) → p < e - s → getD (part s e groups) p 0 ≡ getD groups (s + p) 0
+  lent-at p h = rw (getD-take, getD-drop)
 
-  pub list-part-length : length (part s (s + getD lens i 0) groups) ≡ getD lens i 0
-  list-part-length = part-length s (s + getD lens i 0) groups (list-ends .0) ∙ omega arith
+  pub lent-length : length (part s e groups) ≡ e - s
+  lent-length = part-length s e groups (fits .within)
 
-  pub list-paired : Paired ng (part s (s + getD lens i 0) groups) (part s (s + getD lens i 0) counts)
-  list-paired = record {
-    counted = part-length s (s + getD lens i 0) counts (list-ends .1) ∙ omega (arith, list-part-length);
-    below = λ p h. let b : p < getD lens i 0 = omega (arith, list-part-length) in rw (list-part p b) (list-group p b);
+  pub lent-paired : Paired ng (part s e groups) (part s e counts)
+  lent-paired = record {
+    counted = part-length s e counts (fits .counted) ∙ sym lent-length;
+    below = λ p h. let b : p < e - s = omega (arith, lent-length) in rw (lent-at p b) (fits .below (s + p) (omega arith));
   }
 
 -- place p lies within a list and its counts, and its group below m
@@ -94,6 +98,9 @@ PairedAt m list counts p = (p < length list) × (p < length counts) × (getD lis
 
 pub paired-at : {ng m p : ℕ} {list : List ℕ} {counts : List Float} → Paired ng list counts → p < length list → ng ≤ m → PairedAt m list counts p
 paired-at fits within wide = (within, omega (arith, within, fits .counted), omega (arith, fits .below _ within))
+
+pub places-at : {ng m s e p : ℕ} {groups : List ℕ} {counts : List Float} → Places ng s e groups counts → p < e → ng ≤ m → PairedAt m groups counts p
+places-at fits within wide = (omega (arith, fits .within), omega (arith, fits .counted), omega (arith, fits .below _ within))
 
 pub paired-wider : {ng : ℕ} {list : List ℕ} {counts : List Float} (m : ℕ) → ng ≤ m → Paired ng list counts → Paired m list counts
 paired-wider m b all = record { counted = all .counted; below = λ p h. omega (arith, all .below p h) }
@@ -127,6 +134,9 @@ module _ {group : ℕ → ℕ} {f : ℕ → Float → Float} {len : ℕ} {old : 
   pub gathering-none : Gathering group f len old 0 old
   gathering-none = record { within = omega arith; long = refl; numbers = gathered-none group f old (length old) }
 
+  pub gathering-start : {s : ℕ} → s ≡ 0 → Gathering group f len old s old
+  gathering-start z = rw z gathering-none
+
   pub gathering-more : {p g : ℕ} {num : List Float} {v : Float} → p < len → g ≡ group p → g < length num → v ≡ f p (at num g) → Gathering group f len old p num → Gathering group f len old (p + 1) (set num g v)
   gathering-more {p} {g} h e b w all = record {
     within = omega arith;
@@ -136,6 +146,24 @@ module _ {group : ℕ → ℕ} {f : ℕ → Float → Float} {len : ℕ} {old : 
 
   pub gathering-done : {p : ℕ} {num : List Float} → len ≤ p → Gathering group f len old p num → Filled (λ k. gathered len group f k (at old k)) (length old) num
   gathering-done h all = rw (← le-antisymm (all .within) h) (all .numbers)
+
+-- the same, and a sum, over the places from s to below e
+pub placing-more : (group : ℕ → ℕ) (f : ℕ → Float → Float) {s e p g : ℕ} {old num : List Float} {v : Float} → s ≤ p → p < e → g ≡ group p → g < length num → v ≡ f p (at num g) →
+    Gathering (λ k. group (s + k)) (λ k. f (s + k)) (e - s) old (p - s) num → Gathering (λ k. group (s + k)) (λ k. f (s + k)) (e - s) old (p + 1 - s) (set num g v)
+placing-more group f {s} {e} {p} {g} {old} {num} {v} h b named l w all =
+    let d : p ≡ s + (p - s) = omega arith in
+    let m : p - s + 1 ≡ p + 1 - s = omega arith in
+    subst (λ (k : ℕ). Gathering (λ k. group (s + k)) (λ k. f (s + k)) (e - s) old k (set num g v)) m
+    (gathering-more (omega arith) (named ∙ ap group d) l (w ∙ ap (λ (k : ℕ). f k (at num g)) d) all)
+
+pub places-none : (s : ℕ) (f : ℕ → Float) → ofBits binary64 0 ≡ sum (s - s) f
+places-none s f = let z : s - s ≡ 0 = omega arith in rw z (sum-none f)
+
+pub places-more : (s : ℕ) (f : ℕ → Float) (p : ℕ) {v w : Float} → s ≤ p → v ≡ sum (p - s) (λ k. f (s + k)) → w ≡ f p → v ⊕ w ≡ sum (p + 1 - s) (λ k. f (s + k))
+places-more s f p {v} {w} h all one =
+    let d : p ≡ s + (p - s) = omega arith in
+    let m : p - s + 1 ≡ p + 1 - s = omega arith in
+    subst (λ (k : ℕ). v ⊕ w ≡ sum k (λ k. f (s + k))) m (sum-more (λ k. f (s + k)) (p - s) all (one ∙ ap f d))
 
 -- ---- an array that has F of the groups named
 
@@ -155,9 +183,6 @@ module _ (group : ℕ → ℕ) (F : ℕ → Float) where
 
   pub named-done : (p m : ℕ) {g : List Float} → p ≤ m → m ≤ p → Named p group F g → Named m group F g
   named-done p m a b all = rw (le-antisymm a b) at all
-
-  pub filled-named : (m ng : ℕ) {g : List Float} → ((p : ℕ) → p < m → group p < ng) → Filled F ng g → Named m group F g
-  filled-named m ng below all = record { each = λ p h. all .each (group p) (below p h) }
 
 -- ---- fractions
 

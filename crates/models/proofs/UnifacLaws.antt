@@ -1,8 +1,8 @@
 -- UNIFAC: what an exponential reads, rows lent as parts, sums worked out once, and equal inputs give equal values.
-use mathlib.Core.Path.{_≡_, refl, ap, _∙_}
+use mathlib.Core.Path.{_≡_, refl, ap, subst, _∙_}
 use mathlib.Core.Bool.{true, cond}
 use mathlib.Core.List.{List, _++_}
-use Prim.Native.Nat.{ℕ, _+_, _*_, _/_, _%_, _<_, _≤_}
+use Prim.Native.Nat.{ℕ, _+_, _*_, _-_, _/_, _%_, _<_, _≤_}
 use native.Mathlib.Nat.{div-add-mod'}
 use native.Mathlib.Omega.{arith}
 use lib.Dec.{eqb}
@@ -24,14 +24,14 @@ use Rattle.models.specs.Answers.{quantity, reads}
 use Rattle.models.specs.Faults.{indexFault}
 use Rattle.models.specs.Columns.{columnSum}
 use Rattle.models.specs.Exponentials.{groupEnergy}
-use Rattle.models.specs.steps.GroupLists.{Listed, Loaded, Named, ListedRows, own, gathered, added}
+use Rattle.models.specs.steps.GroupLists.{Listed, Places, Loaded, Named, ListedRows, own, placed, gathered, added}
 use Rattle.models.specs.Unifac as Unifac
 use Rattle.models.specs.Unifac.{Groups, size, sizeSum, combinatorial, counts, amount, amounts, fraction, pureCount, pureFraction, theta, lnGroup, mixed, pure, residual, lnGamma, excess, unifac, unifacBy, unifacAt}
 use Rattle.models.specs.steps.Unifac.{psiBy, Shares, combinatorialFrom, lnFrom}
 use Rattle.models.specs.Values.{fiveAt, start, countsAt, groupRs, groupQs, groupAs, lists}
 use Rattle.models.proofs.AnswerLaws.{quantity-ln, quantity-gamma, quantity-excess, quantity-same, quantity-read}
 use Rattle.models.proofs.ParameterLaws.{five-from}
-use Rattle.models.proofs.GroupListLaws.{listed-less, list-group, list-part, list-part-length, list-paired}
+use Rattle.models.proofs.GroupListLaws.{listed-less, list-places, lent-at, lent-length, lent-paired}
 
 -- ---- an exponential
 
@@ -203,25 +203,36 @@ module _ (n ng : ℕ) (c d : Groups) (lists : (i : ℕ) → i < n → SameList n
 module _ (i : ℕ) {ng : ℕ} {lens groups : List ℕ} {counts : List Float} {s : ℕ} (all : Listed (i + 1) ng lens groups counts) (here : s ≡ start lens i) where
   own-same : SameList ng (own (part s (s + getD lens i 0) groups) (part s (s + getD lens i 0) counts)) (lists lens groups counts) i
   unfolding lists
-  own-same = record {
-    lengths = list-part-length i all here;
-    groups = λ p h. list-part i all here p (omega (arith, list-part-length i all here)) ∙ rw here;
-    counts = λ p h. part-at counts s (s + getD lens i 0) p (omega (arith, list-part-length i all here)) ∙ rw here;
-    below = list-paired i all here .below;
+  own-same =
+      let fits = list-places i all here in
+      record {
+        lengths = lent-length fits ∙ omega arith;
+        groups = λ p h. lent-at fits p (omega (arith, lent-length fits)) ∙ rw here;
+        counts = λ p h. part-at counts s (s + getD lens i 0) p (omega (arith, lent-length fits)) ∙ rw here;
+        below = lent-paired fits .below;
+      }
+
+  placed-same : SameList ng (placed s (s + getD lens i 0) groups counts) (lists lens groups counts) i
+  unfolding lists
+  placed-same = record {
+    lengths = omega arith;
+    groups = λ p h. rw here;
+    counts = λ p h. rw here;
+    below = λ p h. list-places i all here .below (s + p) (omega arith);
   }
 
-  pub size-own : (S : ℕ → Float) {v : Float} → v ≡ size (own (part s (s + getD lens i 0) groups) (part s (s + getD lens i 0) counts)) S 0 → v ≡ size (lists lens groups counts) S i
+  pub size-placed : (S : ℕ → Float) {v : Float} → v ≡ size (placed s (s + getD lens i 0) groups counts) S 0 → v ≡ size (lists lens groups counts) S i
   unfolding size
-  size-own S e = e ∙ size-same own-same S S (λ k b. refl)
+  size-placed S e = e ∙ size-same placed-same S S (λ k b. refl)
 
   pub counts-own : {v : Float} → v ≡ total (part s (s + getD lens i 0) counts) → v ≡ Unifac.counts (lists lens groups counts) i
   unfolding total Unifac.counts
-  counts-own e = e ∙ ap (λ (m : ℕ). sum m (at (part s (s + getD lens i 0) counts))) (list-paired i all here .counted) ∙ counts-same own-same
+  counts-own e = e ∙ ap (λ (m : ℕ). sum m (at (part s (s + getD lens i 0) counts))) (lent-paired (list-places i all here) .counted) ∙ counts-same own-same
 
-  pub added-own : (x : Float) (old : ℕ → Float) {m : ℕ} {num : List Float} → Filled (λ k. added (own (part s (s + getD lens i 0) groups) (part s (s + getD lens i 0) counts)) x 0 k (old k)) m num →
+  pub added-placed : (x : Float) (old : ℕ → Float) {m : ℕ} {num : List Float} → Filled (λ k. added (placed s (s + getD lens i 0) groups counts) x 0 k (old k)) m num →
       Filled (λ k. added (lists lens groups counts) x i k (old k)) m num
   unfolding gathered
-  added-own x old = filled-as (λ k h. added-same own-same x x k (old k) refl)
+  added-placed x old = filled-as (λ k h. added-same placed-same x x k (old k) refl)
 
   pub pure-own : (Q : ℕ → Float) (Ψ : ℕ → ℕ → Float) {g : List Float} →
       Named (length (part s (s + getD lens i 0) groups)) (λ p. getD (part s (s + getD lens i 0) groups) p 0) (pure ng (own (part s (s + getD lens i 0) groups) (part s (s + getD lens i 0) counts)) Q Ψ 0) g →
@@ -235,15 +246,31 @@ module _ (i : ℕ) {ng : ℕ} {lens groups : List ℕ} {counts : List Float} {s 
         rw (own-same .groups p b) at e;
   }
 
-  -- g has ln Γ in the mixture of the groups listed, and row i of the table has that in pure i
-  pub residual-own : (M : ℕ → Float) (g table : List Float) {v : Float} → Named (length (part s (s + getD lens i 0) groups)) (λ p. getD (part s (s + getD lens i 0) groups) p 0) M g → i * ng + ng ≤ length table →
-      v ≡ residual (own (part s (s + getD lens i 0) groups) (part s (s + getD lens i 0) counts)) (at (take ng g)) (λ _. at (from (i * ng) table)) 0 → v ≡ residual (lists lens groups counts) M (grid ng table) i
+  -- g has ln Γ in the mixture, of all groups or of those listed
+  pub residual-filled : (M : ℕ → Float) (P : ℕ → ℕ → Float) {g : List Float} {v : Float} → Filled M ng g →
+      v ≡ residual (placed s (s + getD lens i 0) groups counts) (at g) P i → v ≡ residual (lists lens groups counts) M P i
+  residual-filled M P {g} all e = e ∙ residual-same placed-same (at g) M P P (all .each) (λ p h. refl)
+
+  pub residual-placed : (M : ℕ → Float) (P : ℕ → ℕ → Float) {g : List Float} {v : Float} → Named (s + getD lens i 0 - s) (λ p. getD groups (s + p) 0) M g →
+      v ≡ residual (placed s (s + getD lens i 0) groups counts) (at g) P i → v ≡ residual (lists lens groups counts) M P i
   unfolding residual
-  residual-own M g table named room e =
-      e
-      ∙ sum-same (length (part s (s + getD lens i 0) groups)) _ _
-      (λ p h. rw (getD-take ng g (getD (part s (s + getD lens i 0) groups) p 0) nan (own-same .below p h), named .each p h, from-at table (i * ng) (getD (part s (s + getD lens i 0) groups) p 0) (omega (arith, own-same .below p h))))
-      ∙ residual-same own-same M M (grid ng table) (grid ng table) (λ k b. refl) (λ p h. refl)
+  residual-placed M P named e =
+      e ∙ sum-same (s + getD lens i 0 - s) _ _ (λ p h. rw (named .each p h)) ∙ residual-same placed-same M M P P (λ k b. refl) (λ p h. refl)
+
+module _ {ng s e : ℕ} {groups : List ℕ} {counts : List Float} (fits : Places ng s e groups counts) where
+  pub named-lent : (F : ℕ → Float) {g : List Float} → Named (length (part s e groups)) (λ p. getD (part s e groups) p 0) F g → Named (e - s) (λ p. getD groups (s + p) 0) F g
+  named-lent F {g} named = record { each = λ p h. subst (λ (k : ℕ). at g k ≡ F k) (lent-at fits p h) (named .each p (omega (arith, lent-length fits))) }
+
+  -- the list and row i of the table lent as parts
+  pub residual-lent : (g table : List Float) (i : ℕ) {v : Float} → i * ng + ng ≤ length table →
+      v ≡ residual (own (part s e groups) (part s e counts)) (at (take ng g)) (λ _. at (from (i * ng) table)) 0 → v ≡ residual (placed s e groups counts) (at g) (grid ng table) i
+  unfolding residual
+  residual-lent g table i room p =
+      p ∙ ap (λ (m : ℕ). sum m (λ p. at (part s e counts) p ⊗ (at (take ng g) (getD (part s e groups) p 0) ⊖ at (from (i * ng) table) (getD (part s e groups) p 0)))) (lent-length fits)
+      ∙ sum-same (e - s) _ _
+      (λ p h.
+      let b : getD groups (s + p) 0 < ng = fits .below (s + p) (omega arith) in
+      rw (lent-at fits p h, part-at counts s e p h, getD-take ng g (getD groups (s + p) 0) nan b, from-at table (i * ng) (getD groups (s + p) 0) (omega arith)))
 
 -- row i comes back in the middle of the table
 pub rows-more : (first i ng : ℕ) (c : Groups) (F : ℕ → ℕ → Float) (g ys rest : List Float) → i * ng ≤ length g → ng ≤ length ys → ((j p : ℕ) → j ≤ i → p < c .length j → c .group j p < ng) →
@@ -309,7 +336,7 @@ module _ (n ng : ℕ) (c : Groups) (R Q : ℕ → Float) (Ψ P : ℕ → ℕ →
 
 pub listed-same : {n ng : ℕ} {lens groups : List ℕ} {counts : List Float} → Listed n ng lens groups counts → (i : ℕ) → i < n → SameList ng (lists lens groups counts) (lists lens groups counts) i
 unfolding lists
-listed-same {n} {ng} all i h = same-self ng _ i (list-group i (listed-less all i ng h (omega arith)) refl)
+listed-same {n} {ng} {lens} all i h = same-self ng _ i (λ p b. list-places i (listed-less all i ng h (omega arith)) refl .below (start lens i + p) (omega arith))
 
 -- what `value_over` hands on: the parts of the values where Q and the counts start
 pub value-from : (n ng : ℕ) (lens groups : List ℕ) (values : List Float) (Ψ P : ℕ → ℕ → Float) (x : ℕ → Float) (q : Quantity) {s : ℕ} {v : Float} → Loaded n ng lens groups values → indexFault n q ≡ 0 → s ≡ countsAt ng →

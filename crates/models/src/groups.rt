@@ -7,7 +7,8 @@ ghost use Rattle.arithmetic.specs.Floats.{_⊘_, +0};
 ghost use Rattle.arithmetic.specs.Tables.{at, Filled};
 ghost use Rattle.models.specs.Limits.{mostComponents, mostGroups};
 ghost use Rattle.models.specs.Values.{start, countsAt};
-ghost use Rattle.models.specs.steps.GroupLists.{Listed, Paired, added, put, ownList, listsOf};
+ghost use Rattle.models.specs.steps.GroupLists.{Listed, Paired, Places};
+ghost use Rattle.models.specs.steps.GroupLists.{added, put, ownList, placedList, listsOf};
 ghost use Rattle.models.specs.Unifac.{amount, fraction, pureFraction};
 ghost use Rattle.models.specs.Unifac.{amounts as Unifac·amounts, size as Unifac·size};
 ghost use Rattle.models.specs.Unifac.{residual as Unifac·residual};
@@ -27,14 +28,15 @@ pub fn start_of(lens: &[u8], i: usize) -> usize
     s
 }
 
-// The size of a component, r for s = R and q for s = Q: the sum of count·s over its list.
-fn size(list: &[u8], counts: &[f64], s: &[f64]) -> f64
-    requires { ⌜ Paired (length (now s)) (now list) (now counts) ⌝ }
-    ensures { λ r. ⌜ r ≡ Unifac·size (ownList list counts) (vectorOf s) 0 ⌝ }
+// The size of a component, r for s = R and q for s = Q: the sum of count·s over its list, which stands from
+// start to below end.
+fn size(groups: &[u8], counts: &[f64], s: &[f64], start: usize, end: usize) -> f64
+    requires { ⌜ Places (length (now s)) start end (now groups) (now counts) ⌝ }
+    ensures { λ r. ⌜ r ≡ Unifac·size (placedList start end groups counts) (vectorOf s) 0 ⌝ }
 {
     let mut r_i = 0.0;
-    for p in 0..list.len() {
-        let g = list[p] as usize;
+    for p in start..end {
+        let g = groups[p] as usize;
         r_i = r_i + counts[p] * s[g];
     }
     r_i
@@ -50,20 +52,21 @@ pub fn sizes(n: usize, lens: &[u8], groups: &[u8], counts: &[f64], s: &[f64]) ->
     let mut start = 0;
     for i in 0..n {
         let end = start + (lens[i] as usize);
-        sizes[i] = size(&groups[start..end], &counts[start..end], s);
+        sizes[i] = size(groups, counts, s, start, end);
         start = end;
     }
     sizes
 }
 
-// Adds x·count to the group's number, for each place of a list in turn.
-fn add_counts(list: &[u8], counts: &[f64], x: f64, num: &mut [f64])
-    requires { ⌜ Paired (length (now num)) (now list) (now counts) ⌝ }
-    ensures { λ _. ⌜ Filled (λ k. added (ownList list counts) x 0 k (at (now (num .entry)) k))
+// Adds x·count to the group's number, for each place from start to below end in turn.
+fn add_counts(groups: &[u8], counts: &[f64], x: f64, start: usize, end: usize, num: &mut [f64])
+    requires { ⌜ Places (length (now num)) start end (now groups) (now counts) ⌝ }
+    ensures { λ _. ⌜ Filled
+        (λ k. added (placedList start end groups counts) x 0 k (at (now (num .entry)) k))
         (length (now (num .entry))) (now (num .exit)) ⌝ }
 {
-    for p in 0..list.len() {
-        let g = list[p] as usize;
+    for p in start..end {
+        let g = groups[p] as usize;
         num[g] = num[g] + x * counts[p];
     }
 }
@@ -92,9 +95,9 @@ fn amounts(n: usize, lens: &[u8], groups: &[u8], counts: &[f64], x: &[f64], num:
     let mut start = 0;
     for i in 0..n {
         let end = start + (lens[i] as usize);
-        let count = &counts[start..end];
-        add_counts(&groups[start..end], count, x[i], num);
-        s = s + x[i] * arithmetic::sum(count);
+        let x_i = x[i];
+        add_counts(groups, counts, x_i, start, end, num);
+        s = s + x_i * arithmetic::sum(&counts[start..end]);
         start = end;
     }
     s

@@ -13,8 +13,8 @@ ghost use Rattle.models.specs.Faults.{indexFault};
 ghost use Rattle.models.specs.Columns.{columnSum};
 ghost use Rattle.models.specs.Exponentials.{groupEnergy};
 ghost use Rattle.models.specs.Answers.{reads};
-ghost use Rattle.models.specs.steps.GroupLists.{Named, ListedRows};
-ghost use Rattle.models.specs.steps.GroupLists.{ownList, listsOf, heldLists};
+ghost use Rattle.models.specs.steps.GroupLists.{Named, ListedRows, Places};
+ghost use Rattle.models.specs.steps.GroupLists.{ownList, placedList, listsOf, heldLists};
 ghost use Rattle.models.specs.Plain.{unifacPlain};
 ghost use Rattle.models.specs.Unifac.{theta as Unifac·theta, pure as Unifac·pure, fraction};
 ghost use Rattle.models.specs.Unifac.{lnGroup};
@@ -313,6 +313,33 @@ fn combinatorial_of(s: Shared, i: usize) -> f64
     combinatorial(q_each[i], r_each[i] / s.rs, q_each[i] / s.qs)
 }
 
+// The residual term of component i, whose list stands from start to below end, over ln Γ in the mixture and
+// the table of pure ln Γ.
+fn residual_at(
+    ng: usize,
+    groups: &[u8],
+    counts: &[f64],
+    gamma: &[f64],
+    pure: &[f64],
+    i: usize,
+    start: usize,
+    end: usize,
+) -> f64
+    requires { ⌜ Places ng start end (now groups) (now counts)
+        × (ng ≤ length (now gamma))
+        × (i * ng + ng ≤ length (now pure)) ⌝ }
+    ensures { λ r. ⌜ r ≡ residual (placedList start end groups counts) (vectorOf gamma)
+        (tableOf ng pure) i ⌝ }
+{
+    let place = i * ng;
+    crate::groups::residual(
+        &groups[start..end],
+        &counts[start..end],
+        &gamma[..ng],
+        &pure[place..],
+    )
+}
+
 // The residual term of component i over Θ, Ψ and the table of pure ln Γ.
 fn residual_of(
     ng: usize,
@@ -332,11 +359,9 @@ fn residual_of(
 {
     let start = crate::groups::start_of(lens, i);
     let end = start + (lens[i] as usize);
-    let list = &groups[start..end];
     let mut gamma = [0.0; GROUPS];
-    gammas_of(ng, list, q, theta, psi, &mut gamma[..]);
-    let place = i * ng;
-    crate::groups::residual(list, &counts[start..end], &gamma[..ng], &pure[place..])
+    gammas_of(ng, &groups[start..end], q, theta, psi, &mut gamma[..]);
+    residual_at(ng, groups, counts, &gamma[..], pure, i, start, end)
 }
 
 // The excess energy from what the components share.
@@ -366,13 +391,7 @@ fn excess_gibbs(
     let mut start = 0;
     for i in 0..n {
         let end = start + (lens[i] as usize);
-        let place = i * ng;
-        let resid = crate::groups::residual(
-            &groups[start..end],
-            &counts[start..end],
-            &gamma[..ng],
-            &pure[place..],
-        );
+        let resid = residual_at(ng, groups, counts, &gamma[..], pure, i, start, end);
         total = total + x[i] * (combinatorial_of(s, i) + resid);
         start = end;
     }

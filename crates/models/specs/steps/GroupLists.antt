@@ -2,7 +2,7 @@
 use mathlib.Core.Path.{_≡_}
 use mathlib.Core.Bool.{cond}
 use mathlib.Core.List.{List}
-use Prim.Native.Nat.{ℕ, _+_, _*_, _<_, _≤_}
+use Prim.Native.Nat.{ℕ, _+_, _*_, _-_, _<_, _≤_}
 use denote.Ref.{RefT, now}
 use denote.Triple.Both.{Both}
 use lib.Dec.{eqb}
@@ -27,13 +27,26 @@ pub record Paired (ng : ℕ) (list : List ℕ) (counts : List Float) : Type 0 wh
   pub counted : length counts ≡ length list
   pub below : (p : ℕ) → p < length list → getD list p 0 < ng
 
--- the list in such slices, as every component's
+-- the places from s to below e lie within the slices, and each group named up to there is below ng
+pub record Places (ng s e : ℕ) (groups : List ℕ) (counts : List Float) : Type 0 where
+  pub ordered : s ≤ e
+  pub within : e ≤ length groups
+  pub counted : e ≤ length counts
+  pub below : (p : ℕ) → p < e → getD groups p 0 < ng
+
+-- the list in slices of its own, as every component's, and likewise that from s to below e
 abbrev pub own : List ℕ → List Float → Groups
 own list counts = record { length = λ _. length list; group = λ _ p. getD list p 0; count = λ _ p. at counts p }
 
--- the lists in a call's arguments: one list, all lists, and all with their counts among the values
+abbrev pub placed : ℕ → ℕ → List ℕ → List Float → Groups
+placed s e groups counts = record { length = λ _. e - s; group = λ _ p. getD groups (s + p) 0; count = λ _ p. at counts (s + p) }
+
+-- the lists in a call's arguments: one list, that at some places, all lists, and all with their counts among the values
 abbrev pub ownList : {A B : Type 0} → Both (RefT (List ℕ)) A → Both (RefT (List Float)) B → Groups
 ownList list counts = own (now (list .entry)) (now (counts .entry))
+
+abbrev pub placedList : {A B : Type 0} → ℕ → ℕ → Both (RefT (List ℕ)) A → Both (RefT (List Float)) B → Groups
+placedList s e groups counts = placed s e (now (groups .entry)) (now (counts .entry))
 
 abbrev pub listsOf : {A B C : Type 0} → Both (RefT (List ℕ)) A → Both (RefT (List ℕ)) B → Both (RefT (List Float)) C → Groups
 listsOf lens groups counts = lists (now (lens .entry)) (now (groups .entry)) (now (counts .entry))

@@ -1,29 +1,34 @@
 -- Each place of a list adds x·count to its group. The loop has added those of the places passed, for every group.
-use mathlib.Core.Path.{_≡_, refl}
-use Prim.Native.Nat.{_-_}
+use mathlib.Core.Path.{refl}
+use Prim.Native.Nat.{_+_, _-_, _≤_}
 use native.Mathlib.Omega.{arith}
 use denote.Ref.{now}
 use lib.ListN.{length, getD}
 use Rattle.arithmetic.specs.Tables.{at}
 use Rattle.arithmetic.specs.Floats.{_⊕_, _⊗_}
-use Rattle.models.proofs.GroupListLaws.{PairedAt, paired-at, Gathering, gathering-none, gathering-more, gathering-done}
+use Rattle.models.proofs.GroupListLaws.{PairedAt, places-at, Gathering, gathering-start, gathering-done, placing-more}
 use Rattle.models.proofs.groups.add_counts.Statement.{statement}
 use Rattle.models.proofs.groups.add_counts.Tie as tie
 
 abbrev Inv-loop : tie.InvT-loop
-Inv-loop list counts x num₀ p₀ p-end num p = (p-end ≡ length list) × Gathering (λ p. getD list p 0) (λ p s. s ⊕ x ⊗ at counts p) (length list) num₀ p num
+Inv-loop groups counts x start end num₀ p₀ num p =
+    (start ≤ p) × Gathering (λ k. getD groups (start + k) 0) (λ k s. s ⊕ x ⊗ at counts (start + k)) (end - start) num₀ (p - start) num
 
 abbrev μ-loop : tie.MeasureT-loop
-μ-loop list counts x num₀ p₀ p-end num p = p-end - p
+μ-loop groups counts x start end num₀ p₀ num p = end - p
 
-group : (c : tie.In-loop Inv-loop μ-loop) → let a = c .before .before .args in PairedAt (length (c .before .loop .num)) (now (a .list)) (now (a .counts)) (c .before .loop .p)
-group c = let inv = c .before .loop .inv in paired-at (c .before .before .pre) (omega (arith, c .loop-test .taken, inv .0)) (omega (arith, inv .1 .long))
+group : (c : tie.In-loop Inv-loop μ-loop) → let a = c .before .before .args in PairedAt (length (c .before .loop .num)) (now (a .groups)) (now (a .counts)) (c .before .loop .p)
+group c = places-at (c .before .before .pre) (c .loop-test .taken) (omega (arith, c .before .loop .inv .1 .long))
 
 loop-again : tie.Need-loop-again Inv-loop μ-loop
-loop-again c = let inv = c .before .before .before .before .loop .inv in (inv .0, gathering-more (group (c .before .before .before) .0) refl (group (c .before .before .before) .2) refl (inv .1))
+loop-again c =
+    let turn = c .before .before .before in
+    let top = turn .before in
+    let a = top .before .args in
+    (omega arith, placing-more (λ k. getD (now (a .groups)) k 0) (λ k s. s ⊕ a .x ⊗ at (now (a .counts)) k) (top .loop .inv .0) (turn .loop-test .taken) refl (group turn .2) refl (top .loop .inv .1))
 
 returns : tie.Need-returns Inv-loop μ-loop
-returns c = gathering-done (omega (arith, c .loop-test .left, c .before .loop .inv .0)) (c .before .loop .inv .1)
+returns c = gathering-done (omega arith) (c .before .loop .inv .1)
 
 pub add-counts-spec : {M : Type 1} → statement M
 add-counts-spec =
@@ -31,17 +36,17 @@ add-counts-spec =
     (tie.spec
     Inv-loop
     μ-loop
-    (λ c. (refl, gathering-none))
-    (λ c. omega (arith, group (c .before)))
-    (λ c. omega (arith, group (c .before)))
-    (λ c. omega (arith, group (c .before)))
-    (λ c. omega (arith, group (c .before .before)))
-    (λ c. omega (arith, group (c .before .before)))
-    (λ c. omega (arith, group (c .before .before .before)))
-    (λ c. omega (arith, group (c .before .before .before)))
-    (λ c. omega (arith, group (c .before .before .before)))
-    (λ c. omega (arith, group (c .before .before .before)))
-    (λ c. omega (arith, group (c .before .before .before)))
+    (λ c. (omega arith, gathering-start (omega arith)))
+    (λ c. omega (arith, group (c .before) .0))
+    (λ c. omega (arith, group (c .before) .2))
+    (λ c. omega (arith, group (c .before) .2))
+    (λ c. omega (arith, group (c .before .before) .2))
+    (λ c. omega (arith, group (c .before .before) .1))
+    (λ c. omega (arith, group (c .before .before .before) .1))
+    (λ c. omega (arith, group (c .before .before .before) .2))
+    (λ c. omega (arith, group (c .before .before .before) .2))
+    (λ c. omega arith)
+    (λ c. omega arith)
     loop-again
     (λ c. c .before .loop .inv .1 .long)
     returns)

@@ -12,10 +12,10 @@ use Rattle.arithmetic.specs.Floats.{_⊗_}
 use Rattle.arithmetic.proofs.SumLaws.{sum-none, sum-more, sum-done}
 use Rattle.models.specs.Values as Values
 use Rattle.models.specs.Values.{lists}
-use Rattle.models.specs.steps.GroupLists.{Listed}
+use Rattle.models.specs.steps.GroupLists.{Listed, Places}
 use Rattle.models.specs.Unifac as Unifac
-use Rattle.models.proofs.GroupListLaws.{start-none, start-more, listed-less, list-ends, list-paired, amount-none, amount-more}
-use Rattle.models.proofs.UnifacLaws.{added-own, counts-own}
+use Rattle.models.proofs.GroupListLaws.{start-none, start-more, listed-less, list-places, amount-none, amount-more}
+use Rattle.models.proofs.UnifacLaws.{added-placed, counts-own}
 use Rattle.models.proofs.groups.amounts.Statement.{statement}
 use Rattle.models.proofs.groups.amounts.Tie as tie
 
@@ -33,24 +33,20 @@ entry c = c .before .before .before .before .before .before .before
 listed : (c : tie.In-loop Inv-loop μ-loop) → let a = entry c .args in Listed (c .before .loop .i + 1) (length (c .before .loop .num)) (now (a .lens)) (now (a .groups)) (now (a .counts))
 listed c = listed-less (entry c .pre .0 .listed) (c .before .loop .i) _ (c .loop-test .taken) (omega (arith, c .before .loop .inv .1))
 
--- the list of i ends within the slices
-ends : (c : tie.In-loop Inv-loop μ-loop) → let a = entry c .args in let end = c .before .loop .start + getD (now (a .lens)) (c .before .loop .i) 0 in
-    (end ≤ length (now (a .groups))) × (end ≤ length (now (a .counts)))
-ends c = list-ends (c .before .loop .i) (listed c) (c .before .loop .inv .4)
-
-add-counts-requires : tie.Need-add-counts-requires Inv-loop μ-loop
-add-counts-requires c κs = list-paired (c .before .before .before .before .before .before .loop .i) (listed (c .before .before .before .before .before)) (c .before .before .before .before .before .before .loop .inv .4)
+places : (c : tie.In-loop Inv-loop μ-loop) → let a = entry c .args in let start = c .before .loop .start in
+    Places (length (c .before .loop .num)) start (start + getD (now (a .lens)) (c .before .loop .i) 0) (now (a .groups)) (now (a .counts))
+places c = list-places (c .before .loop .i) (listed c) (c .before .loop .inv .4)
 
 loop-again : tie.Need-loop-again Inv-loop μ-loop
 loop-again c =
-    let turn = c .before .before .before .before .before .before .before .before .before .before in
+    let turn = c .before .before .before .before .before .before .before .before in
     let top = turn .before .loop in
     let inv = top .inv in
     let added = c .before .before .before .before .add-counts in (
       omega arith,
-      added .kept .1 .1 .1 .0 ∙ inv .1,
+      added .kept .1 .1 .1 .1 .1 .0 ∙ inv .1,
       sum-more _ _ (inv .2) (rw (counts-own (top .i) (listed turn) (inv .4) (c .sum .ensures))),
-      amount-more _ _ (top .i) _ (inv .1) (inv .3) (added-own (top .i) (listed turn) (inv .4) _ _ (added .ensures)),
+      amount-more _ _ (top .i) _ (inv .1) (inv .3) (added-placed (top .i) (listed turn) (inv .4) _ _ (added .ensures)),
       start-more _ _ (inv .4) refl,
     )
 
@@ -70,19 +66,14 @@ amounts-spec =
     (λ c. (omega arith, refl, sum-none _, amount-none _ _ _ (c .before .before .before .before .before .pre .1), start-none _))
     (λ c. omega (arith, c .before .before .before .before .before .before .before .before .pre .0 .listed .many))
     (λ c. omega (arith, c .shared-slice-known5 .given (c .before .before .loop .i)))
-    (λ c. omega (arith, ends (c .before), entry (c .before) .good))
-    (λ c. omega (arith, ends (c .before)))
-    (λ c. omega (arith, ends (c .before)))
-    (λ c. omega (arith, ends (c .before)))
-    (λ c. omega (arith, ends (c .before)))
-    (λ c. omega (arith, ends (c .before .before)))
-    (λ c. omega (arith, ends (c .before .before)))
-    (λ c. omega (arith, ends (c .before .before)))
-    (λ c. omega (arith, ends (c .before .before .before)))
-    (λ c. omega (arith, ends (c .before .before .before .before)))
-    add-counts-requires
-    (λ c. omega (arith, ends (c .before .before .before .before .before .before .before .before)))
-    (λ c. omega (arith, ends (c .before .before .before .before .before .before .before .before .before)))
+    (λ c. omega (arith, places (c .before) .within, c .before .before .before .before .before .before .before .before .good))
+    (λ c. omega (arith, c .before .before .before .before .before .before .before .before .pre .0 .fractions))
+    (λ c. omega (arith, c .before .before .before .before .before .before .before .before .before .pre .0 .fractions))
+    (λ c κs. places (c .before .before .before))
+    (λ c. omega (arith, places (c .before .before .before .before .before .before) .counted))
+    (λ c. omega (arith, places (c .before .before .before .before .before .before) .ordered))
+    (λ c. omega (arith, places (c .before .before .before .before .before .before) .ordered))
+    (λ c. omega (arith, places (c .before .before .before .before .before .before) .counted))
     (λ c κs. search needs)
     (λ c. omega arith)
     (λ c. omega arith)

@@ -1,6 +1,6 @@
 -- The loop has filled the sizes of the components passed, and start is where the next list begins.
 use mathlib.Core.Path.{_≡_, refl}
-use Prim.Native.Nat.{_+_, _-_, _≤_}
+use Prim.Native.Nat.{_+_, _-_}
 use native.Mathlib.Omega.{arith}
 use denote.Ref.{now}
 use lib.ListN.{length, getD}
@@ -8,10 +8,10 @@ use Rattle.arithmetic.specs.Tables.{at}
 use Rattle.arithmetic.proofs.TableLaws.{Filling, filling-none, filling-more, filling-done}
 use Rattle.models.specs.Values as Values
 use Rattle.models.specs.Values.{lists}
-use Rattle.models.specs.steps.GroupLists.{Listed}
+use Rattle.models.specs.steps.GroupLists.{Listed, Places}
 use Rattle.models.specs.Unifac as Unifac
-use Rattle.models.proofs.GroupListLaws.{start-none, start-more, listed-less, list-ends, list-paired}
-use Rattle.models.proofs.UnifacLaws.{size-own}
+use Rattle.models.proofs.GroupListLaws.{start-none, start-more, listed-less, list-places}
+use Rattle.models.proofs.UnifacLaws.{size-placed}
 use Rattle.models.proofs.groups.sizes.Statement.{statement}
 use Rattle.models.proofs.groups.sizes.Tie as tie
 
@@ -27,18 +27,16 @@ entry c = c .before .before .before .before .before .before
 listed : (c : tie.In-loop Inv-loop μ-loop) → let a = entry c .args in Listed (c .before .loop .i + 1) (length (now (a .s))) (now (a .lens)) (now (a .groups)) (now (a .counts))
 listed c = listed-less (entry c .pre .0) (c .before .loop .i) _ (c .loop-test .taken) (omega arith)
 
--- the list of i ends within the slices
-ends : (c : tie.In-loop Inv-loop μ-loop) → let a = entry c .args in let end = c .before .loop .start + getD (now (a .lens)) (c .before .loop .i) 0 in
-    (end ≤ length (now (a .groups))) × (end ≤ length (now (a .counts)))
-ends c = list-ends (c .before .loop .i) (listed c) (c .before .loop .inv .1)
-
-size-requires : tie.Need-size-requires Inv-loop μ-loop
-size-requires c κs = list-paired (c .before .before .before .before .loop .i) (listed (c .before .before .before)) (c .before .before .before .before .loop .inv .1)
+places : (c : tie.In-loop Inv-loop μ-loop) → let a = entry c .args in let start = c .before .loop .start in
+    Places (length (now (a .s))) start (start + getD (now (a .lens)) (c .before .loop .i) 0) (now (a .groups)) (now (a .counts))
+places c = list-places (c .before .loop .i) (listed c) (c .before .loop .inv .1)
 
 loop-again : tie.Need-loop-again Inv-loop μ-loop
 loop-again c =
-    let inv = c .before .before .before .before .before .loop .inv in
-    (filling-more (omega arith) (inv .0) (size-own (c .before .before .before .before .before .loop .i) (listed (c .before .before .before .before)) (inv .1) _ (c .size .ensures)), start-more _ _ (inv .1) refl)
+    let turn = c .before .before in
+    let top = turn .before .loop in
+    let inv = top .inv in
+    (filling-more (omega arith) (inv .0) (size-placed (top .i) (listed turn) (inv .1) _ (c .size .ensures)), start-more _ _ (inv .1) refl)
 
 pub sizes-spec : {M : Type 1} → statement M
 sizes-spec =
@@ -49,15 +47,8 @@ sizes-spec =
     (λ c. (filling-none (omega arith) refl, start-none _))
     (λ c. omega (arith, c .before .before .before .before .before .before .before .pre .0 .many))
     (λ c. omega (arith, c .shared-slice-known5 .given (c .before .before .loop .i)))
-    (λ c. omega (arith, ends (c .before), entry (c .before) .good))
-    (λ c. omega (arith, ends (c .before)))
-    (λ c. omega (arith, ends (c .before)))
-    (λ c. omega (arith, ends (c .before)))
-    (λ c. omega (arith, ends (c .before .before)))
-    (λ c. omega (arith, ends (c .before .before)))
-    (λ c. omega (arith, ends (c .before .before)))
-    (λ c. omega (arith, ends (c .before .before)))
-    size-requires
+    (λ c. omega (arith, places (c .before) .within, c .before .before .before .before .before .before .before .good))
+    (λ c κs. places (c .before))
     (λ c. omega arith)
     (λ c. omega arith)
     (λ c. omega arith)

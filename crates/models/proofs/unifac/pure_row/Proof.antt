@@ -1,9 +1,10 @@
 -- The list of i is lent as parts of the groups and counts.
-use Prim.Native.Nat.{_+_, _≤_}
+use Prim.Native.Nat.{_+_}
 use native.Mathlib.Omega.{arith}
 use denote.Ref.{now}
-use lib.ListN.{length, getD}
-use Rattle.models.proofs.GroupListLaws.{list-ends, list-paired}
+use lib.ListN.{getD}
+use Rattle.models.specs.steps.GroupLists.{Places}
+use Rattle.models.proofs.GroupListLaws.{list-places, lent-paired}
 use Rattle.models.proofs.UnifacLaws.{pure-own}
 use Rattle.models.proofs.unifac.pure_row.Statement.{statement}
 use Rattle.models.proofs.unifac.pure_row.Tie as tie
@@ -11,12 +12,12 @@ use Rattle.models.proofs.unifac.pure_row.Tie as tie
 abbrev entry : tie.After-shared-slice-known6 → tie.Start
 entry c = c .before .before .before .before .before .before .before .before
 
-ends : (c : tie.After-shared-slice-known6) → let a = entry c .args in let end = c .before .start-of .result + getD (now (a .lens)) (a .i) 0 in
-    (end ≤ length (now (a .groups))) × (end ≤ length (now (a .counts)))
-ends c = list-ends (entry c .args .i) (entry c .pre .0 .listed) (c .before .start-of .ensures)
+places : (c : tie.After-shared-slice-known6) → let a = entry c .args in let start = c .before .start-of .result in
+    Places (a .ng) start (start + getD (now (a .lens)) (a .i) 0) (now (a .groups)) (now (a .counts))
+places c = list-places (entry c .args .i) (entry c .pre .0 .listed) (c .before .start-of .ensures)
 
 pure-listed-requires : tie.Need-pure-listed-requires
-pure-listed-requires c κs = let start = c .before .before .before .before .before .before .before .before .before .before .before in let fits = start .pre .0 in (record { paired = list-paired (start .args .i) (fits .listed) (c .before .before .before .before .start-of .ensures); few = fits .fewGroups; sizes = fits .sizes; square = fits .square }, start .pre .1)
+pure-listed-requires c κs = let start = c .before .before .before .before .before .before .before .before .before .before .before in let fits = start .pre .0 in (record { paired = lent-paired (places (c .before .before .before)); few = fits .fewGroups; sizes = fits .sizes; square = fits .square }, start .pre .1)
 
 returns : tie.Need-returns
 returns c = let start = c .before .before .before .before .before .before .before .before .before .before .before .before .before .before in pure-own (start .args .i) (start .pre .0 .listed) (c .before .before .before .before .before .before .before .start-of .ensures) _ _ (c .before .before .pure-listed .ensures)
@@ -28,14 +29,14 @@ pure-row-spec =
     (λ c κs. (omega (arith, c .before .before .before .before .before .before .pre .0 .listed .many), omega (arith, c .before .before .before .before .before .before .pre .0 .few)))
     (λ c. omega (arith, c .before .before .before .before .before .before .before .before .pre .0 .listed .many))
     (λ c. omega (arith, c .shared-slice-known6 .given (c .before .before .before .before .before .before .before .before .args .i)))
-    (λ c. omega (arith, ends c, entry c .good))
-    (λ c. omega (arith, ends c))
-    (λ c. omega (arith, ends c))
-    (λ c. omega (arith, ends c))
-    (λ c. omega (arith, ends (c .before)))
-    (λ c. omega (arith, ends (c .before)))
-    (λ c. omega (arith, ends (c .before)))
-    (λ c. omega (arith, ends (c .before)))
+    (λ c. omega (arith, places c .within, entry c .good))
+    (λ c. omega (arith, places c .ordered))
+    (λ c. omega (arith, places c .ordered))
+    (λ c. omega (arith, places c .within))
+    (λ c. omega (arith, places (c .before) .counted))
+    (λ c. omega (arith, places (c .before) .ordered))
+    (λ c. omega (arith, places (c .before) .ordered))
+    (λ c. omega (arith, places (c .before) .counted))
     pure-listed-requires
     (λ c. c .before .before .pure-listed .kept .1 .1 .1 .1 .1 .0)
     returns)
