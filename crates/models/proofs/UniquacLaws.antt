@@ -6,7 +6,7 @@ use Prim.Native.Nat.{ℕ, _+_, _*_, _<_, _≤_}
 use native.Mathlib.Omega.{arith}
 use lib.ListN.{length, set, take}
 use lib.Ieee.{Float}
-use Rattle.arithmetic.specs.Floats.{_⊕_, _⊖_, _⊗_, _⊘_, one, half}
+use Rattle.arithmetic.specs.Floats.{_⊕_, _⊖_, _⊗_, _⊘_, one}
 use Rattle.arithmetic.specs.Logarithm.{logOf}
 use Rattle.arithmetic.specs.Sums.{sum, total}
 use Rattle.arithmetic.specs.Tables.{at, grid, from, flat, Filled}
@@ -14,13 +14,13 @@ use Rattle.arithmetic.proofs.SumLaws.{sum-same}
 use Rattle.arithmetic.proofs.TableLaws.{filled-as, filled-cell, from-at, Filling}
 use Rattle.models.specs.declared.answers.Quantity.{Quantity}
 use Rattle.models.specs.Faults.{indexFault}
-use Rattle.models.specs.Columns.{unitAt, columnSum}
+use Rattle.models.specs.Columns.{unitAt, unitDiagonal, columnSum}
 use Rattle.models.specs.Exponentials.{energy}
-use Rattle.models.specs.steps.Uniquac.{UniquacShared}
-use Rattle.models.specs.Uniquac.{Z, tau, share, l, segmentRatio, areaRatio, combinatorial, residual, lnGamma, excess, uniquac, uniquacAt}
+use Rattle.models.specs.steps.Uniquac.{UniquacShared, combinatorialBy, combinatorialOf}
+use Rattle.models.specs.Uniquac.{tau, share, l, segmentRatio, areaRatio, combinatorial, residual, lnGamma, excess, uniquac, uniquacAt}
 use Rattle.models.specs.Values.{energies, rs, qs}
 use Rattle.models.proofs.AnswerLaws.{quantity-same}
-use Rattle.models.proofs.ColumnLaws.{unit-row, unit-same, column-same, unit-on, unit-off, terms-put}
+use Rattle.models.proofs.ColumnLaws.{unit-same, column-same, unit-on, unit-off, terms-put}
 
 -- ---- equal entries, equal answers
 
@@ -73,12 +73,19 @@ module _ (n : ℕ) (r s q p : ℕ → Float) (x y : ℕ → Float) (er : (i : �
 
 -- ---- what code works out
 
+-- the combinatorial part from its logs, taken singly or side by side
+pub combinatorial-from : (x r q θ rx lx : Float) {segment lnSegment lnArea c : Float} → segment ≡ x ⊗ r ⊘ rx ⊘ x → lnSegment ≡ logOf segment → lnArea ≡ logOf (θ ⊘ (x ⊗ r ⊘ rx)) →
+    c ≡ combinatorialBy r q segment lnSegment lnArea lx → c ≡ combinatorialOf x r q θ rx lx
+unfolding combinatorialOf
+combinatorial-from x r q θ rx lx s ls la k = rw (k, ls, la, s)
+
 -- the quotients of a residual part, that of the diagonal put right
-pub residual-folded : (θ row sums : ℕ → Float) (i : ℕ) (q l : Float) {n m p : ℕ} {g : List Float} {w r : Float} → i < n → n ≤ p →
-    Filling (λ j. θ j ⊗ row j ⊘ sums j) n m p g → w ≡ θ i ⊗ one ⊘ sums i → r ≡ total (take n (set g i w)) →
-    q ⊗ (one ⊖ l ⊖ r) ≡ q ⊗ (one ⊖ l ⊖ sum n (λ j. θ j ⊗ unitAt i row j ⊘ sums j))
-residual-folded θ row sums i q l {n} {r = r} b done terms own t =
-    let S : r ≡ sum n (λ j. θ j ⊗ unitAt i row j ⊘ sums j) = terms-put terms done i _ b (λ k c ne. rw (unit-off i k row ne)) (own ∙ rw (unit-on i row)) t in
+pub residual-folded : (θ sums : ℕ → Float) (E : ℕ → ℕ → Float) (i : ℕ) (q l : Float) {n m p : ℕ} {g : List Float} {w r : Float} → i < n → n ≤ p →
+    Filling (λ j. θ j ⊗ E i j ⊘ sums j) n m p g → w ≡ θ i ⊗ one ⊘ sums i → r ≡ total (take n (set g i w)) →
+    q ⊗ (one ⊖ l ⊖ r) ≡ q ⊗ (one ⊖ l ⊖ sum n (λ j. θ j ⊗ tau E i j ⊘ sums j))
+unfolding unitDiagonal
+residual-folded θ sums E i q l {n} {r = r} b done terms own t =
+    let S : r ≡ sum n (λ j. θ j ⊗ unitAt i (E i) j ⊘ sums j) = terms-put terms done i _ b (λ k c ne. rw (unit-off i k (E i) ne)) (own ∙ rw (unit-on i (E i))) t in
     rw S
 
 -- what all components share, from what the callees work out: the column sums are those over the shares that stand in a list
@@ -93,31 +100,26 @@ shared n r q E x {rx} {lx} {theta} {sums} s t all columns h g = record {
   summed = g;
 }
 
-module _ (n : ℕ) (r q : ℕ → Float) (e : List Float) (x : ℕ → Float) (rx lx : Float) (theta sums : List Float) (S : UniquacShared n r q (grid n e) x rx lx theta sums) (i : ℕ) (b : i < n) where
-  combinatorial-hoisted : {segment lnSegment lnArea c : Float} → segment ≡ x i ⊗ r i ⊘ rx ⊘ x i → lnSegment ≡ logOf segment → lnArea ≡ logOf (at theta i ⊘ (x i ⊗ r i ⊘ rx)) →
-      c ≡ lnSegment ⊕ half ⊗ Z ⊗ q i ⊗ lnArea ⊕ (half ⊗ Z ⊗ (r i ⊖ q i) ⊖ (r i ⊖ one)) ⊖ segment ⊗ lx → c ≡ combinatorial n r q x i
-  unfolding combinatorial segmentRatio areaRatio share l
-  combinatorial-hoisted s ls la k = rw (k, ls, la, s, S .shares .each i b, S .rSum, S .lSum)
+module _ (n : ℕ) (r q : ℕ → Float) (E : ℕ → ℕ → Float) (x : ℕ → Float) (rx lx : Float) (theta sums : List Float) (S : UniquacShared n r q E x rx lx theta sums) (i : ℕ) (b : i < n) where
+  combinatorial-hoisted : combinatorialOf (x i) (r i) (q i) (at theta i) rx lx ≡ combinatorial n r q x i
+  unfolding combinatorialOf combinatorialBy combinatorial segmentRatio areaRatio share l
+  combinatorial-hoisted = rw (S .shares .each i b, S .rSum, S .lSum)
 
-  residual-hoisted : {lnSum v : Float} → i * n + n ≤ length e → lnSum ≡ logOf (at sums i) →
-      v ≡ q i ⊗ (one ⊖ lnSum ⊖ sum n (λ j. at theta j ⊗ unitAt i (at (from (i * n) e)) j ⊘ at sums j)) → v ≡ residual n q (grid n e) (share n q x) i
+  residual-hoisted : {lnSum v : Float} → lnSum ≡ logOf (at sums i) → v ≡ q i ⊗ (one ⊖ lnSum ⊖ sum n (λ j. at theta j ⊗ tau E i j ⊘ at sums j)) → v ≡ residual n q E (share n q x) i
   unfolding residual
-  residual-hoisted h lu k =
+  residual-hoisted lu k =
       rw (
         k,
         lu,
         S .columns .each i b,
-        sum-same n (λ j. at theta j ⊗ unitAt i (at (from (i * n) e)) j ⊘ at sums j) (λ j. share n q x j ⊗ tau (grid n e) i j ⊘ columnSum n (tau (grid n e)) (share n q x) j)
-            (λ j c. rw (S .shares .each j c, unit-row n e i j h c, S .columns .each j c)),
+        sum-same n (λ j. at theta j ⊗ tau E i j ⊘ at sums j) (λ j. share n q x j ⊗ tau E i j ⊘ columnSum n (tau E) (share n q x) j)
+            (λ j c. rw (S .shares .each j c, S .columns .each j c)),
       )
 
-  -- the logs taken singly or side by side
-  pub lnGamma-hoisted : {segment lnSegment lnArea lnSum c v : Float} → i * n + n ≤ length e → segment ≡ x i ⊗ r i ⊘ rx ⊘ x i →
-      lnSegment ≡ logOf segment → lnArea ≡ logOf (at theta i ⊘ (x i ⊗ r i ⊘ rx)) → lnSum ≡ logOf (at sums i) →
-      c ≡ lnSegment ⊕ half ⊗ Z ⊗ q i ⊗ lnArea ⊕ (half ⊗ Z ⊗ (r i ⊖ q i) ⊖ (r i ⊖ one)) ⊖ segment ⊗ lx →
-      v ≡ q i ⊗ (one ⊖ lnSum ⊖ sum n (λ j. at theta j ⊗ unitAt i (at (from (i * n) e)) j ⊘ at sums j)) → c ⊕ v ≡ lnGamma n r q (grid n e) x i
+  pub lnGamma-hoisted : {lnSum c v : Float} → c ≡ combinatorialOf (x i) (r i) (q i) (at theta i) rx lx → lnSum ≡ logOf (at sums i) →
+      v ≡ q i ⊗ (one ⊖ lnSum ⊖ sum n (λ j. at theta j ⊗ tau E i j ⊘ at sums j)) → c ⊕ v ≡ lnGamma n r q E x i
   unfolding lnGamma
-  lnGamma-hoisted h s ls la lu k w = rw (combinatorial-hoisted s ls la k, residual-hoisted h lu w)
+  lnGamma-hoisted k lu w = rw (k, combinatorial-hoisted, residual-hoisted lu w)
 
 -- ---- what `value_at` puts together: the exponentials in el, the r's in the part from n·n on, the q's n places further
 

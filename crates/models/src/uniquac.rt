@@ -2,17 +2,17 @@
 ghost use mathlib.Core.Path.{_≡_};
 ghost use Prim.Native.Nat.{_*_, _≤_, _<_};
 ghost use lib.ListN.{length};
-ghost use Rattle.arithmetic.specs.Floats.{_⊕_, _⊖_, _⊗_, _⊘_, one, half};
+ghost use Rattle.arithmetic.specs.Floats.{_⊖_, _⊗_, _⊘_, one, half};
 ghost use Rattle.arithmetic.specs.Logarithm.{logOf};
 ghost use Rattle.arithmetic.specs.Sums.{sum};
 ghost use Rattle.arithmetic.specs.Tables.{at, grid, Filled};
 ghost use Rattle.models.specs.Limits.{mostComponents};
 ghost use Rattle.models.specs.Faults.{indexFault};
-ghost use Rattle.models.specs.Columns.{unitAt};
 ghost use Rattle.models.specs.Plain.{uniquacPlain};
 ghost use Rattle.models.specs.steps.Model.{ValueFits};
 ghost use Rattle.models.specs.steps.Uniquac.{UniquacFits, UniquacShared};
-ghost use Rattle.models.specs.Uniquac.{share, lnGamma, excess, uniquac, uniquacAt};
+ghost use Rattle.models.specs.steps.Uniquac.{combinatorialBy, combinatorialOf};
+ghost use Rattle.models.specs.Uniquac.{tau, share, lnGamma, excess, uniquac, uniquacAt};
 ghost use Rattle.models.specs.Uniquac.{Z as U·Z, l as U·l};
 ghost use Rattle.models.specs.Values.{uniquacSize, energies, rs, qs};
 use crate::answers::Answer;
@@ -61,38 +61,39 @@ fn l_sum(n: usize, r: &[f64], q: &[f64], x: &[f64]) -> f64
 // The combinatorial part of ln γ_i, from r_i, q_i, φ_i/x_i, the logs of φ_i/x_i and θ_i/φ_i, and
 // Σ_j x_j l_j.
 fn combinatorial(r: f64, q: f64, segment: f64, ln_segment: f64, ln_area: f64, lx: f64) -> f64
-    ensures { λ v.
-        let lᵢ = half ⊗ U·Z ⊗ (r ⊖ q) ⊖ (r ⊖ one) in
-        ⌜ v ≡ «ln_segment» ⊕ half ⊗ U·Z ⊗ q ⊗ «ln_area» ⊕ lᵢ ⊖ segment ⊗ lx ⌝ }
+    ensures { λ v. ⌜ v ≡ combinatorialBy r q segment «ln_segment» «ln_area» lx ⌝ }
 {
     ln_segment + 0.5 * Z * q * ln_area + l(r, q) - segment * lx
 }
 
-// The residual part of ln γ_i, from q_i, the part of the table that starts at row i, θ, the column sums and
-// the log of the i-th. The quotients run without a test for the diagonal, then its own is put right.
-fn residual(
-    n: usize,
-    q: f64,
-    row: &[f64],
-    theta: &[f64],
-    sums: &[f64],
-    ln_sum: f64,
-    i: usize,
-) -> f64
-    requires { ⌜ (n ≤ length (now row))
+// The same from x_i, r_i, q_i, θ_i, Σ_j x_j r_j and Σ_j x_j l_j.
+fn combinatorial_of(x: f64, r: f64, q: f64, theta: f64, rx: f64, lx: f64) -> f64
+    ensures { λ v. ⌜ v ≡ combinatorialOf x r q theta rx lx ⌝ }
+{
+    let phi = x * r / rx;
+    let segment = phi / x;
+    let ln_segment = arithmetic::log(segment);
+    combinatorial(r, q, segment, ln_segment, arithmetic::log(theta / phi), lx)
+}
+
+// The residual part of ln γ_i, from q_i, the table, θ, the column sums and the log of the i-th. The
+// quotients run without a test for the diagonal, then its own is put right.
+fn residual(n: usize, q: f64, e: &[f64], theta: &[f64], sums: &[f64], ln_sum: f64, i: usize) -> f64
+    requires { ⌜ (n * n ≤ length (now e))
         × (n ≤ length (now theta))
         × (n ≤ length (now sums))
         × (i < n)
         × (n ≤ mostComponents) ⌝ }
     ensures { λ v.
+        let E = grid n (now (e .entry)) in
         let θ = at (now (theta .entry)) in
         let S = at (now (sums .entry)) in
-        ⌜ v ≡ q ⊗ (one ⊖ «ln_sum»
-        ⊖ sum n (λ j. θ j ⊗ unitAt i (at (now (row .entry))) j ⊘ S j)) ⌝ }
+        ⌜ v ≡ q ⊗ (one ⊖ «ln_sum» ⊖ sum n (λ j. θ j ⊗ tau E i j ⊘ S j)) ⌝ }
 {
+    let at = i * n;
     let mut terms = [0.0; COMPONENTS];
     for j in 0..n {
-        terms[j] = theta[j] * row[j] / sums[j];
+        terms[j] = theta[j] * e[at + j] / sums[j];
     }
     terms[i] = theta[i] * 1.0 / sums[i];
     let s = arithmetic::sum(&terms[..n]);
@@ -120,13 +121,9 @@ fn ln_gamma(
         let E = grid n (now (e .entry)) in
         ⌜ v ≡ lnGamma n (at (now (r .entry))) (at (now (q .entry))) E (at (now (x .entry))) i ⌝ }
 {
-    let phi = x[i] * r[i] / rx;
-    let segment = phi / x[i];
-    let ln_segment = arithmetic::log(segment);
-    let ln_area = arithmetic::log(theta[i] / phi);
-    let c = combinatorial(r[i], q[i], segment, ln_segment, ln_area, lx);
-    let at = i * n;
-    c + residual(n, q[i], &e[at..], theta, sums, arithmetic::log(sums[i]), i)
+    let area = q[i];
+    let c = combinatorial_of(x[i], r[i], area, theta[i], rx, lx);
+    c + residual(n, area, e, theta, sums, arithmetic::log(sums[i]), i)
 }
 
 // Writes φ_i/x_i and θ_i/φ_i for each i.
@@ -147,12 +144,14 @@ fn fill_ratios(
     ensures { λ _.
         let X = at (now (x .entry)) in
         let R = at (now (r .entry)) in
+        let θ = at (now (theta .entry)) in
         ⌜ Filled (λ k. X k ⊗ R k ⊘ rx ⊘ X k) n (now (segments .exit))
-        × Filled (λ k. at (now (theta .entry)) k ⊘ (X k ⊗ R k ⊘ rx)) n (now (areas .exit)) ⌝ }
+        × Filled (λ k. θ k ⊘ (X k ⊗ R k ⊘ rx)) n (now (areas .exit)) ⌝ }
 {
     for i in 0..n {
-        let phi = x[i] * r[i] / rx;
-        segments[i] = phi / x[i];
+        let fraction = x[i];
+        let phi = fraction * r[i] / rx;
+        segments[i] = phi / fraction;
         areas[i] = theta[i] / phi;
     }
 }
@@ -198,11 +197,39 @@ fn excess_gibbs(
     arithmetic::log_each(&mut ln_areas[..], n);
     let mut s = 0.0;
     for i in 0..n {
-        let c = combinatorial(r[i], q[i], segments[i], ln_segments[i], ln_areas[i], lx);
-        let at = i * n;
-        s = s + x[i] * (c + residual(n, q[i], &e[at..], theta, sums, ln_sums[i], i));
+        let area = q[i];
+        let c = combinatorial(r[i], area, segments[i], ln_segments[i], ln_areas[i], lx);
+        s = s + x[i] * (c + residual(n, area, e, theta, sums, ln_sums[i], i));
     }
     s
+}
+
+// The quantity, from what all components share.
+fn value_by(
+    n: usize,
+    r: &[f64],
+    q: &[f64],
+    e: &[f64],
+    x: &[f64],
+    rx: f64,
+    lx: f64,
+    theta: &[f64],
+    sums: &[f64],
+    k: Quantity,
+) -> f64
+    requires { ⌜ UniquacFits n (now r) (now q) (now e) (now x)
+        × UniquacShared n (at (now r)) (at (now q)) (grid n (now e)) (at (now x)) rx lx
+        (now theta) (now sums)
+        × (indexFault n k ≡ 0) ⌝ }
+    ensures { λ v.
+        let E = grid n (now (e .entry)) in
+        ⌜ v ≡ uniquac n (at (now (r .entry))) (at (now (q .entry))) E (at (now (x .entry))) k ⌝ }
+{
+    match k {
+        Quantity::LnGamma(i) => ln_gamma(n, r, q, e, x, rx, lx, theta, sums, i),
+        Quantity::Gamma(i) => arithmetic::exp(ln_gamma(n, r, q, e, x, rx, lx, theta, sums, i)),
+        Quantity::ExcessGibbs => excess_gibbs(n, r, q, e, x, rx, lx, theta, sums),
+    }
 }
 
 // The quantity over a table of exponentials.
@@ -218,22 +245,7 @@ pub fn value_over(n: usize, r: &[f64], q: &[f64], e: &[f64], x: &[f64], k: Quant
     shares(n, q, x, &mut theta[..]);
     let mut sums = [0.0; COMPONENTS];
     crate::columns::unit_column_sums(n, e, &theta[..], &mut sums[..]);
-    match k {
-        Quantity::LnGamma(i) => ln_gamma(n, r, q, e, x, rx, lx, &theta[..], &sums[..], i),
-        Quantity::Gamma(i) => arithmetic::exp(ln_gamma(
-            n,
-            r,
-            q,
-            e,
-            x,
-            rx,
-            lx,
-            &theta[..],
-            &sums[..],
-            i,
-        )),
-        Quantity::ExcessGibbs => excess_gibbs(n, r, q, e, x, rx, lx, &theta[..], &sums[..]),
-    }
+    value_by(n, r, q, e, x, rx, lx, &theta[..], &sums[..], k)
 }
 
 // The quantity at T, from the values.

@@ -2,11 +2,12 @@
 use lib.Ieee.{round, ofBits}
 use Rattle.arithmetic.specs.Floats.{dec, half}
 use Rattle.models.specs.Uniquac.{Z}
+use Rattle.models.specs.steps.Uniquac.{combinatorialBy}
 use Rattle.models.proofs.uniquac.combinatorial.Statement.{statement}
 use Rattle.models.proofs.uniquac.combinatorial.Tie as tie
 
 returns : tie.Need-returns
-unfolding Z half dec round ofBits
+unfolding combinatorialBy Z half dec round ofBits
 returns c = rw (c .l .ensures)
 
 pub combinatorial-spec : {M : Type 1} → statement M

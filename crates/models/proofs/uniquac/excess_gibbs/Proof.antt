@@ -1,7 +1,7 @@
 -- The three logs of each component are filled before the loop, which keeps the sum of x_k ln γ_k passed; at its end these are
 -- all.
 use mathlib.Core.Path.{_≡_, refl, ap}
-use Prim.Native.Nat.{_+_, _*_, _-_, _≤_}
+use Prim.Native.Nat.{_-_, _≤_}
 use native.Mathlib.Omega.{arith}
 use denote.Ref.{now}
 use lib.Ieee.{Float}
@@ -12,10 +12,9 @@ use Rattle.arithmetic.specs.Logarithm.{logOf}
 use Rattle.arithmetic.specs.Sums.{sum}
 use Rattle.arithmetic.specs.Tables.{at, grid}
 use Rattle.arithmetic.proofs.SumLaws.{sum-none, sum-more, sum-done}
-use Rattle.arithmetic.proofs.TableLaws.{row-end, from-room}
 use Rattle.models.specs.Uniquac.{lnGamma, excess}
 use Rattle.models.proofs.ExponentialLaws.{each-filled}
-use Rattle.models.proofs.UniquacLaws.{lnGamma-hoisted}
+use Rattle.models.proofs.UniquacLaws.{combinatorial-from, lnGamma-hoisted}
 use Rattle.models.proofs.uniquac.excess_gibbs.Statement.{statement}
 use Rattle.models.proofs.uniquac.excess_gibbs.Tie as tie
 
@@ -32,10 +31,6 @@ start c = c .before .before .before .before .before .before .before .before .bef
 
 abbrev ratios : tie.At-loop Inv-loop μ-loop → tie.After-fill-ratios Inv-loop μ-loop
 ratios c = c .before .before .before .before .before .before .before .before .before .before .before .before .before
-
--- row i ends within the table
-ends : (c : tie.In-loop Inv-loop μ-loop) → let a = start (ratios (c .before)) .args in c .before .loop .i * a .n + a .n ≤ length (now (a .e))
-ends c = let begun = start (ratios (c .before)) in omega (arith, begun .pre .0 .table, row-end (begun .args .n) (begun .args .n) (c .before .loop .i) (c .loop-test .taken))
 
 fill-logs-requires : tie.Need-fill-logs-requires Inv-loop μ-loop
 fill-logs-requires c κs =
@@ -62,36 +57,30 @@ loop-holds c =
       sum-none _,
     )
 
-mul-at : tie.Need-mul-at Inv-loop μ-loop
-mul-at c = let turn = c .before .before .before in omega (arith, ends turn, start (ratios (turn .before)) .good)
-
-mul-residual-2 : tie.Need-mul-residual-2 Inv-loop μ-loop
-mul-residual-2 c = let turn = c .before .before .before .before .before in omega (arith, ends turn, start (ratios (turn .before)) .good)
-
 residual-requires : tie.Need-residual-requires Inv-loop μ-loop
 residual-requires c κs =
-    let turn = c .before .before .before .before .before .before in
-    let begun = start (ratios (turn .before)) in
-    let row = from-room (turn .before .loop .i * begun .args .n) _ (now (begun .args .e)) (ends turn) in
-    (row, begun .pre .1 .thetas, begun .pre .1 .summed, turn .loop-test .taken, begun .pre .0 .few)
+    let turn = c .before .before .before .before in
+    let pre = start (ratios (turn .before)) .pre in
+    (pre .0 .table, pre .1 .thetas, pre .1 .summed, turn .loop-test .taken, pre .0 .few)
 
 loop-again : tie.Need-loop-again Inv-loop μ-loop
 loop-again c =
-    let turn = c .before .before .before .before .before .before .before in
+    let turn = c .before .before .before .before .before in
     let top = turn .before in
     let made = ratios top in
     let begun = start made in
     let a = begun .args in
     let i = top .loop .i in
     let b = turn .loop-test .taken in
-    let areas = each-filled logOf (a .n) _ (omega (arith, made .fill-ratios .kept .1 .1 .1 .1 .1 .1 .0, begun .pre .0 .few)) (λ k b. refl) (made .fill-ratios .ensures .1) (top .before .before .log-each .ensures) in (
+    let areas = each-filled logOf (a .n) _ (omega (arith, made .fill-ratios .kept .1 .1 .1 .1 .1 .1 .0, begun .pre .0 .few)) (λ k b. refl) (made .fill-ratios .ensures .1) (top .before .before .log-each .ensures) in
+    let part =
+    combinatorial-from _ _ _ _ _ _ (made .fill-ratios .ensures .0 .each i b) (top .before .before .before .before .before .before .before .before .fill-logs .ensures .each i b)
+    (areas .each i b) (c .before .before .combinatorial .ensures) in (
       top .loop .inv .0,
       omega arith,
       sum-more _ _ (top .loop .inv .2)
           (ap (λ (v : Float). at (now (a .x)) i ⊗ v)
-          (lnGamma-hoisted _ _ _ (now (a .e)) _ _ _ _ _ (begun .pre .1) i b (ends turn)
-          (made .fill-ratios .ensures .0 .each i b) (top .before .before .before .before .before .before .before .before .fill-logs .ensures .each i b) (areas .each i b)
-          (top .before .before .before .before .before .fill-logs2 .ensures .each i b) (c .before .before .before .before .combinatorial .ensures) (c .residual .ensures))),
+          (lnGamma-hoisted _ _ _ _ _ _ _ _ _ (begun .pre .1) i b part (top .before .before .before .before .before .fill-logs2 .ensures .each i b) (c .residual .ensures))),
     )
 
 returns : tie.Need-returns Inv-loop μ-loop
@@ -126,15 +115,8 @@ excess-gibbs-spec =
     (λ c. omega arith)
     (λ c. omega arith)
     (λ c κs. tt)
-    mul-at
     (λ c. omega arith)
-    (λ c. omega (arith, start (ratios (c .before .before .before .before .before)) .pre .0))
-    (λ c. omega arith)
-    (λ c. omega (arith, start (ratios (c .before .before .before .before .before .before)) .pre .0))
-    mul-residual-2
-    (λ c. omega (arith, ends (c .before .before .before .before .before)))
-    (λ c. omega (arith, ends (c .before .before .before .before .before)))
-    (λ c. omega arith)
+    (λ c. omega (arith, start (ratios (c .before .before .before .before .before)) .pre .0 .fractions))
     (λ c. omega arith)
     (λ c. omega arith)
     residual-requires

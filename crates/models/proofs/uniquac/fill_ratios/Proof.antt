@@ -18,8 +18,9 @@ abbrev μ-loop : tie.MeasureT-loop
 
 loop-again : tie.Need-loop-again Inv-loop μ-loop
 loop-again c =
-    let inv = c .before .before .before .before .before .loop .inv in
-    (filling-more (omega arith) (inv .0) refl, filling-more (omega arith) (inv .1) refl)
+    let inv = c .before .before .before .before .loop .inv in
+    let b = c .before .before .before .loop-test .taken in
+    (filling-more b (inv .0) refl, filling-more b (inv .1) refl)
 
 pub fill-ratios-spec : {M : Type 1} → statement M
 fill-ratios-spec =
@@ -28,8 +29,6 @@ fill-ratios-spec =
     Inv-loop
     μ-loop
     (λ c. (filling-none (omega arith) refl, filling-none (omega arith) refl))
-    (λ c. omega arith)
-    (λ c. omega arith)
     (λ c. omega arith)
     (λ c. omega arith)
     (λ c. omega arith)

@@ -6,7 +6,7 @@ use native.Mathlib.Omega.{arith}
 use denote.Ref.{now}
 use borrow.Author.Needs.{needs}
 use lib.ListN.{length}
-use Rattle.arithmetic.proofs.TableLaws.{from-length}
+use Rattle.arithmetic.proofs.TableLaws.{from-room}
 use Rattle.models.specs.Values.{uniquacSize}
 use Rattle.models.proofs.UniquacLaws.{uniquac-from}
 use Rattle.models.proofs.uniquac.value_at.Statement.{statement}
@@ -18,16 +18,27 @@ unfolding uniquacSize
 fits c = (c .pre .sized, mul-le-mul (c .pre .few) (c .pre .few))
 
 fill-energies-requires : tie.Need-fill-energies-requires
-fill-energies-requires c κs = let room = fits (c .before .before .before) in search needs
+fill-energies-requires c κs =
+    let start = c .before .before .before in
+    let room = fits start in
+    (start .pre .few, omega (arith, room .0), room .1)
 
 value-over-requires : tie.Need-value-over-requires
 value-over-requires c κs =
-    let start = c .before .before .before .before .before .before .before .before in
+    let made = c .before .before .before .before in
+    let start = made .before .before .before .before in
     let n = start .args .n in
-    let room = fits start in
-    let r-part = from-length (n * n) (now (start .args .values)) in
-    let q-part = from-length (n * n + n) (now (start .args .values)) in
-    search needs
+    let values = now (start .args .values) in
+    let room = fits start in (
+      record {
+        few = start .pre .few;
+        sizes = from-room (n * n) n values (omega (arith, room .0));
+        areas = from-room (n * n + n) n values (room .0);
+        table = omega (arith, made .fill-energies .kept .1 .1 .1 .0, room .1);
+        fractions = start .pre .fractions;
+      },
+      start .pre .index,
+    )
 
 returns : tie.Need-returns
 returns c =
