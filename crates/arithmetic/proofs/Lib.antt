@@ -8,3 +8,4 @@ pub mod Splitting
 pub mod WorkedValues
 pub mod ByteLaws
 pub mod Within
+pub mod ClosestLaws

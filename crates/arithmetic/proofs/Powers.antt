@@ -34,9 +34,9 @@ pub ofBits-at : (s : Bool) (e t n : ℕ) → leb (top binary64) n ≡ s → n % 
 unfolding ofBits
 ofBits-at s e t n p q r = cc
 
-pub field-odd : (x t : ℕ) → suc x < 2047 → ofFields binary64 false (suc x) t ≡ odd 53 false (4503599627370496 + t) x 1074
+pub field-odd : (s : Bool) (x t : ℕ) → suc x < 2047 → ofFields binary64 s (suc x) t ≡ odd 53 s (4503599627370496 + t) x 1074
 unfolding ofFields
-field-odd x t h = simp (ne-eqb (suc x) 2047 (omega arith))
+field-odd s x t h = simp (ne-eqb (suc x) 2047 (omega arith))
 
 one-odd : (x : ℕ) → odd 53 false 4503599627370496 x 1074 ≡ fin false 1 (minus (x + 52) 1074)
 unfolding odd trailingZeros
@@ -46,7 +46,7 @@ pub power-bits : (x : ℕ) → suc x < 2047 → ofBits binary64 (suc x * 4503599
 power-bits x h =
     let n = suc x * 4503599627370496 % 18446744073709551616 in
     ofBits-at false (suc x) 0 n (lt-leb 9223372036854775808 n (omega arith)) (omega arith) (omega arith)
-    ∙ field-odd x 0 h
+    ∙ field-odd false x 0 h
     ∙ one-odd x
 
 -- ---- the exponent with its bias

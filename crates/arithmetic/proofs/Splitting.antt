@@ -144,9 +144,9 @@ cross n a b c d p low high twice =
         omega arith
 
 -- M ≤ n·2^e and n·2^d < 2·M: then e is not below d
-apart : (n : ℕ) (e d : ℤ) → T (le M (fin false n e)) → T (lt (fin false n d) (two ⊗ M)) → ltZ e d ≡ true → ⊥
+out-of-order : (n : ℕ) (e d : ℤ) → T (le M (fin false n e)) → T (lt (fin false n d) (two ⊗ M)) → ltZ e d ≡ true → ⊥
 unfolding lt
-apart n e d low high h =
+out-of-order n e d low high h =
     cross n (up e) (down e) (up d) (down d) (down-pos e) (least n e low) (most n d (rw two-M at high)) (doubled e d h)
   where
     least : (n : ℕ) (e : ℤ) → T (le M (fin false n e)) → 741455 * down e ≤ n * up e * 1048576
@@ -164,8 +164,8 @@ neither (negsuc a) (negsuc b) p q = ap negsuc (le-antisymm (ltb-false b a p) (lt
 same-place : (n : ℕ) (e d : ℤ) → T (le M (fin false n e)) → T (lt (fin false n e) (two ⊗ M)) → T (le M (fin false n d)) → T (lt (fin false n d) (two ⊗ M)) → e ≡ d
 same-place n e d a b c h =
     elim (either (ltZ e d)) [
-      | inl p ↦ absurd (apart n e d a h p)
-      | inr p ↦ elim (either (ltZ d e)) [ inl q ↦ absurd (apart n d e c b q) | inr q ↦ neither e d p q ]
+      | inl p ↦ absurd (out-of-order n e d a h p)
+      | inr p ↦ elim (either (ltZ d e)) [ inl q ↦ absurd (out-of-order n d e c b q) | inr q ↦ neither e d p q ]
     ]
 
 cancel : (a b c : ℤ) → a +ℤ b ≡ a +ℤ c → b ≡ c

@@ -6,3 +6,4 @@ pub mod Sums
 pub mod Tables
 pub mod Bytes
 pub mod steps
+pub mod Units

@@ -18,13 +18,14 @@ use lib.Ieee.Scale.{round-same}
 use lib.Ieee.Back.{positive-back, negative-back}
 use borrow.Author.Tests.{lt-ltb, le-ltb}
 use Rattle.arithmetic.specs.Floats.{_⊕_, _⊖_, _⊗_, half, dec}
+use Rattle.arithmetic.specs.Units.{signed}
 use Rattle.arithmetic.specs.Exponential.{reciprocal, rounding, exponent, highest, lowest}
 use Rattle.arithmetic.specs.steps.Nearest.{nearest, margin, Easy}
 use Rattle.arithmetic.proofs.Within.{Within, mul-within, or-split, le→fractions}
 use Rattle.arithmetic.proofs.exponential.Cutting.{reciprocal-within}
 use Rattle.arithmetic.proofs.Powers.{half-is}
 use Rattle.arithmetic.proofs.exponential.Rounding.{round-sign}
-use Rattle.arithmetic.proofs.exponential.NearestLaws.{signed, near, near-apart, cut-rounded}
+use Rattle.arithmetic.proofs.exponential.NearestLaws.{near, near-apart, cut-rounded}
 
 -- ---- v is within 500
 

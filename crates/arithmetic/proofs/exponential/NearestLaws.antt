@@ -8,7 +8,7 @@ use native.Mathlib.Nat.{mul-one, one-mul, mul-assoc, mul-right-comm, add-mul, su
 use native.Mathlib.Omega.{arith}
 use lib.Dec.{T, ltb, ltb→lt, nltb→le, lit<, lit≤}
 use lib.Pow.{pow-pos, pow-add, pow-mono, shl-lt}
-use lib.IntN.{ℤ, pos, negℤ}
+use lib.IntN.{ℤ}
 use lib.Ieee.{Float, nan, inf, fin, binary64, up, down, round, sum, add, sub, neg, lt, le, ofInt, toSigned}
 use lib.Ieee.Fits.{down-pos}
 use lib.Ieee.Exact.{HasValue, round-exact}
@@ -16,16 +16,12 @@ use lib.Ieee.Order.{round-mono}
 use lib.Ieee.Back.{round-whole}
 use borrow.Author.Tests.{lt-ltb}
 use Rattle.arithmetic.specs.Floats.{_⊕_, _⊖_}
+use Rattle.arithmetic.specs.Units.{signed}
 use Rattle.arithmetic.specs.steps.Nearest.{shift, nearest, margin}
 use Rattle.arithmetic.proofs.Within.{Within, round-within, le→values}
 use Rattle.arithmetic.proofs.exponential.Rounding.{neg-round, round-sign, small-size, minus-whole, Whole, whole-near}
 
 -- ---- the whole number nearest to u
-
--- with its sign
-abbrev pub signed : Bool → ℕ → ℤ
-signed true k = negℤ (pos k)
-signed false k = pos k
 
 pub record Near (x : Float) : Type 0 where
   pub t : Bool
@@ -95,17 +91,17 @@ like-signs s a c (suc k) C p q =
     let m : suc k * c ≡ k * c + c = suc-mul k c in
     absurd (omega arith)
 
-apart : (s t : Bool) (a c k : ℕ) → 0 < c → T (lt (neg margin) (sum binary64 s a (not t) (k * c) c)) → T (lt (sum binary64 s a (not t) (k * c) c) margin) → Apart s t a c k
+by-signs : (s t : Bool) (a c k : ℕ) → 0 < c → T (lt (neg margin) (sum binary64 s a (not t) (k * c) c)) → T (lt (sum binary64 s a (not t) (k * c) c) margin) → Apart s t a c k
 unfolding sum
-apart true true a c k C p q = let d = unlike-signs _ false a (k * c) c C p q in record { over = d .0; under = d .1; same = inr refl }
-apart false false a c k C p q = let d = unlike-signs _ true a (k * c) c C p q in record { over = d .0; under = d .1; same = inr refl }
-apart true false a c k C p q = let d = like-signs true a c k C p q in record { over = omega arith; under = rw (d .0) (omega arith); same = inl (d .0) }
-apart false true a c k C p q = let d = like-signs false a c k C p q in record { over = omega arith; under = rw (d .0) (omega arith); same = inl (d .0) }
+by-signs true true a c k C p q = let d = unlike-signs _ false a (k * c) c C p q in record { over = d .0; under = d .1; same = inr refl }
+by-signs false false a c k C p q = let d = unlike-signs _ true a (k * c) c C p q in record { over = d .0; under = d .1; same = inr refl }
+by-signs true false a c k C p q = let d = like-signs true a c k C p q in record { over = omega arith; under = rw (d .0) (omega arith); same = inl (d .0) }
+by-signs false true a c k C p q = let d = like-signs false a c k C p q in record { over = omega arith; under = rw (d .0) (omega arith); same = inl (d .0) }
 
 pub near-apart : (s : Bool) (m : ℕ) (e : ℤ) (x : Float) (n : Near x) → T (lt (neg margin) (fin s m e ⊖ x)) → T (lt (fin s m e ⊖ x) margin) → Apart s (n .t) (m * up e) (down e) (n .k)
 near-apart s m e x n p q =
     let h = minus-whole s m e x (n .t) (n .k) (n .value) in
-    apart s (n .t) (m * up e) (down e) (n .k) (down-pos e) (subst (λ (z : Float). T (lt (neg margin) z)) h p) (subst (λ (z : Float). T (lt z margin)) h q)
+    by-signs s (n .t) (m * up e) (down e) (n .k) (down-pos e) (subst (λ (z : Float). T (lt (neg margin) z)) h p) (subst (λ (z : Float). T (lt z margin)) h q)
 
 -- ---- what is cut from a/c moved by a half
 

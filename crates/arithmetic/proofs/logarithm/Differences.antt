@@ -76,7 +76,7 @@ digits-bits q y h k l =
     let n = q + y * 4503599627370496 in
     let e : 4503599627370496 + (q - 4503599627370496) ≡ q = omega arith in
     ofBits-at false (suc y) (q - 4503599627370496) n (lt-leb 9223372036854775808 n (omega arith)) (omega arith) (omega arith)
-    ∙ field-odd y (q - 4503599627370496) (omega arith)
+    ∙ field-odd false y (q - 4503599627370496) (omega arith)
     ∙ ap (λ (d : ℕ). odd 53 false d y 1074) e
 
 odd-no-nan : (d q k l : ℕ) → T (not (isNan (odd d false q k l)))
