@@ -7,3 +7,4 @@ pub mod Tables
 pub mod Bytes
 pub mod steps
 pub mod Units
+pub mod Millionths

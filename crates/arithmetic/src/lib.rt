@@ -1,8 +1,9 @@
 // f64 arithmetic for the layers above: exp, log, the temperature-dependent parameter, left folds, floats in
-// bytes. Document 01, "Arithmetic".
+// bytes (document 01, "Arithmetic"), and an f64 in millionths (document 02, Change 1).
 pub mod bytes;
 pub mod exponential;
 pub mod logarithm;
+pub mod millionths;
 pub mod parameters;
 pub mod sums;
 

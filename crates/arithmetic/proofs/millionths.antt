@@ -1,0 +1,3 @@
+pub mod ByFields
+pub mod Steps
+pub mod HalfOff
