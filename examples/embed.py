@@ -10,13 +10,13 @@ The structs are those of include/kiltgrit.h; the calls take and give them by val
 import ctypes
 import struct
 import sys
-from ctypes import POINTER, Structure, c_double, c_size_t, c_uint8, c_uint32
+from ctypes import POINTER, Structure, c_double, c_int64, c_size_t, c_uint8, c_uint32
 
 VALUES, CELLS, MARKS = 5328, 1408, 1036
 LN_GAMMA, GAMMA, EXCESS_GIBBS = range(3)
 WILSON = 1
 TEMPERATURE, ENTRY, TD_ENTRY, SIZE, COUNT = 5, 7, 8, 9, 10
-VERSION = 1 << 16
+VERSION = 1 << 16 | 1 << 8
 
 
 class Head(Structure):
@@ -39,7 +39,11 @@ class Setting(Structure):
     _fields_ = [("v", c_double * 5), ("i", c_size_t), ("j", c_size_t), ("kind", c_uint32), ("unused", c_uint32)]
 
 
-assert [ctypes.sizeof(each) for each in (Head, Reply, Answer, Setting)] == [304, 336, 32, 64]
+class Shown(Structure):
+    _fields_ = [("millionths", c_int64), ("refused", c_uint32), ("unused", c_uint32)]
+
+
+assert [ctypes.sizeof(each) for each in (Head, Reply, Answer, Setting, Shown)] == [304, 336, 32, 64, 16]
 
 
 def floats_ok(library):
@@ -57,7 +61,17 @@ def floats_ok(library):
 
 
 class Refused(Exception):
-    """A call was refused, with document 01's number; it has changed nothing."""
+    """A call was refused, with the documents' number; it has changed nothing."""
+
+
+def millionths(library, v):
+    """ln gamma as a panel shows it: a whole number of millionths, a tie to the even one."""
+    call = library.kiltgrit_millionths
+    call.restype, call.argtypes = Shown, [c_double]
+    shown = call(v)
+    if shown.refused:
+        raise Refused(shown.refused)
+    return shown.millionths
 
 
 class Mixture:
@@ -118,22 +132,27 @@ def say(call, *arguments):
         print("refused", refused)
 
 
-def ask(still, asked, i=0):
+def ask(library, still, asked, i=0):
+    """A query, of which a panel shows six digits where it is ln gamma."""
     value, cells = still.query(asked, i)
+    if asked == LN_GAMMA:
+        size = millionths(library, value)
+        assert f"{size // 1000000}.{size % 1000000:06}" == f"{value:.6f}"
     print("nan" if value != value else struct.pack(">d", value).hex(), cells)
 
 
 def main():
-    still = Mixture(ctypes.CDLL(sys.argv[1]))
+    library = ctypes.CDLL(sys.argv[1])
+    still = Mixture(library)
     # energies by rows in kelvin, then the molar volumes
     say(still.load, WILSON, 2, [0.0, -161.88 / 1.987204, 583.11 / 1.987204, 0.0, 74.05, 40.73])
     say(still.set, TEMPERATURE, 328.7)
     for x in ([0.78, 0.22], [0.01, 0.99], [0.99, 0.01]):
         say(still.fractions, x)
         for i in range(2):
-            ask(still, LN_GAMMA, i)
-            ask(still, GAMMA, i)
-        ask(still, EXCESS_GIBBS)
+            ask(library, still, LN_GAMMA, i)
+            ask(library, still, GAMMA, i)
+        ask(library, still, EXCESS_GIBBS)
 
 
 if __name__ == "__main__":

@@ -7,7 +7,7 @@
 
 mod kiltgrit;
 
-use kiltgrit::{floats_ok, plain, run, Asked, Data, Mixture, Model, Refused, Setting};
+use kiltgrit::{floats_ok, millionths, plain, run, Asked, Data, Mixture, Model, Refused, Setting};
 
 fn said(done: Result<(), Refused>) -> String {
     match done {
@@ -24,7 +24,18 @@ fn asked(answer: Result<(f64, usize), Refused>) -> String {
     }
 }
 
-/// A query of the mixture; the plain call, which keeps nothing, gives the same bits.
+/// The digits of a panel: the whole number of millionths with its point.
+fn panel(ln_gamma: f64) -> Result<String, Refused> {
+    let shown = millionths(ln_gamma)?;
+    let (sign, size) = (if shown < 0 { "-" } else { "" }, shown.unsigned_abs());
+    Ok(format!(
+        "{sign}{}.{:06}",
+        size / 1_000_000,
+        size % 1_000_000
+    ))
+}
+
+/// A query of the mixture; the plain call, which keeps nothing, gives the same bits, and a panel six digits of ln γ.
 fn ask(still: &mut Mixture, data: &Data, x: &[f64], what: Asked) -> String {
     let answer = still.query(what);
     if let Ok((value, _)) = &answer {
@@ -34,6 +45,10 @@ fn ask(still: &mut Mixture, data: &Data, x: &[f64], what: Asked) -> String {
             at_once.to_bits(),
             "the plain call says the same"
         );
+        if let Asked::LnGamma(_) = what {
+            let digits = panel(*value).expect("a panel shows it");
+            assert_eq!(digits, format!("{value:.6}"), "a panel shows its digits");
+        }
     }
     asked(answer)
 }

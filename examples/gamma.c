@@ -1,11 +1,13 @@
 /* Activity coefficients in C, to read: three solvents by UNIQUAC, one of their parameters changed, a refusal in words, and
- * two solvents by UNIFAC. The numbers are those of examples/acetone-toluene-mek.table and examples/ethanol-hexane.table.
+ * two solvents by UNIFAC; ln gamma with the digits of a panel. The numbers are those of
+ * examples/acetone-toluene-mek.table and examples/ethanol-hexane.table.
  *
  *     rt staticlib kiltgrit
  *     gcc -std=c11 -O2 -Iinclude examples/gamma.c target/staticlib/libkiltgrit.a -o target/gamma && target/gamma
  */
 #include "kiltgrit.h"
 
+#include <inttypes.h>
 #include <stdio.h>
 #include <stdlib.h>
 
@@ -16,15 +18,28 @@ static void must(kiltgrit_refusal r) {
     exit(1);
 }
 
-/* gamma of each component and g^E/(RT), and how many exponentials they took. */
+/* ln gamma as a panel shows it: the whole number of millionths with its point. */
+static void panel(double ln_gamma) {
+    const kiltgrit_shown s = kiltgrit_millionths(ln_gamma);
+    const int64_t size = s.millionths < 0 ? -s.millionths : s.millionths;
+    if (s.refused)
+        printf("not shown: %s\n", kiltgrit_words((kiltgrit_refusal)s.refused));
+    else
+        printf("%s%" PRId64 ".%06" PRId64 "\n", s.millionths < 0 ? "-" : "", size / 1000000, size % 1000000);
+}
+
+/* gamma and ln gamma of each component and g^E/(RT), and how many exponentials they took. */
 static void show(kiltgrit_mixture *m, const char *const *names, size_t n) {
     kiltgrit_counts counts = {0, 0};
     size_t worked = 0;
-    double value = 0.0;
+    double value = 0.0, ln_gamma = 0.0;
     for (size_t i = 0; i < n; i++) {
         must(kiltgrit_query(m, KILTGRIT_GAMMA, i, &value, &counts));
         worked += counts.cells_worked;
-        printf("  gamma of %-10s %.6f\n", names[i], value);
+        must(kiltgrit_query(m, KILTGRIT_LN_GAMMA, i, &ln_gamma, &counts));
+        worked += counts.cells_worked;
+        printf("  gamma of %-10s %.6f   ln gamma  ", names[i], value);
+        panel(ln_gamma);
     }
     must(kiltgrit_query(m, KILTGRIT_EXCESS_GIBBS, 0, &value, &counts));
     worked += counts.cells_worked;
@@ -51,6 +66,12 @@ static void uniquac(kiltgrit_mixture *m) {
     show(m, names, 3);
     const kiltgrit_refusal r = kiltgrit_set(m, kiltgrit_td(0, 1, 986.5, 0.0, 0.0, 0.0, 0.0));
     printf("a td entry is refused: %s; the mixture is as it was\n", kiltgrit_words(r));
+    static const double dry[] = {0.6, 0.0, 0.4};
+    double ln_gamma = 0.0;
+    must(kiltgrit_fractions(m, dry, 3));
+    must(kiltgrit_query(m, KILTGRIT_LN_GAMMA, 1, &ln_gamma, NULL));
+    printf("toluene boiled out: its ln gamma is ");
+    panel(ln_gamma);
 }
 
 static void unifac(kiltgrit_mixture *m) {

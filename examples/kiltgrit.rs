@@ -1,11 +1,11 @@
 //! The exported calls in Rust: put this file beside a program's own, say `mod kiltgrit;`, and link libkiltgrit.a.
 //!
-//! `raw` has the calls and structs of include/kiltgrit.h; `Mixture`, `plain` and `run` are a safe wrapper over them. Ask
-//! `floats_ok` at the start of each thread that calls.
+//! `raw` has the calls and structs of include/kiltgrit.h; `Mixture`, `plain`, `millionths` and `run` are a safe wrapper
+//! over them. Ask `floats_ok` at the start of each thread that calls.
 #![allow(dead_code)] // a program may use some of it
 
 /// Of include/kiltgrit.h; another version's archive is no longer laid out as `raw` has it.
-const VERSION: u32 = 1 << 16;
+const VERSION: u32 = 1 << 16 | 1 << 8;
 
 /// How long the lent slices are, with room for what later versions lend.
 const VALUES: usize = 5328;
@@ -67,17 +67,25 @@ mod raw {
         pub unused: u32,
     }
 
+    #[repr(C)]
+    pub struct Shown {
+        pub millionths: i64,
+        pub refused: u32,
+        pub unused: u32,
+    }
+
     const _: () = assert!(size_of::<Head>() == 304 && size_of::<Reply>() == 336);
     const _: () = assert!(std::mem::offset_of!(Head, changes) == 180);
     const _: () = assert!(std::mem::offset_of!(Head, has_t) == 288);
     const _: () = assert!(size_of::<Answer>() == 32 && size_of::<Setting>() == 64);
-    const _: () = assert!(size_of::<Value>() == 16);
+    const _: () = assert!(size_of::<Value>() == 16 && size_of::<Shown>() == 16);
 
     #[rustfmt::skip]
     unsafe extern "C" {
         pub fn kiltgrit_version() -> u32;
         pub fn kiltgrit_exp(v: f64) -> f64;
         pub fn kiltgrit_log(v: f64) -> f64;
+        pub fn kiltgrit_millionths(v: f64) -> Shown;
         pub fn kiltgrit_mixture_open(values: *const f64, values_len: usize, cells: *const f64, cells_len: usize,
             marks: *const u8, marks_len: usize, head: Head) -> Reply;
         pub fn kiltgrit_mixture_load(values: *mut f64, values_len: usize, cells: *const f64, cells_len: usize,
@@ -112,7 +120,7 @@ pub fn floats_ok() -> bool {
         && log == 1.0986122886681096
 }
 
-/// Document 01's number of a refusal; the call has changed nothing.
+/// The documents' number of a refusal; the call has changed nothing.
 #[derive(Debug)]
 pub struct Refused(pub u32);
 
@@ -277,6 +285,13 @@ pub fn plain(d: &Data, kelvin: f64, x: &[f64], asked: Asked) -> Result<f64, Refu
         )
     };
     unless(answer.refused, answer.value)
+}
+
+/// ln γ as a panel shows it: a whole number of millionths, a tie to the even one.
+pub fn millionths(v: f64) -> Result<i64, Refused> {
+    // SAFETY: a function of a number.
+    let shown = unsafe { raw::kiltgrit_millionths(v) };
+    unless(shown.refused, shown.millionths)
 }
 
 /// The text of a strip that is run whole.

@@ -11,7 +11,7 @@
 #include <stdio.h>
 #include <string.h>
 
-enum { CHECKS = 13452, N = 4, NG = 5, LISTED = 10 };
+enum { CHECKS = 13467, N = 4, NG = 5, LISTED = 10 };
 
 static unsigned long checks, wrong;
 static void must(int held, const char *what) {
@@ -253,12 +253,27 @@ static void words(void) {
     word(KILTGRIT_NO_MODEL, 8, "no model loaded");
     word(KILTGRIT_NOT_SET, 9, "temperature or fractions not set");
     word(KILTGRIT_NO_PARAMETER, 10, "no such parameter in this model");
-    word(11, 11, "unknown"), word(99, 99, "unknown");
+    word(KILTGRIT_NOT_SHOWN, 11, "not a number, infinite, or 2048 or more in size");
+    word(12, 12, "unknown"), word(99, 99, "unknown");
+}
+
+/* ---- the panel: a call without lent memory, which has no inline function over it */
+static void shows(double v, int64_t millionths, kiltgrit_refusal refused) {
+    const kiltgrit_shown s = kiltgrit_millionths(v);
+    must(s.millionths == millionths && s.refused == (uint32_t)refused && s.unused == 0, "what a panel shows");
+}
+static void panel(void) {
+    shows(1.0 / 128.0, 7812, KILTGRIT_OK), shows(-3.0 / 128.0, -23438, KILTGRIT_OK); /* ties */
+    shows(0.0, 0, KILTGRIT_OK), shows(-0.0, 0, KILTGRIT_OK), shows(-4.9e-7, 0, KILTGRIT_OK);
+    shows(0.144094, 144094, KILTGRIT_OK), shows(-0.144094, -144094, KILTGRIT_OK);
+    shows(nextafter(2048.0, 0.0), 2048000000, KILTGRIT_OK), shows(nextafter(-2048.0, 0.0), -2048000000, KILTGRIT_OK);
+    shows(2048.0, 0, KILTGRIT_NOT_SHOWN), shows(-2048.0, 0, KILTGRIT_NOT_SHOWN);
+    shows(HUGE_VAL, 0, KILTGRIT_NOT_SHOWN), shows(-HUGE_VAL, 0, KILTGRIT_NOT_SHOWN), shows(NAN, 0, KILTGRIT_NOT_SHOWN);
 }
 
 int main(void) {
     must(kiltgrit_floats_ok() == 1, "floats");
-    words(), limits(), unopened();
+    words(), panel(), limits(), unopened();
     wilson(), odds(), refusals(kiltgrit_size(0, 1, 1.0)), refusals(kiltgrit_td(0, 1, 1.0, 1.0, 1.0, 1.0, 1.0)), unset();
     uniquac(), odds(), refusals(kiltgrit_count(0, 0, 1.0)), refusals(kiltgrit_entry(0, N, 1.0)), unset();
     nrtl(), odds(), refusals(kiltgrit_size(0, 0, 1.0)), refusals(kiltgrit_td(N, 0, 1.0, 1.0, 1.0, 1.0, 1.0)), unset();

@@ -54,7 +54,7 @@ extern "C" {
 #endif
 
 #define KILTGRIT_VERSION_MAJOR 1
-#define KILTGRIT_VERSION_MINOR 0
+#define KILTGRIT_VERSION_MINOR 1
 #define KILTGRIT_VERSION_PATCH 0
 #define KILTGRIT_VERSION (KILTGRIT_VERSION_MAJOR * 65536u + KILTGRIT_VERSION_MINOR * 256u + KILTGRIT_VERSION_PATCH)
 
@@ -98,7 +98,8 @@ typedef enum kiltgrit_refusal {
     KILTGRIT_NO_COMPONENT = 7,   /* no such component or quantity; not as many fractions (their sum comes first) */
     KILTGRIT_NO_MODEL = 8,       /* nothing is loaded */
     KILTGRIT_NOT_SET = 9,        /* temperature or fractions, since the load */
-    KILTGRIT_NO_PARAMETER = 10   /* this model has no such parameter, or no such kind of setting */
+    KILTGRIT_NO_PARAMETER = 10,  /* this model has no such parameter, or no such kind of setting */
+    KILTGRIT_NOT_SHOWN = 11      /* NaN, infinite, or 2048 or more in size: no millionths of it */
 } kiltgrit_refusal;
 
 /* The same in words, for a display or a log. */
@@ -115,6 +116,7 @@ static inline const char *kiltgrit_words(kiltgrit_refusal refusal) {
     case KILTGRIT_NO_MODEL: return "no model loaded";
     case KILTGRIT_NOT_SET: return "temperature or fractions not set";
     case KILTGRIT_NO_PARAMETER: return "no such parameter in this model";
+    case KILTGRIT_NOT_SHOWN: return "not a number, infinite, or 2048 or more in size";
     }
     return "unknown";
 }
@@ -228,6 +230,17 @@ kiltgrit_value kiltgrit_plain(uint32_t model, uint32_t form, size_t n, size_t ng
 /* ---- the exponential and the logarithm of the models, with the same bits everywhere */
 double kiltgrit_exp(double v);
 double kiltgrit_log(double v);
+
+/* ---- ln gamma on a panel: v as a whole number of millionths, rounded to nearest and at a tie to the even one, so that
+ * two panels show the same digits: -144094 is -0.144094. `refused` is KILTGRIT_OK or KILTGRIT_NOT_SHOWN, and then
+ * `millionths` is 0. */
+typedef struct kiltgrit_shown {
+    int64_t millionths;
+    uint32_t refused, unused;
+} kiltgrit_shown;
+KILTGRIT_STATIC_ASSERT(sizeof(kiltgrit_shown) == 16, "what is shown as the library has it");
+
+kiltgrit_shown kiltgrit_millionths(double v);
 
 /* ---- a strip of records (examples/run --strip writes one) run whole: its text goes to out as far as it fits, without
  * a NUL, and its length comes back, KILTGRIT_MAX_TEXT at most */

@@ -1,8 +1,10 @@
-// The head, the reply and the answer as C has them.
+// The head, the reply, the answer and what the panel shows as C has them.
 ghost use mathlib.Core.Path.{_≡_};
 ghost use mathlib.Core.Bool.{cond};
 ghost use Rattle.mixture.specs.Answers.{numberOf};
 ghost use Rattle.kiltgrit.specs.Border.{headOf, cHead, countOf, replyOf, answerOf, valueOr};
+ghost use Rattle.kiltgrit.specs.Border.{cShown};
+use arithmetic::millionths::Shown;
 use mixture::Answer;
 use mixture::Head;
 use mixture::Reply;
@@ -56,6 +58,14 @@ pub struct CAnswer {
 #[repr(C)]
 pub struct CValue {
     pub value: f64,
+    pub refused: u32,
+    pub unused: u32,
+}
+
+// Of millionths: document 02's number of the refusal, 0 for none.
+#[repr(C)]
+pub struct CShown {
+    pub millionths: i64,
     pub refused: u32,
     pub unused: u32,
 }
@@ -182,6 +192,23 @@ pub fn value_or(a: models::Answer) -> CValue
         models::Answer::Refused(k) => CValue {
             value: 0.0,
             refused: k as u32,
+            unused: 0,
+        },
+    }
+}
+
+pub fn c_shown(a: Shown) -> CShown
+    ensures { λ r. ⌜ r ≡ cShown a ⌝ }
+{
+    match a {
+        Shown::Millionths(n) => CShown {
+            millionths: n,
+            refused: 0,
+            unused: 0,
+        },
+        Shown::Refused(number) => CShown {
+            millionths: 0,
+            refused: number as u32,
             unused: 0,
         },
     }

@@ -1,7 +1,12 @@
-// exp and log, for a host in Rust or C.
+// exp, log and millionths, for a host in Rust or C.
 ghost use mathlib.Core.Path.{_≡_};
 ghost use Rattle.arithmetic.specs.Exponential.{expOf};
 ghost use Rattle.arithmetic.specs.Logarithm.{logOf};
+ghost use Rattle.arithmetic.specs.Millionths.{millionthsOf};
+ghost use Rattle.kiltgrit.specs.Border.{cShown};
+use crate::border::CShown;
+use crate::border::c_shown;
+use arithmetic::millionths::millionths;
 
 #[no_mangle]
 pub extern "C" fn kiltgrit_exp(v: f64) -> f64
@@ -15,4 +20,11 @@ pub extern "C" fn kiltgrit_log(v: f64) -> f64
     ensures { λ r. ⌜ r ≡ logOf v ⌝ }
 {
     arithmetic::log(v)
+}
+
+#[no_mangle]
+pub extern "C" fn kiltgrit_millionths(v: f64) -> CShown
+    ensures { λ r. ⌜ r ≡ cShown (millionthsOf v) ⌝ }
+{
+    c_shown(millionths(v))
 }
