@@ -4,10 +4,20 @@
 //! A slice of bytes passes as a pointer and then its length.
 
 use crate::case::{Case, Quantity};
+use crate::millionths::Shown;
+
+/// kiltgrit_shown of the header.
+#[repr(C)]
+struct CShown {
+    millionths: i64,
+    refused: u32,
+    unused: u32,
+}
 
 extern "C" {
     fn kiltgrit_exp(v: f64) -> f64;
     fn kiltgrit_log(v: f64) -> f64;
+    fn kiltgrit_millionths(v: f64) -> CShown;
 
     fn kiltgrit_run(strip: *const u8, strip_len: usize, out: *mut u8, out_len: usize) -> usize;
 
@@ -70,6 +80,18 @@ pub fn exp(v: f64) -> f64 {
 pub fn log(v: f64) -> f64 {
     // SAFETY: as for `exp`.
     unsafe { kiltgrit_log(v) }
+}
+
+/// The millionths of a number; a refusal has none beside its number.
+pub fn millionths(v: f64) -> Shown {
+    // SAFETY: as for `exp`.
+    let shown = unsafe { kiltgrit_millionths(v) };
+    assert_eq!(shown.unused, 0);
+    if shown.refused == 0 {
+        return Ok(shown.millionths);
+    }
+    assert_eq!(shown.millionths, 0);
+    Err(shown.refused)
 }
 
 /// Stores a strip's text into `out`, as far as it fits, and answers how long it is.

@@ -1,4 +1,4 @@
-//! What exp and log are compared on: every edge that document 01's steps have, every exponent, and random
+//! What exp, log and millionths are compared on: every edge that the documents' steps have, every exponent, and random
 //! numbers of each kind.
 
 use crate::random::Random;
@@ -190,5 +190,68 @@ pub fn log_stored(random: &mut Random, cases: usize) -> Vec<f64> {
     let mut all = log_edges(16, 1);
     all.extend(subnormals(random, 1));
     all.extend((0..cases).map(|_| log_random(random)));
+    all
+}
+
+/// How many multiples of 2^-7 are below 2048. The odd ones are the ties of millionths, since 10^6 is 2^6 times an odd
+/// number; the even ones, and no others, are a whole number of them.
+const MULTIPLES: u64 = 2048 * 128;
+
+fn multiple(k: u64) -> f64 {
+    k as f64 / 128.0
+}
+
+/// About k and a half millionths, which is no f64 but at a tie.
+fn half_millionth(k: u64) -> f64 {
+    (k as f64 + 0.5) / 1e6
+}
+
+/// v and its neighbours, of both signs.
+fn both(v: f64, reach: i64) -> impl Iterator<Item = f64> {
+    around(v, reach).chain(around(-v, reach))
+}
+
+/// A random input of millionths: any bits, a number that is shown, an ln γ, one of an exponent at which something is
+/// shown or about it, one next to a half millionth, or a multiple of 2^-7.
+fn millionths_random(random: &mut Random) -> f64 {
+    let v = match random.below(8) {
+        0 => f64::from_bits(random.bits()),
+        1 | 2 => random.between(0.0, 2048.5),
+        3 => random.between(0.0, 10.0),
+        4 | 5 => f64::from_bits((998 + random.below(40)) << 52 | random.bits() % BINADE),
+        6 => half_millionth(random.below(2_048_000_000)),
+        _ => multiple(random.below(MULTIPLES)),
+    };
+    if random.below(2) == 0 {
+        v
+    } else {
+        -v
+    }
+}
+
+/// The inputs of millionths for a comparison: all multiples and edges, and `cases` random ones.
+pub fn millionths(random: &mut Random, cases: usize) -> Vec<f64> {
+    let mut all = special();
+    all.extend((0..MULTIPLES).flat_map(|k| both(multiple(k), 1)));
+    all.extend(exponents(random, 1, 16));
+    all.extend(both(2048.0, 1000));
+    all.extend((0..10_000).flat_map(|k| both(half_millionth(k), 2)));
+    all.extend((2_047_990_000..2_048_000_000).flat_map(|k| both(half_millionth(k), 2)));
+    all.extend((0..cases).map(|_| millionths_random(random)));
+    all
+}
+
+/// The inputs of millionths for the stored list: a part of the multiples and edges, and `cases` random ones.
+pub fn millionths_stored(random: &mut Random, cases: usize) -> Vec<f64> {
+    let mut all = special();
+    all.extend(
+        (1..MULTIPLES)
+            .step_by(4001)
+            .flat_map(|k| both(multiple(k), 1)),
+    );
+    all.extend(exponents(random, 31, 0));
+    all.extend(both(2048.0, 3));
+    all.extend((0..20).flat_map(|k| both(half_millionth(k), 1)));
+    all.extend((0..cases).map(|_| millionths_random(random)));
     all
 }

@@ -1,7 +1,7 @@
 //! Compares the exported calls of the Rattle crates with the original, in which document 01's exp and log
 //! stand in for libm. Prints a line for each comparison; the exit status is 0 only if nothing differs.
 //!
-//! usage: compare [--cases N] [--seed S]    N random inputs of exp and log each, beside the edges (default
+//! usage: compare [--cases N] [--seed S]    N random inputs of exp, log and millionths each, beside the edges (default
 //!                                          1000000), N/4 calls of a model, N/10 of UNIFAC, N/150 strips
 //!        compare --store DIR               write the lists that the program `replay` reads
 //!        compare --histories PROGRAM [--calls N] [--seed S]
@@ -22,6 +22,7 @@ mod histories;
 mod history;
 mod inputs;
 mod memory;
+mod millionths;
 mod models;
 mod papers;
 mod random;
@@ -75,6 +76,7 @@ fn compare_all(cases: usize, seed: u64) -> bool {
     same &= compare::compare("exp", &inputs::exp(random, cases), libm::exp, exports::exp);
     same &= compare::compare("log", &inputs::log(random, cases), libm::log, exports::log);
     same &= models::compare_all(cases, random);
+    same &= millionths::compare(cases, &mut Random::new(seed));
     same &= differences::compare_all();
     same &= strips::compare_all(cases / 150, seed);
     same

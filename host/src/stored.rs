@@ -7,6 +7,7 @@ use crate::case::{Answer, Case, Quantity, NAMES, NRTL, UNIFAC};
 use crate::cases::{Draw, Sizes};
 use crate::compare::bits;
 use crate::inputs;
+use crate::millionths::shown;
 use crate::random::Random;
 use crate::rust;
 use crate::strip;
@@ -29,6 +30,19 @@ fn write(path: &Path, lines: &[Vec<u64>]) -> io::Result<()> {
 /// A line for each input: its bits, and those of the answer.
 fn of_numbers(inputs: &[f64], rust: fn(f64) -> f64) -> Vec<Vec<u64>> {
     let line = |v: &f64| vec![v.to_bits(), bits(rust(*v))];
+    inputs.iter().map(line).collect()
+}
+
+/// A line for each input: its bits, the number of the refusal, 0 for none, and the millionths, 0 for none, by sign
+/// (1 where they are below 0) and size.
+fn of_shown(inputs: &[f64]) -> Vec<Vec<u64>> {
+    let line = |v: &f64| {
+        let (number, z) = match shown(*v) {
+            Ok(z) => (0, z),
+            Err(number) => (u64::from(number), 0),
+        };
+        vec![v.to_bits(), number, u64::from(z < 0), z.unsigned_abs()]
+    };
     inputs.iter().map(line).collect()
 }
 
@@ -126,6 +140,8 @@ pub fn write_all(folder: &Path) -> io::Result<()> {
             &of_model(model, random),
         )?;
     }
+    let shown = inputs::millionths_stored(&mut Random::new(1), 1000);
+    write(&folder.join("millionths.txt"), &of_shown(&shown))?;
     let strips = Strips::new(1).stored(240);
     println!(
         "{}: {} strips",

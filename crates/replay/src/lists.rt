@@ -1,5 +1,6 @@
 // The lists, and how a line of each is replayed.
 use crate::calls;
+use crate::panel;
 use crate::strips;
 use crate::words;
 use crate::words::Word;
@@ -13,6 +14,7 @@ pub enum List {
     Exp,
     Log,
     Plain(Model),
+    Millionths,
     Strips,
 }
 
@@ -52,6 +54,7 @@ fn rest_of(fd: i32, list: List, b: u64) -> Line {
         List::Exp => held(arithmetic::exp(float_of(b)), words::next(fd, b'\n')),
         List::Log => held(arithmetic::log(float_of(b)), words::next(fd, b'\n')),
         List::Plain(model) => calls::line(fd, model, b),
+        List::Millionths => panel::line(fd, float_of(b)),
         List::Strips => strips::line(fd, b as usize),
     }
 }

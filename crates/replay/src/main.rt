@@ -2,6 +2,7 @@
 // differ. The lists are files in the folder that it runs in.
 mod calls;
 mod lists;
+mod panel;
 mod strips;
 mod words;
 
@@ -44,5 +45,6 @@ fn main() {
     replay(b"uniquac", b"uniquac.txt", List::Plain(Model::Uniquac));
     replay(b"nrtl", b"nrtl.txt", List::Plain(Model::Nrtl));
     replay(b"unifac", b"unifac.txt", List::Plain(Model::Unifac));
+    replay(b"millionths", b"millionths.txt", List::Millionths);
     replay(b"strips", b"strips.bin", List::Strips);
 }
