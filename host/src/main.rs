@@ -1,5 +1,6 @@
 //! Compares the exported calls of the Rattle crates with the original, in which document 01's exp and log
-//! stand in for libm. Prints a line for each comparison; the exit status is 0 only if nothing differs.
+//! stand in for libm, and what a panel shows with exact whole numbers. Prints a line for each comparison; the exit
+//! status is 0 only if nothing differs.
 //!
 //! usage: compare [--cases N] [--seed S]    N random inputs of exp, log and millionths each, beside the edges (default
 //!                                          1000000), N/4 calls of a model, N/10 of UNIFAC, N/150 strips

@@ -1,4 +1,4 @@
--- What is shown is at most half a millionth off and even at a tie, no other number is, and document 02's cases worked out.
+-- What is shown is at most half a millionth off and even at a tie, no other number is, and five numbers worked out.
 use mathlib.Core.Path.{_≡_, refl, sym, ap, _∙_}
 use mathlib.Core.Bool.{Bool, true, false, cond}
 use Prim.Native.Nat.{ℕ, _*_}
