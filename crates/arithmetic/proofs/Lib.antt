@@ -9,3 +9,4 @@ pub mod WorkedValues
 pub mod ByteLaws
 pub mod Within
 pub mod ClosestLaws
+pub mod UnitLaws

@@ -8,3 +8,5 @@ pub mod Bytes
 pub mod steps
 pub mod Units
 pub mod Millionths
+pub mod Decimals
+pub mod FieldForms

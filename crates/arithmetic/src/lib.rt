@@ -1,6 +1,8 @@
 // f64 arithmetic for the layers above: exp, log, the temperature-dependent parameter, left folds, floats in
-// bytes (document 01, "Arithmetic"), and an f64 in millionths (document 02, Change 1).
+// bytes (document 01, "Arithmetic"), an f64 in millionths and a decimal field as an f64 (document 02, Changes
+// 1 and 2).
 pub mod bytes;
+pub mod decimals;
 pub mod exponential;
 pub mod logarithm;
 pub mod millionths;
