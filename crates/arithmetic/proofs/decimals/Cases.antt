@@ -1,6 +1,6 @@
 -- What each return of the code is, over plain lists and numbers.
-use mathlib.Core.Path.{_≡_, refl, ap, _∙_}
-use mathlib.Core.Bool.{Bool, true, false}
+use mathlib.Core.Path.{_≡_, refl, sym, ap, _∙_}
+use mathlib.Core.Bool.{Bool, true, false, cond}
 use mathlib.Core.List.{List, [], _∷_}
 use Prim.Native.Nat.{ℕ, _+_, _-_, _≤_, _<_}
 use native.Mathlib.Nat.{le-of-eq}
@@ -8,6 +8,7 @@ use native.Mathlib.Omega.{arith}
 use lib.ListN.{length, getD, take, drop, length-drop}
 use lib.Seq.{take-all, drop-length}
 use borrow.Author.Tests.{le-leb, lt-leb, eq-eqb, ne-eqb}
+use Rattle.arithmetic.specs.declared.decimals.Field.{Field}
 use Rattle.arithmetic.specs.declared.decimals.Field.the-variants.{Number, Refused}
 use Rattle.arithmetic.specs.Floats.{dec}
 use Rattle.arithmetic.specs.Tables.{from}
@@ -22,13 +23,17 @@ not-all i n h z = omega arith
 -- ---- digits
 
 module _ (s : Bool) (a b : List ℕ) where
+  -- by whether there are at most 15
+  of-length : Bool → Field
+  of-length t = cond t (Number (dec s (valued (valued 0 a) b) (length b))) (Refused 13)
+
   pub too-long : 15 < length a + length b → Refused 13 ≡ digitsField s a b
-  unfolding digitsField
-  too-long h = rw (lt-leb (length a + length b) 15 h)
+  unfolding of-length digitsField
+  too-long h = sym (ap of-length (lt-leb (length a + length b) 15 h))
 
   pub few : length a + length b ≤ 15 → Number (dec s (valued (valued 0 a) b) (length b)) ≡ digitsField s a b
-  unfolding digitsField
-  few h = rw (le-leb (length a + length b) 15 h)
+  unfolding of-length digitsField
+  few h = sym (ap of-length (le-leb (length a + length b) 15 h))
 
   -- ---- pointed
 
