@@ -1,12 +1,13 @@
 // The head, which goes in and comes back by value.
 ghost use mathlib.Core.Path.{_≡_};
-ghost use mathlib.Core.List.{[], _++_};
+ghost use mathlib.Core.List.{[]};
 ghost use Prim.Native.Nat.{_≤_};
-ghost use lib.ListN.{length, drop};
+ghost use lib.ListN.{length};
 ghost use Rattle.arithmetic.specs.Floats.{+0};
 ghost use Rattle.models.specs.Limits.{mostComponents, mostPlaces};
 ghost use Rattle.mixture.specs.Lists.{padded};
 ghost use Rattle.mixture.specs.Calls.{unsetHead, freshHead, noHead, headWith};
+use arithmetic::slices::copy_bytes;
 use models::limits::COMPONENTS;
 use models::limits::PLACES;
 
@@ -21,17 +22,6 @@ pub struct Head {
     pub x: [f64; COMPONENTS],
     pub has_t: bool,
     pub has_x: bool,
-}
-
-// The bytes in the first places.
-fn copy_bytes(s: &[u8], r: &mut [u8])
-    requires { ⌜ length (now s) ≤ length (now r) ⌝ }
-    ensures { λ _. ⌜ now (r .exit)
-        ≡ now (s .entry) ++ drop (length (now (s .entry))) (now (r .entry)) ⌝ }
-{
-    for k in 0..s.len() {
-        r[k] = s[k];
-    }
 }
 
 // The fractions, with 0 in the places past them.

@@ -1,8 +1,8 @@
 // Loading a model: document 01, "Mixture".
 ghost use mathlib.Core.Path.{_≡_};
-ghost use mathlib.Core.List.{List, _++_};
+ghost use mathlib.Core.List.{List};
 ghost use Prim.Native.Nat.{_≤_};
-ghost use lib.ListN.{length, drop};
+ghost use lib.ListN.{length};
 ghost use lib.Ieee.{Float};
 ghost use Rattle.models.specs.declared.model.Model.the-variants.{Unifac};
 ghost use Rattle.mixture.specs.Lists.{written};
@@ -21,22 +21,11 @@ use crate::head::bare_head;
 use crate::head::listed_head;
 use crate::stale::Block;
 use crate::stale::stale;
+use arithmetic::slices::copy;
 use models::Model;
 use models::model::has_groups;
 use models::model::model_number;
 use models::model::table_width;
-
-// The given values in the first places.
-fn copy(given: &[f64], values: &mut [f64])
-    requires { ⌜ length (now given) ≤ length (now values) ⌝ }
-    ensures { λ _.
-        let new = now (given .entry) in
-        ⌜ now (values .exit) ≡ new ++ drop (length new) (now (values .entry)) ⌝ }
-{
-    for k in 0..given.len() {
-        values[k] = given[k];
-    }
-}
 
 // Writes 0 to the marks of all the model's cells.
 fn stale_cells(model: Model, n: usize, ng: usize, marks: &mut [u8])

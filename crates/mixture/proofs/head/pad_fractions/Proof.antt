@@ -7,7 +7,8 @@ use lib.Ieee.{nan, ofBits}
 use Rattle.arithmetic.specs.Floats.{+0}
 use denote.Ref.{now}
 use lib.ListN.{length, take, drop, replicate}
-use Rattle.mixture.proofs.CopyLaws.{copy-turn, pad-done}
+use Rattle.arithmetic.proofs.slices.CopyLaws.{copy-turn}
+use Rattle.mixture.proofs.CopyLaws.{pad-done}
 use Rattle.mixture.proofs.head.pad_fractions.Statement.{statement}
 use Rattle.mixture.proofs.head.pad_fractions.Tie as tie
 
@@ -24,7 +25,7 @@ loop-holds c = (omega arith, refl)
 loop-again : tie.Need-loop-again Inv-loop μ-loop
 loop-again c =
     let top = c .before .before in
-    (omega arith, copy-turn nan _ (replicate 12 +0) _ _ (top .loop .inv .1) (top .before .pre) (c .before .loop-test .taken))
+    (omega arith, copy-turn _ (replicate 12 +0) _ _ (top .loop .inv .1) nan (top .before .pre) (c .before .loop-test .taken))
 
 returns : tie.Need-returns Inv-loop μ-loop
 returns c = pad-done +0 12 (now (c .before .before .args .s)) _ (c .before .loop .k) (c .before .loop .inv .1) (omega arith)
