@@ -10,5 +10,7 @@ pub mod Unifac
 pub mod Values
 pub mod Faults
 pub mod Plain
+pub mod Suppliers
+pub mod WorkedLists
 pub mod WorkedValues
 pub mod steps

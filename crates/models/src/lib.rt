@@ -1,4 +1,5 @@
-// Four activity-coefficient models: Wilson, UNIQUAC, NRTL and UNIFAC. Document 01, "Models".
+// Four activity-coefficient models: Wilson, UNIQUAC, NRTL and UNIFAC (document 01, "Models"); and for two of
+// them a supplier's list of energies (document 02, Change 2).
 pub mod answers;
 pub mod columns;
 pub mod exponentials;
@@ -8,6 +9,7 @@ pub mod limits;
 pub mod model;
 pub mod nrtl;
 pub mod parameters;
+pub mod suppliers;
 pub mod unifac;
 pub mod uniquac;
 pub mod wilson;

@@ -1,0 +1,4 @@
+pub mod FieldEnds
+pub mod Turns
+pub mod ImportLaws
+pub mod WorkedLists
