@@ -11,6 +11,7 @@ pub mod Values
 pub mod Faults
 pub mod Plain
 pub mod Suppliers
+pub mod SupplierForms
 pub mod WorkedLists
 pub mod WorkedValues
 pub mod steps
