@@ -12,8 +12,15 @@
 
 static kiltgrit_mixture still;
 
-/* energies by rows in kelvin, then the molar volumes */
-static const double given[KILTGRIT_WILSON_VALUES(2)] = {0.0, -161.88 / 1.987204, 583.11 / 1.987204, 0.0, 74.05, 40.73};
+/* a supplier's list, in cal/mol; and energies by rows in kelvin, then the molar volumes */
+static const char list[] = "0,-161.88\n583.11,0\n";
+static double given[KILTGRIT_WILSON_VALUES(2)] = {0.0, 0.0, 0.0, 0.0, 74.05, 40.73};
+
+static uint32_t bring_in(void) {
+    const uint32_t refused = kiltgrit_import((const uint8_t *)list, sizeof list - 1, 2, given, 4);
+    for (size_t k = 0; refused == 0 && k < 4; k++) given[k] /= 1.987204;
+    return refused;
+}
 
 static void said(kiltgrit_refusal r) {
     if (r == KILTGRIT_OK)
@@ -53,9 +60,10 @@ int main(void) {
         return 1;
     }
     memset(&still, 0xA5, sizeof still); /* whatever it held */
-    const kiltgrit_refusal opened = kiltgrit_open(&still);
-    if (opened != KILTGRIT_OK) {
-        fprintf(stderr, "%s\n", kiltgrit_words(opened));
+    kiltgrit_refusal r = kiltgrit_open(&still);
+    if (r == KILTGRIT_OK) r = (kiltgrit_refusal)bring_in();
+    if (r != KILTGRIT_OK) {
+        fprintf(stderr, "%s\n", kiltgrit_words(r));
         return 1;
     }
     said(kiltgrit_load(&still, KILTGRIT_WILSON, 2, given, KILTGRIT_WILSON_VALUES(2)));

@@ -16,7 +16,7 @@ VALUES, CELLS, MARKS = 5328, 1408, 1036
 LN_GAMMA, GAMMA, EXCESS_GIBBS = range(3)
 WILSON = 1
 TEMPERATURE, ENTRY, TD_ENTRY, SIZE, COUNT = 5, 7, 8, 9, 10
-VERSION = 1 << 16 | 1 << 8
+VERSION = 1 << 16 | 2 << 8
 
 
 class Head(Structure):
@@ -72,6 +72,17 @@ def millionths(library, v):
     if shown.refused:
         raise Refused(shown.refused)
     return shown.millionths
+
+
+def energies(library, text, n):
+    """The n * n energies of a supplier's list (bytes), by rows."""
+    call = library.kiltgrit_import
+    call.restype, call.argtypes = c_uint32, [ctypes.c_char_p, c_size_t, c_size_t, POINTER(c_double), c_size_t]
+    entries = (c_double * (n * n))()
+    refused = call(text, len(text), n, entries, n * n)
+    if refused:
+        raise Refused(refused)
+    return list(entries)
 
 
 class Mixture:
@@ -144,8 +155,9 @@ def ask(library, still, asked, i=0):
 def main():
     library = ctypes.CDLL(sys.argv[1])
     still = Mixture(library)
-    # energies by rows in kelvin, then the molar volumes
-    say(still.load, WILSON, 2, [0.0, -161.88 / 1.987204, 583.11 / 1.987204, 0.0, 74.05, 40.73])
+    # energies by rows, of a supplier's list in cal/mol, then the molar volumes
+    listed = energies(library, b"0,-161.88\n583.11,0\n", 2)
+    say(still.load, WILSON, 2, [energy / 1.987204 for energy in listed] + [74.05, 40.73])
     say(still.set, TEMPERATURE, 328.7)
     for x in ([0.78, 0.22], [0.01, 0.99], [0.99, 0.01]):
         say(still.fractions, x)

@@ -7,7 +7,9 @@
 
 mod kiltgrit;
 
-use kiltgrit::{floats_ok, millionths, plain, run, Asked, Data, Mixture, Model, Refused, Setting};
+use kiltgrit::{
+    floats_ok, import, millionths, plain, run, Asked, Data, Mixture, Model, Refused, Setting,
+};
 
 fn said(done: Result<(), Refused>) -> String {
     match done {
@@ -55,6 +57,9 @@ fn ask(still: &mut Mixture, data: &Data, x: &[f64], what: Asked) -> String {
 
 const KELVIN: f64 = 328.7;
 
+/// A supplier's list, in cal/mol.
+const LIST: &[u8] = b"0,-161.88\n583.11,0\n";
+
 fn main() {
     let strip = std::env::args().nth(1).expect("usage: embed_rs STRIP");
     let strip = std::fs::read(strip).expect("the strip can be read");
@@ -63,15 +68,12 @@ fn main() {
         "floats are not rounded to nearest, or subnormals not kept"
     );
     let mut still = Mixture::open();
-    // energies by rows in kelvin, then the molar volumes
-    let values = [
-        0.0,
-        -161.88 / 1.987204,
-        583.11 / 1.987204,
-        0.0,
-        74.05,
-        40.73,
-    ];
+    // energies by rows, in kelvin, then the molar volumes
+    let mut values = [0.0, 0.0, 0.0, 0.0, 74.05, 40.73];
+    import(LIST, 2, &mut values[..4]).expect("the list is sound");
+    for energy in &mut values[..4] {
+        *energy /= 1.987204;
+    }
     let data = Data {
         model: Model::Wilson,
         n: 2,

@@ -1,11 +1,11 @@
 //! The exported calls in Rust: put this file beside a program's own, say `mod kiltgrit;`, and link libkiltgrit.a.
 //!
-//! `raw` has the calls and structs of include/kiltgrit.h; `Mixture`, `plain`, `millionths` and `run` are a safe wrapper
-//! over them. Ask `floats_ok` at the start of each thread that calls.
+//! `raw` has the calls and structs of include/kiltgrit.h; `Mixture`, `plain`, `import`, `millionths` and `run` are a safe
+//! wrapper over them. Ask `floats_ok` at the start of each thread that calls.
 #![allow(dead_code)] // a program may use some of it
 
 /// Of include/kiltgrit.h; another version's archive is no longer laid out as `raw` has it.
-const VERSION: u32 = 1 << 16 | 1 << 8;
+const VERSION: u32 = 1 << 16 | 2 << 8;
 
 /// How long the lent slices are, with room for what later versions lend.
 const VALUES: usize = 5328;
@@ -101,6 +101,7 @@ mod raw {
         pub fn kiltgrit_plain(model: u32, form: u32, n: usize, ng: usize, lens: *const u8, lens_len: usize,
             groups: *const u8, groups_len: usize, values: *const f64, values_len: usize, t: f64,
             x: *const f64, x_len: usize, asked: u32, i: usize) -> Value;
+        pub fn kiltgrit_import(text: *const u8, text_len: usize, n: usize, entries: *mut f64, entries_len: usize) -> u32;
         pub fn kiltgrit_run(strip: *const u8, strip_len: usize, out: *mut u8, out_len: usize) -> usize;
     }
 }
@@ -292,6 +293,14 @@ pub fn millionths(v: f64) -> Result<i64, Refused> {
     // SAFETY: a function of a number.
     let shown = unsafe { raw::kiltgrit_millionths(v) };
     unless(shown.refused, shown.millionths)
+}
+
+/// The energies of a supplier's list, by rows, into exactly n·n entries, which a refused call leaves as they were.
+pub fn import(text: &[u8], n: usize, entries: &mut [f64]) -> Result<(), Refused> {
+    let (into, len) = (entries.as_mut_ptr(), entries.len());
+    // SAFETY: each pointer comes from a slice that lives to the end of the call, with its length, and they don't overlap.
+    let refused = unsafe { raw::kiltgrit_import(text.as_ptr(), text.len(), n, into, len) };
+    unless(refused, ())
 }
 
 /// The text of a strip that is run whole.

@@ -11,7 +11,7 @@
 #include <stdio.h>
 #include <string.h>
 
-enum { CHECKS = 13467, N = 4, NG = 5, LISTED = 10 };
+enum { CHECKS = 13479, N = 4, NG = 5, LISTED = 10 };
 
 static unsigned long checks, wrong;
 static void must(int held, const char *what) {
@@ -254,7 +254,9 @@ static void words(void) {
     word(KILTGRIT_NOT_SET, 9, "temperature or fractions not set");
     word(KILTGRIT_NO_PARAMETER, 10, "no such parameter in this model");
     word(KILTGRIT_NOT_SHOWN, 11, "not a number, infinite, or 2048 or more in size");
-    word(12, 12, "unknown"), word(99, 99, "unknown");
+    word(KILTGRIT_BAD_FIELD, 12, "list: a field of another form, or not as many fields or rows");
+    word(KILTGRIT_TOO_MANY_DIGITS, 13, "list: a field of more than 15 digits");
+    word(14, 14, "unknown"), word(99, 99, "unknown");
 }
 
 /* ---- the panel: a call without lent memory, which has no inline function over it */
@@ -271,9 +273,30 @@ static void panel(void) {
     shows(HUGE_VAL, 0, KILTGRIT_NOT_SHOWN), shows(-HUGE_VAL, 0, KILTGRIT_NOT_SHOWN), shows(NAN, 0, KILTGRIT_NOT_SHOWN);
 }
 
+/* ---- a supplier's list: nor has it one. Whatever is refused leaves the entries */
+static double read_in[5];
+static uint32_t imported(const char *text, size_t n, size_t places) {
+    return kiltgrit_import((const uint8_t *)text, strlen(text), n, read_in, places);
+}
+static void declines(const char *text, size_t n, size_t places, kiltgrit_refusal refused) {
+    static const double old[5] = {7.0, -0.0, 8.0, 9.0, 10.0};
+    memcpy(read_in, old, sizeof old);
+    must(imported(text, n, places) == (uint32_t)refused && same(read_in, old, sizeof old), text);
+}
+static void lists(void) {
+    static const double read[5] = {-0.0, -81.46, 293.43, 123456789012345.0, 10.0};
+    declines("1\n", 0, 0, KILTGRIT_BAD_SHAPE), declines("1\n", 13, 5, KILTGRIT_BAD_SHAPE);
+    declines("1,2\n3,4\n", 2, 3, KILTGRIT_BAD_SHAPE), declines("1,2\n3,4\n", 2, 5, KILTGRIT_BAD_SHAPE);
+    declines("1,2\n3,4", 2, 4, KILTGRIT_BAD_FIELD), declines("1;2\n3;4\n", 2, 4, KILTGRIT_BAD_FIELD);
+    declines("1,2\n3,1234567890123456\n", 2, 4, KILTGRIT_TOO_MANY_DIGITS);
+    declines("1,2\r\n3,1234567890123456\n", 2, 4, KILTGRIT_BAD_FIELD);
+    must(imported("-0,-81.46\n293.43,123456789012345\n", 2, 4) == KILTGRIT_OK, "a list");
+    must(same(read_in, read, sizeof read), "a list's entries");
+}
+
 int main(void) {
     must(kiltgrit_floats_ok() == 1, "floats");
-    words(), panel(), limits(), unopened();
+    words(), panel(), lists(), limits(), unopened();
     wilson(), odds(), refusals(kiltgrit_size(0, 1, 1.0)), refusals(kiltgrit_td(0, 1, 1.0, 1.0, 1.0, 1.0, 1.0)), unset();
     uniquac(), odds(), refusals(kiltgrit_count(0, 0, 1.0)), refusals(kiltgrit_entry(0, N, 1.0)), unset();
     nrtl(), odds(), refusals(kiltgrit_size(0, 0, 1.0)), refusals(kiltgrit_td(N, 0, 1.0, 1.0, 1.0, 1.0, 1.0)), unset();

@@ -54,7 +54,7 @@ extern "C" {
 #endif
 
 #define KILTGRIT_VERSION_MAJOR 1
-#define KILTGRIT_VERSION_MINOR 1
+#define KILTGRIT_VERSION_MINOR 2
 #define KILTGRIT_VERSION_PATCH 0
 #define KILTGRIT_VERSION (KILTGRIT_VERSION_MAJOR * 65536u + KILTGRIT_VERSION_MINOR * 256u + KILTGRIT_VERSION_PATCH)
 
@@ -89,17 +89,19 @@ extern "C" {
 /* ---- what a call answers */
 typedef enum kiltgrit_refusal {
     KILTGRIT_OK = 0,
-    KILTGRIT_BAD_MEMORY = 1,     /* a lent slice is short, or the head is out of range */
-    KILTGRIT_BAD_SHAPE = 2,      /* no such model; not 1-12 components, 1-32 groups, lists up to 12; a length is off */
-    KILTGRIT_NO_GROUP = 3,       /* a list names a group that isn't there */
-    KILTGRIT_NEGATIVE_COUNT = 4, /* a count of a group below 0 */
-    KILTGRIT_NO_FRACTIONS = 5,   /* no fractions at all */
-    KILTGRIT_BAD_SUM = 6,        /* the fractions add up to something off 1 by more than 1e-6; a NaN passes */
-    KILTGRIT_NO_COMPONENT = 7,   /* no such component or quantity; not as many fractions (their sum comes first) */
-    KILTGRIT_NO_MODEL = 8,       /* nothing is loaded */
-    KILTGRIT_NOT_SET = 9,        /* temperature or fractions, since the load */
-    KILTGRIT_NO_PARAMETER = 10,  /* this model has no such parameter, or no such kind of setting */
-    KILTGRIT_NOT_SHOWN = 11      /* NaN, infinite, or 2048 or more in size: no millionths of it */
+    KILTGRIT_BAD_MEMORY = 1,      /* a lent slice is short, or the head is out of range */
+    KILTGRIT_BAD_SHAPE = 2,       /* no such model; not 1-12 components, 1-32 groups, lists up to 12; a length is off */
+    KILTGRIT_NO_GROUP = 3,        /* a list names a group that isn't there */
+    KILTGRIT_NEGATIVE_COUNT = 4,  /* a count of a group below 0 */
+    KILTGRIT_NO_FRACTIONS = 5,    /* no fractions at all */
+    KILTGRIT_BAD_SUM = 6,         /* the fractions add up to something off 1 by more than 1e-6; a NaN passes */
+    KILTGRIT_NO_COMPONENT = 7,    /* no such component or quantity; not as many fractions (their sum comes first) */
+    KILTGRIT_NO_MODEL = 8,        /* nothing is loaded */
+    KILTGRIT_NOT_SET = 9,         /* temperature or fractions, since the load */
+    KILTGRIT_NO_PARAMETER = 10,   /* this model has no such parameter, or no such kind of setting */
+    KILTGRIT_NOT_SHOWN = 11,      /* NaN, infinite, or 2048 or more in size: no millionths of it */
+    KILTGRIT_BAD_FIELD = 12,      /* a list: a field of another form, not n rows of n fields, no last line feed */
+    KILTGRIT_TOO_MANY_DIGITS = 13 /* a list: a field that is wrong only by more than 15 digits */
 } kiltgrit_refusal;
 
 /* The same in words, for a display or a log. */
@@ -117,6 +119,8 @@ static inline const char *kiltgrit_words(kiltgrit_refusal refusal) {
     case KILTGRIT_NOT_SET: return "temperature or fractions not set";
     case KILTGRIT_NO_PARAMETER: return "no such parameter in this model";
     case KILTGRIT_NOT_SHOWN: return "not a number, infinite, or 2048 or more in size";
+    case KILTGRIT_BAD_FIELD: return "list: a field of another form, or not as many fields or rows";
+    case KILTGRIT_TOO_MANY_DIGITS: return "list: a field of more than 15 digits";
     }
     return "unknown";
 }
@@ -241,6 +245,14 @@ typedef struct kiltgrit_shown {
 KILTGRIT_STATIC_ASSERT(sizeof(kiltgrit_shown) == 16, "what is shown as the library has it");
 
 kiltgrit_shown kiltgrit_millionths(double v);
+
+/* ---- a supplier's list: n rows of n energies, by commas, each row ended by one line feed. A field is an optional minus,
+ * 1 to 15 digits, and optionally one point with a digit on both sides; it becomes the nearest double, -0 for a minus zero.
+ * KILTGRIT_OK: the n * n entries are written, by rows: the first values of a load of Wilson or UNIQUAC, in the list's
+ * unit. Else nothing is: KILTGRIT_BAD_SHAPE for n not 1-12 or another length of entries, then the first in reading order
+ * of KILTGRIT_BAD_FIELD and KILTGRIT_TOO_MANY_DIGITS. Blanks, CR, a plus or an exponent are of another form. */
+KILTGRIT_CHECK_
+uint32_t kiltgrit_import(const uint8_t *text, size_t text_len, size_t n, double *entries, size_t entries_len);
 
 /* ---- a strip of records (examples/run --strip writes one) run whole: its text goes to out as far as it fits, without
  * a NUL, and its length comes back, KILTGRIT_MAX_TEXT at most */

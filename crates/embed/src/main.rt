@@ -17,6 +17,13 @@ use mixture::open::open;
 use mixture::query::query;
 use mixture::set::set;
 use models::Quantity;
+use models::suppliers::import;
+
+fn refuse(number: u8) {
+    io::write_all(STDOUT_FILENO, b"refused ");
+    io::print_decimal(STDOUT_FILENO, number as u64);
+    io::write_all(STDOUT_FILENO, b"\n");
+}
 
 fn show(reply: Reply) {
     let answer = reply.answer;
@@ -24,11 +31,7 @@ fn show(reply: Reply) {
         Answer::Done => {
             io::write_all(STDOUT_FILENO, b"done\n");
         }
-        Answer::Refused(number) => {
-            io::write_all(STDOUT_FILENO, b"refused ");
-            io::print_decimal(STDOUT_FILENO, number as u64);
-            io::write_all(STDOUT_FILENO, b"\n");
-        }
+        Answer::Refused(number) => refuse(number),
         Answer::Value(value, count) => {
             io::print_hex(STDOUT_FILENO, bits_of(value), 16);
             io::write_all(STDOUT_FILENO, b" from so many cells: ");
@@ -55,8 +58,14 @@ fn main() {
     let mut marks = [0u8; MARKS];
     let opened = open(&values, &cells, &marks, no_head());
     check(opened);
-    // two components, no groups and no lists; energies by rows in kelvin, then the molar volumes
-    let given = [0.0, -81.46, 293.43, 0.0, 74.05, 40.73];
+    // a supplier's list, in kelvin
+    let mut a = [0.0; 4];
+    let number = import(b"0,-81.46\n293.43,0\n", 2, &mut a);
+    if number != 0 {
+        refuse(number);
+    }
+    // two components, no groups and no lists; energies by rows, then the molar volumes
+    let given = [a[0], a[1], a[2], a[3], 74.05, 40.73];
     let loaded = load(
         &mut values,
         &cells,
