@@ -19,6 +19,14 @@ extern "C" {
     fn kiltgrit_log(v: f64) -> f64;
     fn kiltgrit_millionths(v: f64) -> CShown;
 
+    fn kiltgrit_import(
+        text: *const u8,
+        text_len: usize,
+        n: usize,
+        entries: *mut f64,
+        entries_len: usize,
+    ) -> u32;
+
     fn kiltgrit_run(strip: *const u8, strip_len: usize, out: *mut u8, out_len: usize) -> usize;
 
     fn kiltgrit_ln_gamma(
@@ -92,6 +100,21 @@ pub fn millionths(v: f64) -> Shown {
     }
     assert_eq!(shown.millionths, 0);
     Err(shown.refused)
+}
+
+/// The number that the import of a supplier's list answers, 0 for none; `entries` is what it leaves there.
+pub fn import(text: &[u8], n: usize, entries: &mut [f64]) -> u32 {
+    // SAFETY: each pointer comes from a slice that outlives the call, with the length of that slice, and `entries` is
+    // lent to nothing else. The call has no `requires`.
+    unsafe {
+        kiltgrit_import(
+            text.as_ptr(),
+            text.len(),
+            n,
+            entries.as_mut_ptr(),
+            entries.len(),
+        )
+    }
 }
 
 /// Stores a strip's text into `out`, as far as it fits, and answers how long it is.

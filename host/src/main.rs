@@ -1,9 +1,10 @@
 //! Compares the exported calls of the Rattle crates with the original, in which document 01's exp and log
-//! stand in for libm, and what a panel shows with exact whole numbers. Prints a line for each comparison; the exit
-//! status is 0 only if nothing differs.
+//! stand in for libm, what a panel shows with exact whole numbers, and the import of a supplier's list with the places
+//! of all its faults. Prints a line for each comparison; the exit status is 0 only if nothing differs.
 //!
 //! usage: compare [--cases N] [--seed S]    N random inputs of exp, log and millionths each, beside the edges (default
-//!                                          1000000), N/4 calls of a model, N/10 of UNIFAC, N/150 strips
+//!                                          1000000), N/4 calls of a model, N/10 of UNIFAC, N/150 strips, N fields of
+//!                                          sound lists, N/3 other lists
 //!        compare --store DIR               write the lists that the program `replay` reads
 //!        compare --histories PROGRAM [--calls N] [--seed S]
 //!                                          random histories of the mixture's calls, N in all (default 200000), run
@@ -18,6 +19,7 @@ mod compare;
 mod differences;
 mod documented;
 mod exports;
+mod fields;
 mod heads;
 mod histories;
 mod history;
@@ -32,6 +34,8 @@ mod steps;
 mod stored;
 mod strip;
 mod strips;
+mod suppliers;
+mod texts;
 
 use random::Random;
 use std::path::Path;
@@ -78,6 +82,7 @@ fn compare_all(cases: usize, seed: u64) -> bool {
     same &= compare::compare("log", &inputs::log(random, cases), libm::log, exports::log);
     same &= models::compare_all(cases, random);
     same &= millionths::compare(cases, &mut Random::new(seed));
+    same &= suppliers::compare(cases, &mut Random::new(seed));
     same &= differences::compare_all();
     same &= strips::compare_all(cases / 150, seed);
     same

@@ -12,6 +12,8 @@ use crate::random::Random;
 use crate::rust;
 use crate::strip;
 use crate::strips::Strips;
+use crate::suppliers::{answer, number_of};
+use crate::texts::{self, Asked};
 use std::io;
 use std::path::Path;
 
@@ -126,6 +128,31 @@ fn of_strips(strips: &[Vec<u8>]) -> Vec<u8> {
     list
 }
 
+/// Suppliers' lists with their answers: for each a line with n, the entries lent and the text's length, the bytes of
+/// the text, and a line with the number of values, these, and the number that is given, 0 for none.
+fn of_suppliers(lists: &[Asked]) -> Vec<u8> {
+    let mut all = Vec::new();
+    for asked in lists {
+        let answer = answer(asked);
+        let values = answer.as_deref().unwrap_or_default();
+        let (n, entries, length) = (asked.n, asked.entries, asked.text.len());
+        all.extend(format!("{n:016x} {entries:016x} {length:016x}\n").into_bytes());
+        all.extend(&asked.text);
+        let mut words = vec![values.len() as u64];
+        words.extend(values.iter().map(|v| v.to_bits()));
+        words.push(u64::from(number_of(&answer)));
+        let words: Vec<String> = words.iter().map(|word| format!("{word:016x}")).collect();
+        all.extend((words.join(" ") + "\n").into_bytes());
+    }
+    all
+}
+
+/// Writes a list whose records aren't lines alone.
+fn write_bytes(path: &Path, bytes: &[u8], records: usize) -> io::Result<()> {
+    println!("{}: {records} answers", path.display());
+    std::fs::write(path, bytes)
+}
+
 /// Writes the lists to a folder.
 pub fn write_all(folder: &Path) -> io::Result<()> {
     std::fs::create_dir_all(folder)?;
@@ -142,11 +169,16 @@ pub fn write_all(folder: &Path) -> io::Result<()> {
     }
     let shown = inputs::millionths_stored(&mut Random::new(1), 1000);
     write(&folder.join("millionths.txt"), &of_shown(&shown))?;
+    let lists = texts::stored(&mut Random::new(1), 400);
+    write_bytes(
+        &folder.join("suppliers.bin"),
+        &of_suppliers(&lists),
+        lists.len(),
+    )?;
     let strips = Strips::new(1).stored(240);
-    println!(
-        "{}: {} strips",
-        folder.join("strips.bin").display(),
-        strips.len()
-    );
-    std::fs::write(folder.join("strips.bin"), of_strips(&strips))
+    write_bytes(
+        &folder.join("strips.bin"),
+        &of_strips(&strips),
+        strips.len(),
+    )
 }
