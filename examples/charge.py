@@ -7,14 +7,16 @@ import pathlib
 import re
 import struct
 
+from lists import explained
+
 # Every line that a charge may hold. A word of KINDS stands for what is written in its place, any other word for
 # itself, (..)... for one or more. The reader, its messages and --help are made from this table.
 GRAMMAR = {
     "every model": ["title (TEXT)...", "source (TEXT)...", "model MODEL", "T NUMBER K", "T NUMBER C", "T NUMBER",
                     "x (FRACTION)...", "ask all", "ask excess", "ask ln-gamma COMPONENT", "ask gamma COMPONENT"],
-    "Wilson": ["unit UNIT", "component NAME V SIZE", "energy COMPONENT COMPONENT NUMBER",
+    "Wilson": ["unit UNIT", "component NAME V SIZE", "energy COMPONENT COMPONENT NUMBER", "energies FILE",
                "set V COMPONENT SIZE", "set energy COMPONENT COMPONENT NUMBER"],
-    "UNIQUAC": ["unit UNIT", "component NAME r SIZE q SIZE", "energy COMPONENT COMPONENT NUMBER",
+    "UNIQUAC": ["unit UNIT", "component NAME r SIZE q SIZE", "energy COMPONENT COMPONENT NUMBER", "energies FILE",
                 "set r COMPONENT SIZE", "set q COMPONENT SIZE", "set energy COMPONENT COMPONENT NUMBER"],
     "NRTL": ["unit UNIT", "component NAME", "tau COMPONENT COMPONENT (TERM NUMBER)...",
              "alpha COMPONENT COMPONENT NUMBER",
@@ -30,6 +32,7 @@ KINDS = {
     "UNIT": "K, cal/mol or J/mol",
     "NAME": "a name that is no number",
     "SYMBOL": "a group's name that is no number and has no comma",
+    "FILE": "a supplier's list beside the charge: a row of decimals a line, with commas between",
     "COMPONENT": "a component",
     "GROUP": "a group",
     "GROUPS": "one or more groups, joined by commas without blanks",
@@ -134,12 +137,15 @@ Step = collections.namedtuple("Step", "said records rows", defaults=[()])
 
 
 class Charge:
-    """What a file says: a model and its numbers, kept as they are written, then steps in their order."""
+    """What a file says: a model and its numbers, kept as they are written, then steps in their order. A supplier's list
+    is imported by a function of the number of components and the list's bytes, which gives the entries as bits, or the
+    number of the refusal."""
 
-    def __init__(self, path):
+    def __init__(self, path, imported):
         self.path, self.title, self.source, self.model, self.unit = path, "", "", "", "K"
         self.components, self.groups = {}, {}  # name: {size or group: number}
         self.given = {}  # (word, name, name): {term or "": number}
+        self.imported, self.list, self.entries = imported, "", {}  # of a list: its name, and (name, name): f64
         self.steps, self.seen = [], {}
         try:
             # bytes that are no UTF-8 are left to the grammar, which refuses them with their place
@@ -174,6 +180,8 @@ class Charge:
             setattr(self, word, " ".join(words[1:]))
         elif word in ("component", "group"):
             self.name(word, words)
+        elif word == "energies":
+            self.energies(words[1])
         elif word in PARAMETERS[self.model]:
             for i, j in self.pairs(words, 0):
                 self.once((word, i, j), quoted(f"{word} {i} {j}"))
@@ -194,12 +202,14 @@ class Charge:
             raise Fault(quoted(word), f"a line above it: model MODEL ({KINDS['MODEL']})")
         if word not in known:
             raise Fault(f"{quoted(word)}, a word of {either(models)}", f"one of {self.model}: {either(known)}")
-        if step and not self.components:
+        if (step or word == "energies") and not self.components:
             raise Fault(quoted(word), f"a line above it: {self.lines('component')[0]}")
         if self.steps and not step:
             settings = [line for line in self.lines("set") if line.split()[1] == word]
             instead = f", or: {' | '.join(settings)}" if settings else ""
             raise Fault(f"{quoted(word)} below the first step", f"it above{instead}")
+        if word == "component" and self.list:
+            raise Fault('"component" below "energies"', "it above: a list has a row and a column of each")
         if word == "unit" and self.given:
             raise Fault('"unit" below a number that it is for', "it above")
 
@@ -225,8 +235,9 @@ class Charge:
         kind = expected[0]
         if kind in LEAST:
             return self.number_fault(kind, word)
-        if kind in ("TEXT", "NAME", "SYMBOL"):
-            name = kind == "TEXT" or not re.fullmatch(DECIMAL, word) and not (kind == "SYMBOL" and "," in word)
+        if kind in ("TEXT", "FILE", "NAME", "SYMBOL"):
+            text = kind in ("TEXT", "FILE")
+            name = text or not re.fullmatch(DECIMAL, word) and not (kind == "SYMBOL" and "," in word)
             return None if name and word.isprintable() else (KINDS[kind], [])
         choices = {"MODEL": MODELS, "UNIT": UNITS, "TERM": TERMS, "COMPONENT": self.components,
                    "GROUP": self.groups, "GROUPS": self.groups}.get(kind, [kind])
@@ -261,6 +272,28 @@ class Charge:
         if len(given) > 12:
             raise Fault("13 groups or more in a component", "at most 12")
         names[words[1]] = given
+
+    def energies(self, name):
+        """The energies of a list: the import reads them, and their decimals are kept to be shown."""
+        self.once("energies", quoted("energies"))
+        if self.given:
+            line = min(self.seen[key] for key in self.given)
+            raise Fault('"energies" beside "energy"', f"a list or lines of energies, not both (line {line} has one)")
+        try:
+            text = (pathlib.Path(self.path).parent / name).read_bytes()
+        except OSError as fault:
+            raise Fault(quoted(name), f"a file that can be read ({fault.strerror})", 1) from None
+        names = list(self.components)
+        entries = self.imported(len(names), text)
+        if isinstance(entries, int):
+            found, expected = explained(len(names), text, entries)
+            raise Fault(f"{found} of {quoted(name)}", expected, 1)
+        pairs, fields = [(i, j) for i in names for j in names], re.split("[,\n]", text.decode("ascii"))
+        for pair, field, bits in zip(pairs, fields, entries):
+            key = ("energy", *pair)
+            self.seen[key], self.given[key] = self.line, {"": field}
+            self.entries[pair] = struct.unpack(">d", bytes.fromhex(bits))[0]
+        self.list = name
 
     def pairs(self, words, at):
         """The names that the parameter at a word is of; alpha holds both ways."""
@@ -341,11 +374,16 @@ class Charge:
         five = {term or "a": float(number) for term, number in terms.items()}
         return [five.get(term, 0.0) / (UNITS[self.unit] if term == "b" else 1.0) for term in TERMS]
 
+    def parameter(self, word, i, j):
+        """What is loaded of a parameter: of a list as it was imported, else the numbers as they are written."""
+        if (i, j) in self.entries:
+            return [self.entries[i, j] / UNITS[self.unit]]
+        return self.numbers(word, self.given.get((word, i, j), {}))
+
     def load(self):
         """The record that loads the model."""
         names, places = self.rows(), list(self.groups)
-        matrices = [floats(self.numbers(word, self.given.get((word, i, j), {})))
-                    for word in PARAMETERS[self.model] for i in names for j in names]
+        matrices = [floats(self.parameter(word, i, j)) for word in PARAMETERS[self.model] for i in names for j in names]
         sizes = [floats([float(names[name][size])]) for size in SIZES[self.model] for name in names]
         start = head(MODELS[self.model], len(self.components), len(places))
         if self.model != "UNIFAC":
@@ -370,6 +408,7 @@ class Charge:
         divided = "" if self.unit == "K" else f", divided by R = {gas}"
         lines = [self.title] if self.title else []
         lines += [f"{model}; parameters: {self.source or 'source not given'}", f"unit: {self.unit}{divided}"]
+        lines += [f"energies: {self.list}"] if self.list else []
         if sizes:
             kind = "group" if model == "UNIFAC" else "component"
             lines += grid(kind, sizes, [(name, [given[size] for size in sizes]) for name, given in names.items()])
