@@ -4,6 +4,7 @@ mod calls;
 mod lists;
 mod panel;
 mod strips;
+mod suppliers;
 mod words;
 
 use libc::STDOUT_FILENO;
@@ -46,5 +47,6 @@ fn main() {
     replay(b"nrtl", b"nrtl.txt", List::Plain(Model::Nrtl));
     replay(b"unifac", b"unifac.txt", List::Plain(Model::Unifac));
     replay(b"millionths", b"millionths.txt", List::Millionths);
+    replay(b"suppliers", b"suppliers.bin", List::Suppliers);
     replay(b"strips", b"strips.bin", List::Strips);
 }

@@ -11,7 +11,7 @@ const MOST: usize = 4096;
 const MOST_TEXT: usize = 8192;
 
 // Fills the first n places, and answers whether the file had so many bytes.
-fn fill(fd: i32, a: &mut [u8], n: usize) -> bool
+pub fn fill(fd: i32, a: &mut [u8], n: usize) -> bool
     requires { ⌜ n ≤ length (now a) ⌝ }
     ensures { λ _. ⌜ n ≡ length (take n (now (a .exit))) ⌝ }
 {
