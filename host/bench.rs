@@ -3,12 +3,13 @@
 //! one entry was set again, and after T was set again. Prints nanoseconds per call, medians of rounds that take
 //! turns, and how many times as long as the port the original takes. The exit status is 0 only if both sides gave the same bits.
 //!
-//! usage: bench [--boundary] [--rounds R] [--row TEXT] [--names] [--only COLUMN] [--times N]
+//! usage: bench [--boundary | --import] [--rounds R] [--row TEXT] [--names] [--only COLUMN] [--times N]
 //!
 //! `--boundary` prints another table: the port's calls are made in Rattle and one by one through C, in the same rounds, and each
 //! has a line with both times and the difference. `--row` takes the rows whose names have the text; `--names` prints their
 //! names alone; `--only` runs one column (original, plain, fresh, entry, temperature; through C plain-c and so on) N times
-//! and prints nothing, for `host/bench --instructions`.
+//! and prints nothing, for `host/bench --instructions`. `--import` prints another: the import of a supplier's list beside
+//! what Rust's own library reads of it.
 //!
 //! How buffers are prepared: the original's models are made before the clock starts. The port has no heap: one
 //! exported call decodes the values into arrays on the stack, opens, loads and sets T and the fractions, and then makes
@@ -16,6 +17,7 @@
 //! C the benchmark does the same with arrays of its own.
 
 mod bench_boundary;
+mod bench_import;
 mod bench_inputs;
 mod bench_port;
 
@@ -215,6 +217,7 @@ fn differs(same: bool) -> &'static str {
 
 struct Options {
     boundary: bool,
+    import: bool,
     rounds: usize,
     row: String,
     names: bool,
@@ -224,9 +227,11 @@ struct Options {
 
 /// The options; None for a wrong word.
 fn options() -> Option<Options> {
-    let (boundary, rounds, row, names, only, times) = (false, 15, String::new(), false, None, 1);
+    let (boundary, import, rounds) = (false, false, 15);
+    let (row, names, only, times) = (String::new(), false, None, 1);
     let mut o = Options {
         boundary,
+        import,
         rounds,
         row,
         names,
@@ -238,6 +243,7 @@ fn options() -> Option<Options> {
         let mut value = || words.next().unwrap_or_default();
         match word.as_str() {
             "--boundary" => o.boundary = true,
+            "--import" => o.import = true,
             "--names" => o.names = true,
             "--rounds" => o.rounds = value().parse().unwrap_or(o.rounds),
             "--row" => o.row = value(),
@@ -275,9 +281,20 @@ fn print_titles(boundary: bool, rounds: usize) {
     println!();
 }
 
+/// Says whether all values are what they should be, for a reader and for a script.
+fn ended(same: bool, whose: &str) -> ExitCode {
+    if same {
+        println!("all values are {whose}");
+        ExitCode::SUCCESS
+    } else {
+        println!("SOME VALUES DIFFER");
+        ExitCode::FAILURE
+    }
+}
+
 fn main() -> ExitCode {
     let Some(o) = options() else {
-        eprintln!("usage: bench [--boundary] [--rounds R] [--row TEXT] [--names] [--only COLUMN] [--times N]");
+        eprintln!("usage: bench [--boundary | --import] [--rounds R] [--row TEXT] [--names] [--only COLUMN] [--times N]");
         return ExitCode::from(2);
     };
     let cases = bench_inputs::all();
@@ -292,6 +309,9 @@ fn main() -> ExitCode {
         return ExitCode::SUCCESS;
     }
     let rounds = o.rounds.max(1);
+    if o.import {
+        return ended(bench_import::measure(rounds), "those of Rust's reader");
+    }
     print_titles(o.boundary, rounds);
     let mut same = true;
     for case in chosen {
@@ -301,17 +321,5 @@ fn main() -> ExitCode {
             false => row.measure(rounds),
         };
     }
-    println!(
-        "{}",
-        if same {
-            "all values are the original's"
-        } else {
-            "SOME VALUES DIFFER"
-        }
-    );
-    if same {
-        ExitCode::SUCCESS
-    } else {
-        ExitCode::FAILURE
-    }
+    ended(same, "the original's")
 }

@@ -68,10 +68,10 @@ impl Case {
 }
 
 /// xorshift64*, from a fixed seed.
-struct Draw(u64);
+pub struct Draw(pub u64);
 
 impl Draw {
-    fn bits(&mut self) -> u64 {
+    pub fn bits(&mut self) -> u64 {
         self.0 ^= self.0 >> 12;
         self.0 ^= self.0 << 25;
         self.0 ^= self.0 >> 27;
