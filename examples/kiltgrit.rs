@@ -1,16 +1,19 @@
 //! The exported calls in Rust: put this file beside a program's own, say `mod kiltgrit;`, and link libkiltgrit.a.
 //!
-//! `raw` has the calls and structs of include/kiltgrit.h; `Mixture`, `plain`, `import`, `millionths` and `run` are a safe
-//! wrapper over them. Ask `floats_ok` at the start of each thread that calls.
+//! `raw` has the calls and structs of include/kiltgrit.h; `Mixture`, `plain`, `check_composition`, `import`,
+//! `millionths` and `run` are a safe wrapper over them. Ask `floats_ok` at the start of each thread that calls.
 #![allow(dead_code)] // a program may use some of it
 
 /// Of include/kiltgrit.h; another version's archive is no longer laid out as `raw` has it.
-const VERSION: u32 = 1 << 16 | 2 << 8;
+const VERSION: u32 = 1 << 16 | 3 << 8;
 
 /// How long the lent slices are, with room for what later versions lend.
 const VALUES: usize = 5328;
 const CELLS: usize = 1408;
 const MARKS: usize = 1036;
+
+/// By how much the sum of fractions may be off 1 after a load.
+pub const USUAL_TOLERANCE: f64 = 1e-6;
 
 /// The longest text of a strip.
 const TEXT: usize = 655_367;
@@ -99,8 +102,9 @@ mod raw {
         pub fn kiltgrit_mixture_query(values: *const f64, values_len: usize, cells: *mut f64, cells_len: usize,
             marks: *mut u8, marks_len: usize, head: Head, asked: u32, i: usize) -> Answer;
         pub fn kiltgrit_plain(model: u32, form: u32, n: usize, ng: usize, lens: *const u8, lens_len: usize,
-            groups: *const u8, groups_len: usize, values: *const f64, values_len: usize, t: f64,
+            groups: *const u8, groups_len: usize, values: *const f64, values_len: usize, t: f64, tolerance: f64,
             x: *const f64, x_len: usize, asked: u32, i: usize) -> Value;
+        pub fn kiltgrit_check_composition(tolerance: f64, x: *const f64, x_len: usize) -> u32;
         pub fn kiltgrit_import(text: *const u8, text_len: usize, n: usize, entries: *mut f64, entries_len: usize) -> u32;
         pub fn kiltgrit_run(strip: *const u8, strip_len: usize, out: *mut u8, out_len: usize) -> usize;
     }
@@ -274,18 +278,30 @@ impl Mixture {
     }
 }
 
-/// The same at once, with nothing kept.
+/// The same at once, with nothing kept, by the usual tolerance.
 pub fn plain(d: &Data, kelvin: f64, x: &[f64], asked: Asked) -> Result<f64, Refused> {
+    plain_within(d, kelvin, USUAL_TOLERANCE, x, asked)
+}
+
+/// And by another tolerance.
+#[rustfmt::skip]
+pub fn plain_within(d: &Data, kelvin: f64, tolerance: f64, x: &[f64], asked: Asked) -> Result<f64, Refused> {
     let (asked, i) = asked.raw();
     // SAFETY: each pointer comes from a slice that lives to the end of the call, with its length.
-    #[rustfmt::skip]
     let answer = unsafe {
         raw::kiltgrit_plain(
             d.model as u32, 0, d.n, d.ng, d.lens.as_ptr(), d.lens.len(), d.groups.as_ptr(), d.groups.len(),
-            d.values.as_ptr(), d.values.len(), kelvin, x.as_ptr(), x.len(), asked, i,
+            d.values.as_ptr(), d.values.len(), kelvin, tolerance, x.as_ptr(), x.len(), asked, i,
         )
     };
     unless(answer.refused, answer.value)
+}
+
+/// The check of fractions alone: 14 of the tolerance, then 5 and 6.
+pub fn check_composition(tolerance: f64, x: &[f64]) -> Result<(), Refused> {
+    // SAFETY: the pointer comes from a slice that lives to the end of the call, with its length.
+    let refused = unsafe { raw::kiltgrit_check_composition(tolerance, x.as_ptr(), x.len()) };
+    unless(refused, ())
 }
 
 /// ln γ as a panel shows it: a whole number of millionths, a tie to the even one.

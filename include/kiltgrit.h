@@ -54,7 +54,7 @@ extern "C" {
 #endif
 
 #define KILTGRIT_VERSION_MAJOR 1
-#define KILTGRIT_VERSION_MINOR 2
+#define KILTGRIT_VERSION_MINOR 3
 #define KILTGRIT_VERSION_PATCH 0
 #define KILTGRIT_VERSION (KILTGRIT_VERSION_MAJOR * 65536u + KILTGRIT_VERSION_MINOR * 256u + KILTGRIT_VERSION_PATCH)
 
@@ -86,22 +86,26 @@ extern "C" {
 /* R of each group; Q of each; a, td entries; how often each listed group is in its component, list after list */
 #define KILTGRIT_UNIFAC_VALUES(ng, listed) (2 * (ng) + 5 * (ng) * (ng) + (listed))
 
+/* By how much the sum of fractions may be off 1. */
+#define KILTGRIT_USUAL_TOLERANCE 1e-6
+
 /* ---- what a call answers */
 typedef enum kiltgrit_refusal {
     KILTGRIT_OK = 0,
-    KILTGRIT_BAD_MEMORY = 1,      /* a lent slice is short, or the head is out of range */
-    KILTGRIT_BAD_SHAPE = 2,       /* no such model; not 1-12 components, 1-32 groups, lists up to 12; a length is off */
-    KILTGRIT_NO_GROUP = 3,        /* a list names a group that isn't there */
-    KILTGRIT_NEGATIVE_COUNT = 4,  /* a count of a group below 0 */
-    KILTGRIT_NO_FRACTIONS = 5,    /* no fractions at all */
-    KILTGRIT_BAD_SUM = 6,         /* the fractions add up to something off 1 by more than 1e-6; a NaN passes */
-    KILTGRIT_NO_COMPONENT = 7,    /* no such component or quantity; not as many fractions (their sum comes first) */
-    KILTGRIT_NO_MODEL = 8,        /* nothing is loaded */
-    KILTGRIT_NOT_SET = 9,         /* temperature or fractions, since the load */
-    KILTGRIT_NO_PARAMETER = 10,   /* this model has no such parameter, or no such kind of setting */
-    KILTGRIT_NOT_SHOWN = 11,      /* NaN, infinite, or 2048 or more in size: no millionths of it */
-    KILTGRIT_BAD_FIELD = 12,      /* a list: a field of another form, not n rows of n fields, no last line feed */
-    KILTGRIT_TOO_MANY_DIGITS = 13 /* a list: a field that is wrong only by more than 15 digits */
+    KILTGRIT_BAD_MEMORY = 1,       /* a lent slice is short, or the head is out of range */
+    KILTGRIT_BAD_SHAPE = 2,        /* no such model; not 1-12 components, 1-32 groups, lists up to 12; a length off */
+    KILTGRIT_NO_GROUP = 3,         /* a list names a group that isn't there */
+    KILTGRIT_NEGATIVE_COUNT = 4,   /* a count of a group below 0 */
+    KILTGRIT_NO_FRACTIONS = 5,     /* no fractions at all */
+    KILTGRIT_BAD_SUM = 6,          /* the sum of the fractions is off 1 by more than the tolerance; a NaN passes */
+    KILTGRIT_NO_COMPONENT = 7,     /* no such component or quantity; not as many fractions (their sum comes first) */
+    KILTGRIT_NO_MODEL = 8,         /* nothing is loaded */
+    KILTGRIT_NOT_SET = 9,          /* temperature or fractions, since the load */
+    KILTGRIT_NO_PARAMETER = 10,    /* this model has no such parameter, or no such kind of setting */
+    KILTGRIT_NOT_SHOWN = 11,       /* NaN, infinite, or 2048 or more in size: no millionths of it */
+    KILTGRIT_BAD_FIELD = 12,       /* a list: a field of another form, not n rows of n fields, no last line feed */
+    KILTGRIT_TOO_MANY_DIGITS = 13, /* a list: a field that is wrong only by more than 15 digits */
+    KILTGRIT_BAD_TOLERANCE = 14    /* a tolerance that is a NaN, below 0 or above 1e-3 */
 } kiltgrit_refusal;
 
 /* The same in words, for a display or a log. */
@@ -121,6 +125,7 @@ static inline const char *kiltgrit_words(kiltgrit_refusal refusal) {
     case KILTGRIT_NOT_SHOWN: return "not a number, infinite, or 2048 or more in size";
     case KILTGRIT_BAD_FIELD: return "list: a field of another form, or not as many fields or rows";
     case KILTGRIT_TOO_MANY_DIGITS: return "list: a field of more than 15 digits";
+    case KILTGRIT_BAD_TOLERANCE: return "tolerance not a number, below 0 or above 0.001";
     }
     return "unknown";
 }
@@ -229,7 +234,12 @@ KILTGRIT_STATIC_ASSERT(sizeof(kiltgrit_value) == 16, "the value as the library h
 
 kiltgrit_value kiltgrit_plain(uint32_t model, uint32_t form, size_t n, size_t ng, const uint8_t *lens, size_t lens_len,
                               const uint8_t *groups, size_t groups_len, const double *values, size_t values_len,
-                              double t, const double *x, size_t x_len, uint32_t asked, size_t i);
+                              double t, double tolerance, const double *x, size_t x_len, uint32_t asked, size_t i);
+
+/* ---- the check of fractions alone, whatever the model: KILTGRIT_OK, or the first of KILTGRIT_BAD_TOLERANCE,
+ * KILTGRIT_NO_FRACTIONS and KILTGRIT_BAD_SUM */
+KILTGRIT_CHECK_
+uint32_t kiltgrit_check_composition(double tolerance, const double *x, size_t x_len);
 
 /* ---- the exponential and the logarithm of the models, with the same bits everywhere */
 double kiltgrit_exp(double v);
@@ -352,14 +362,15 @@ static inline kiltgrit_refusal kiltgrit_query(kiltgrit_mixture *m, kiltgrit_aske
     return (kiltgrit_refusal)a.refused;
 }
 
-/* The same at once, of Wilson, UNIQUAC or NRTL; *value is written only where KILTGRIT_OK is returned. */
+/* The same at once, of Wilson, UNIQUAC or NRTL, with the usual tolerance; *value is written only where KILTGRIT_OK is
+ * returned. */
 KILTGRIT_CHECK_
 static inline kiltgrit_refusal kiltgrit_value_at(kiltgrit_model model, size_t n, const double *given, size_t given_len,
                                                  double kelvin, const double *x, kiltgrit_asked asked, size_t i,
                                                  double *value) {
     const uint8_t none = 0;
-    const kiltgrit_value a = kiltgrit_plain((uint32_t)model, 0, n, 0, &none, 0, &none, 0, given, given_len, kelvin, x,
-                                            n, (uint32_t)asked, i);
+    const kiltgrit_value a = kiltgrit_plain((uint32_t)model, 0, n, 0, &none, 0, &none, 0, given, given_len, kelvin,
+                                            KILTGRIT_USUAL_TOLERANCE, x, n, (uint32_t)asked, i);
     if (a.refused == KILTGRIT_OK) *value = a.value;
     return (kiltgrit_refusal)a.refused;
 }
@@ -371,7 +382,7 @@ static inline kiltgrit_refusal kiltgrit_unifac_value_at(size_t n, size_t ng, con
                                                         double kelvin, const double *x, kiltgrit_asked asked, size_t i,
                                                         double *value) {
     const kiltgrit_value a = kiltgrit_plain(KILTGRIT_UNIFAC, 0, n, ng, lens, n, groups, listed, given, given_len,
-                                            kelvin, x, n, (uint32_t)asked, i);
+                                            kelvin, KILTGRIT_USUAL_TOLERANCE, x, n, (uint32_t)asked, i);
     if (a.refused == KILTGRIT_OK) *value = a.value;
     return (kiltgrit_refusal)a.refused;
 }

@@ -22,20 +22,20 @@ withRest r (Value v) = cond (eqb r 0) (Value v) (Refused 7)
 withRest r (Refused k) = Refused k
 
 -- the plain call with the fractions in bytes
-unfoldable pub plainRest : ModelData → Float → List ℕ → Quantity → Answer
-plainRest d T x q = withRest (length x % 8) (plainCall d T (floats x) q)
+unfoldable pub plainRest : ModelData → Float → Float → List ℕ → Quantity → Answer
+plainRest d T ε x q = withRest (length x % 8) (plainCall d T ε (floats x) q)
 
 -- of the model with the number m, with the values in bytes too; 2 where there is none, or a rest that is no f64
-unfoldable pub exported : ℕ → ℕ → ℕ → List ℕ → List ℕ → List ℕ → Float → List ℕ → Quantity → Answer
-exported m n ng lens groups values T x q =
+unfoldable pub exported : ℕ → ℕ → ℕ → List ℕ → List ℕ → List ℕ → Float → Float → List ℕ → Quantity → Answer
+exported m n ng lens groups values T ε x q =
     cond (eqb (length values % 8) 0) (cond (isModel m)
-    (plainRest (modelData (modelOf m) n ng lens groups (floats values)) T x q)
+    (plainRest (modelData (modelOf m) n ng lens groups (floats values)) T ε x q)
     (Refused 2)) (Refused 2)
 
 -- the same of a call's arguments
-abbrev pub exportedBy : {A B C D : Type 0} → ℕ → ℕ → ℕ → Both (RefT (List ℕ)) A → Both (RefT (List ℕ)) B → Both (RefT (List ℕ)) C → Float → Both (RefT (List ℕ)) D → Quantity → Answer
-exportedBy m n ng lens groups values T x q =
-    exported m n ng (now (lens .entry)) (now (groups .entry)) (now (values .entry)) T (now (x .entry)) q
+abbrev pub exportedBy : {A B C D : Type 0} → ℕ → ℕ → ℕ → Both (RefT (List ℕ)) A → Both (RefT (List ℕ)) B → Both (RefT (List ℕ)) C → Float → Float → Both (RefT (List ℕ)) D → Quantity → Answer
+exportedBy m n ng lens groups values T ε x q =
+    exported m n ng (now (lens .entry)) (now (groups .entry)) (now (values .entry)) T ε (now (x .entry)) q
 
 -- the result that a call leaves: its value, or what was there where it declines
 unfoldable pub left : Answer → Float → Float

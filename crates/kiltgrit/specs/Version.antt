@@ -2,4 +2,4 @@
 use Prim.Native.Nat.{ℕ, _+_, _*_}
 
 abbrev pub version : ℕ
-version = 65536 * 1 + 256 * 2 + 0
+version = 65536 * 1 + 256 * 3 + 0

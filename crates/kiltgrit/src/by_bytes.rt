@@ -34,16 +34,20 @@ fn sum_floats(x: &[u8]) -> f64
     s
 }
 
-// 5, 6 and 7 of fractions in bytes.
-fn fractions_fault(n: usize, x: &[u8], q: Quantity) -> u8
-    ensures { λ r. ⌜ (r ≡ first (fractionsFault n (floats (now (x .entry))) q)
+// 14 of the tolerance; then 5, 6 and 7 of fractions in bytes.
+fn fractions_fault(tolerance: f64, n: usize, x: &[u8], q: Quantity) -> u8
+    ensures { λ r. ⌜ (r ≡ first (fractionsFault tolerance n (floats (now (x .entry))) q)
         (cond (eqb (length (now (x .entry)) % 8) 0) 0 7))
         × (r ≡ 0 → (length (now (x .entry)) ≡ 8 * n) × (indexFault n q ≡ 0)) ⌝ }
 {
+    let fault = faults::tolerance_fault(tolerance);
+    if fault != 0 {
+        return fault;
+    }
     if x.len() < 8 {
         return 5;
     }
-    let fault = faults::sum_fault(faults::TOLERANCE, sum_floats(x));
+    let fault = faults::sum_fault(tolerance, sum_floats(x));
     if fault != 0 {
         return fault;
     }
@@ -69,16 +73,18 @@ fn call_with(
     groups: &[u8],
     values: &[f64],
     t: f64,
+    tolerance: f64,
     x: &[u8],
     q: Quantity,
 ) -> Answer
-    ensures { λ r. ⌜ r ≡ plainRest (given model n ng lens groups values) t (now (x .entry)) q ⌝ }
+    ensures { λ r. ⌜ r
+        ≡ plainRest (given model n ng lens groups values) t tolerance (now (x .entry)) q ⌝ }
 {
     let fault = faults::data_fault(model, n, ng, lens, groups, values);
     if fault != 0 {
         return Answer::Refused(fault);
     }
-    let fault = fractions_fault(n, x, q);
+    let fault = fractions_fault(tolerance, n, x, q);
     if fault != 0 {
         return Answer::Refused(fault);
     }
@@ -96,10 +102,11 @@ fn call(
     groups: &[u8],
     values: &[u8],
     t: f64,
+    tolerance: f64,
     x: &[u8],
     q: Quantity,
 ) -> Answer
-    ensures { λ r. ⌜ r ≡ exportedBy model n ng lens groups values t x q ⌝ }
+    ensures { λ r. ⌜ r ≡ exportedBy model n ng lens groups values t tolerance x q ⌝ }
 {
     if values.len() % 8 != 0 {
         return Answer::Refused(2);
@@ -114,7 +121,7 @@ fn call(
     let mut v = [0.0; VALUES];
     bytes::fill_floats(count, values, 0, &mut v[..]);
     let model = model_numbered(model as usize);
-    call_with(model, n, ng, lens, groups, &v[..count], t, x, q)
+    call_with(model, n, ng, lens, groups, &v[..count], t, tolerance, x, q)
 }
 
 // The answer's number; its value goes to `value`.
@@ -139,12 +146,13 @@ pub extern "C" fn kiltgrit_ln_gamma(
     groups: &[u8],
     values: &[u8],
     t: f64,
+    tolerance: f64,
     x: &[u8],
     i: usize,
     value: &mut f64,
 ) -> u32
-    ensures { λ r. ⌜ Gives (exportedBy model n ng lens groups values t x (Quantity.LnGamma i))
-        value r ⌝ }
+    ensures { λ r. ⌜ Gives
+        (exportedBy model n ng lens groups values t tolerance x (Quantity.LnGamma i)) value r ⌝ }
 {
     give(
         call(
@@ -155,6 +163,7 @@ pub extern "C" fn kiltgrit_ln_gamma(
             groups,
             values,
             t,
+            tolerance,
             x,
             Quantity::LnGamma(i),
         ),
@@ -171,14 +180,27 @@ pub extern "C" fn kiltgrit_gamma(
     groups: &[u8],
     values: &[u8],
     t: f64,
+    tolerance: f64,
     x: &[u8],
     i: usize,
     value: &mut f64,
 ) -> u32
-    ensures { λ r. ⌜ Gives (exportedBy model n ng lens groups values t x (Quantity.Gamma i)) value r ⌝ }
+    ensures { λ r. ⌜ Gives
+        (exportedBy model n ng lens groups values t tolerance x (Quantity.Gamma i)) value r ⌝ }
 {
     give(
-        call(model, n, ng, lens, groups, values, t, x, Quantity::Gamma(i)),
+        call(
+            model,
+            n,
+            ng,
+            lens,
+            groups,
+            values,
+            t,
+            tolerance,
+            x,
+            Quantity::Gamma(i),
+        ),
         value,
     )
 }
@@ -192,11 +214,12 @@ pub extern "C" fn kiltgrit_excess_gibbs(
     groups: &[u8],
     values: &[u8],
     t: f64,
+    tolerance: f64,
     x: &[u8],
     value: &mut f64,
 ) -> u32
-    ensures { λ r. ⌜ Gives (exportedBy model n ng lens groups values t x Quantity.ExcessGibbs)
-        value r ⌝ }
+    ensures { λ r. ⌜ Gives
+        (exportedBy model n ng lens groups values t tolerance x Quantity.ExcessGibbs) value r ⌝ }
 {
     give(
         call(
@@ -207,6 +230,7 @@ pub extern "C" fn kiltgrit_excess_gibbs(
             groups,
             values,
             t,
+            tolerance,
             x,
             Quantity::ExcessGibbs,
         ),

@@ -136,13 +136,14 @@ pub extern "C" fn kiltgrit_plain(
     groups: &[u8],
     values: &[f64],
     t: f64,
+    tolerance: f64,
     x: &[f64],
     asked: u32,
     i: usize,
 ) -> CValue
     ensures { λ r. ⌜ r ≡ valueOr (plainCall
         (loadOf model form n ng (now (lens .entry)) (now (groups .entry)) (now (values .entry)))
-        t (now (x .entry)) (quantityAsked asked i)) ⌝ }
+        t tolerance (now (x .entry)) (quantityAsked asked i)) ⌝ }
 {
     value_or(plain(
         model_numbered(model as usize),
@@ -152,6 +153,7 @@ pub extern "C" fn kiltgrit_plain(
         groups,
         values,
         t,
+        tolerance,
         x,
         quantity_asked(asked, i),
     ))

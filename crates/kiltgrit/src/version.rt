@@ -6,5 +6,5 @@ ghost use Rattle.kiltgrit.specs.Version.{version};
 pub extern "C" fn kiltgrit_version() -> u32
     ensures { λ r. ⌜ r ≡ version ⌝ }
 {
-    66048
+    66304
 }

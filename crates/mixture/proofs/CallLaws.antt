@@ -9,7 +9,7 @@ use lib.ListN.{length, getD, drop, replicate, length-replicate}
 use lib.Ieee.{Float}
 use borrow.Author.Tests.{le-leb, eqb-true, lt-ltb, eq-eqb, ne-eqb}
 use Rattle.arithmetic.specs.Floats.{+0}
-use Rattle.models.specs.Faults.{tolerance, compositionFault, between, allTo, dataFault, mixFault}
+use Rattle.models.specs.Faults.{usualTolerance, compositionFault, between, allTo, dataFault, mixFault}
 use Rattle.models.specs.Values.{start}
 use Rattle.models.proofs.AnswerLaws.{first-left, first-right}
 use Rattle.mixture.specs.declared.head.Head.{Head}
@@ -138,15 +138,15 @@ few-by h lv lc lm e z =
 
 -- ---- fractions that pass
 
-pub mix-length : (n : ℕ) (x : List Float) → mixFault n x ≡ 0 → length x ≡ n
+pub mix-length : (ε : Float) (n : ℕ) (x : List Float) → mixFault ε n x ≡ 0 → length x ≡ n
 unfolding mixFault
-mix-length n x z = eqb-true (length x) n (passed (eqb (length x) n) 0 7 (nought 6) (first-is (compositionFault tolerance x) _ z .1) .0)
+mix-length ε n x z = eqb-true (length x) n (passed (eqb (length x) n) 0 7 (nought 6) (first-is (compositionFault ε x) _ z .1) .0)
 
 pub fractions-fit : (m : Memory) (h : Head) (x : List Float) → fractionsFault m h x ≡ 0 → length x ≤ 12
 unfolding fractionsFault
 fractions-fit m h x e =
     let f = first-is (headFault m h) _ e in
-    omega (arith, mix-length (h .n) x (f .1), head-passed m h (f .0) .range .few)
+    omega (arith, mix-length usualTolerance (h .n) x (f .1), head-passed m h (f .0) .range .few)
 
 -- ---- a load that passes
 

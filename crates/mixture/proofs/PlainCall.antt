@@ -19,9 +19,10 @@ use Rattle.arithmetic.proofs.TableLaws.{cell-lt, from-at}
 use Rattle.models.specs.declared.answers.Quantity.{Quantity}
 use Rattle.models.specs.declared.answers.Answer.the-variants.{Value}
 use Rattle.models.specs.Answers.{answer, first, numberOf as plainNumber, valuesOf as plainValues}
-use Rattle.models.specs.Faults.{indexFault, shapeFault, fractionsFault, listsFault, placeFault, groupsFault, unifacFault, tolerance, compositionFault, dataFault, mixFault}
+use Rattle.models.specs.Faults.{indexFault, shapeFault, fractionsFault, listsFault, placeFault, groupsFault, unifacFault, usualTolerance, toleranceFault, dataFault, mixFault}
 use Rattle.models.specs.Plain.{valueAt, plainCall}
 use Rattle.models.specs.Values.{tdGrid, wilsonSize, energies, volumes, uniquacSize, rs, qs, nrtlSize, taus, alphas, countsAt, groupRs, groupQs, groupAs, start, unifacSize, lists}
+use Rattle.models.proofs.ToleranceLaws.{usual-passes}
 use Rattle.models.proofs.GroupListLaws.{list-place}
 use Rattle.models.specs.declared.model.Model.{Model}
 use Rattle.models.specs.declared.model.Model.the-variants.{Wilson, Uniquac, Nrtl, Unifac}
@@ -318,12 +319,12 @@ data-passes d p =
 -- ---- the plain call and its value
 
 -- a plain call is its faults, and the value at its names
-plainCall-is : (e : ModelData) (T : Float) (x : List Float) (q : Quantity)
-    → plainCall e T x q ≡ answer (first (dataFault e) (fractionsFault (e .n) x q)) (plain (held e) T x q)
+plainCall-is : (e : ModelData) (T ε : Float) (x : List Float) (q : Quantity)
+    → plainCall e T ε x q ≡ answer (first (dataFault e) (fractionsFault ε (e .n) x q)) (plain (held e) T x q)
 unfolding plainCall valueAt plain entries tdEntries sizes
-plainCall-is e T x q = go (e .model) refl
+plainCall-is e T ε x q = go (e .model) refl
   where
-    go : (k : Model) → e .model ≡ k → plainCall e T x q ≡ answer (first (dataFault e) (fractionsFault (e .n) x q)) (plain (held e) T x q)
+    go : (k : Model) → e .model ≡ k → plainCall e T ε x q ≡ answer (first (dataFault e) (fractionsFault ε (e .n) x q)) (plain (held e) T x q)
     go Wilson p = rw p
     go Uniquac p = rw p
     go Nrtl p = rw p
@@ -337,23 +338,23 @@ plain-same c d a l T x q z =
     (λ e. l e .group) q z
     ∙ plain-is d T x q)
 
-fractions-pass : (n : ℕ) (x : List Float) (q : Quantity) → mixFault n x ≡ 0 → indexFault n q ≡ 0 → fractionsFault n x q ≡ 0
+fractions-pass : (ε : Float) (n : ℕ) (x : List Float) (q : Quantity) → toleranceFault ε ≡ 0 → mixFault ε n x ≡ 0 → indexFault n q ≡ 0 → fractionsFault ε n x q ≡ 0
 unfolding fractionsFault
-fractions-pass n x q m z = rw (m, z)
+fractions-pass ε n x q t m z = rw (t, m, z)
 
-plain-answers : (d : Held) (T : Float) (x : List Float) (q : Quantity) → Proper d → mixFault (d .n) x ≡ 0 → indexFault (d .n) q ≡ 0
-    → plainCall (dataOf d) T x q ≡ Value (plain d T x q)
+plain-answers : (d : Held) (T ε : Float) (x : List Float) (q : Quantity) → Proper d → toleranceFault ε ≡ 0 → mixFault ε (d .n) x ≡ 0 → indexFault (d .n) q ≡ 0
+    → plainCall (dataOf d) T ε x q ≡ Value (plain d T x q)
 unfolding answer
-plain-answers d T x q p m z =
-    plainCall-is (dataOf d) T x q
-    ∙ rw (data-passes d p, fractions-pass (d .n) x q m z, plain-same (held (dataOf d)) d (back d) (p .lists) T x q z)
+plain-answers d T ε x q p t m z =
+    plainCall-is (dataOf d) T ε x q
+    ∙ rw (data-passes d p, fractions-pass ε (d .n) x q t m z, plain-same (held (dataOf d)) d (back d) (p .lists) T x q z)
 
 -- ---- every book that calls made
 
 abbrev ProperBook : Option Held → Option (List Float) → Type 0
 ProperBook none x = Unit {0}
 ProperBook (some d) none = Proper d
-ProperBook (some d) (some x) = Proper d × (mixFault (d .n) x ≡ 0)
+ProperBook (some d) (some x) = Proper d × (mixFault usualTolerance (d .n) x ≡ 0)
 
 -- the number of an accepted call
 took : (k : ℕ) (v : MixtureAnswer) → eqb (numberOf (unless k v)) 0 ≡ true → k ≡ 0
@@ -373,13 +374,13 @@ after-proper b past (Set s) t p = set-case (b .model) (b .x) t p
     set-case : (o : Option Held) (x : Option (List Float)) → eqb (numberOf (having 8 o (λ d. unless (caseFault d s) Done))) 0 ≡ true → ProperBook o x → ProperBook (setModel s o) x
     set-case none x t p = tt
     set-case (some d) none t p = set-proper s d (took (caseFault d s) Done t) p
-    set-case (some d) (some x) t p = (set-proper s d (took (caseFault d s) Done t) (p .0), ap (λ (n : ℕ). mixFault n x) (sym (set-alike s d .n)) ∙ p .1)
+    set-case (some d) (some x) t p = (set-proper s d (took (caseFault d s) Done t) (p .0), ap (λ (n : ℕ). mixFault usualTolerance n x) (sym (set-alike s d .n)) ∙ p .1)
 after-proper b past (Fractions x) t p = mix-case (b .model) (b .x) t p
   where
-    mix-case : (o : Option Held) (u : Option (List Float)) → eqb (numberOf (having 8 o (λ d. unless (mixFault (d .n) x) Done))) 0 ≡ true → ProperBook o u → ProperBook o (some x)
+    mix-case : (o : Option Held) (u : Option (List Float)) → eqb (numberOf (having 8 o (λ d. unless (mixFault usualTolerance (d .n) x) Done))) 0 ≡ true → ProperBook o u → ProperBook o (some x)
     mix-case none u t p = tt
-    mix-case (some d) none t p = (p, took (mixFault (d .n) x) Done t)
-    mix-case (some d) (some u) t p = (p .0, took (mixFault (d .n) x) Done t)
+    mix-case (some d) none t p = (p, took (mixFault usualTolerance (d .n) x) Done t)
+    mix-case (some d) (some u) t p = (p .0, took (mixFault usualTolerance (d .n) x) Done t)
 after-proper b past (Query q) t p = p
 
 of-proper : (cs : List Call) (b : Book) (past : List Call) → ProperBook (b .model) (b .x) → ProperBook (bookOf b past cs .model) (bookOf b past cs .x)
@@ -402,8 +403,8 @@ pub plain-call : PlainCall
 unfolding empty plainNumber plainValues valuesOf countsOf
 plain-call cs past d T x q r s u z =
     let o : ProperBook (some d) (bookOf empty [] cs .x) = subst (λ (o : Option Held). ProperBook o (bookOf empty [] cs .x)) r (of-proper cs empty [] tt) in
-    let p : Proper d × (mixFault (d .n) x ≡ 0) = subst (λ (o : Option (List Float)). ProperBook (some d) o) u o in
-    let plainly = plain-answers d T x q (p .0) (p .1) z in
+    let p : Proper d × (mixFault usualTolerance (d .n) x ≡ 0) = subst (λ (o : Option (List Float)). ProperBook (some d) o) u o in
+    let plainly = plain-answers d T usualTolerance x q (p .0) usual-passes (p .1) z in
     rw (plainly, book-answers (bookOf empty [] cs) past d T x q r s u z) (refl, refl, refl)
 
 -- ---- one more call

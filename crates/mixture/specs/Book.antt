@@ -8,7 +8,7 @@ use lib.Ieee.{Float}
 use Rattle.arithmetic.specs.Tables.{Table, at}
 use Rattle.arithmetic.specs.declared.parameters.TdParam.{TdParam}
 use Rattle.models.specs.declared.answers.Quantity.{Quantity}
-use Rattle.models.specs.Faults.{indexFault, dataFault, mixFault}
+use Rattle.models.specs.Faults.{usualTolerance, indexFault, dataFault, mixFault}
 use Rattle.models.specs.Wilson.{wilsonAt}
 use Rattle.models.specs.Uniquac.{uniquacAt}
 use Rattle.models.specs.Nrtl.{nrtlAt}
@@ -155,7 +155,7 @@ unfoldable pub bookAnswer : Book → List Call → Call → Answer
 bookAnswer b past Open = Done
 bookAnswer b past (Load d) = unless (dataFault d) Done
 bookAnswer b past (Set s) = settingAnswer b s
-bookAnswer b past (Fractions x) = having 8 (b .model) (λ d. unless (mixFault (d .n) x) Done)
+bookAnswer b past (Fractions x) = having 8 (b .model) (λ d. unless (mixFault usualTolerance (d .n) x) Done)
 bookAnswer b past (Query q) = queryAnswer b past q
 
 abbrev pub accepted : Book → List Call → Call → Bool

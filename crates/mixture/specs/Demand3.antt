@@ -16,6 +16,7 @@ use Rattle.mixture.specs.Memory.{Memory}
 use Rattle.mixture.specs.Book.{Call, Open, Query, book, empty, touchedCells, since, bookAnswer, bookOf, pastOf}
 use Rattle.mixture.specs.History.{afterCall}
 use Rattle.mixture.specs.WrittenBack.{dataOf}
+use Rattle.models.specs.Faults.{usualTolerance}
 use Rattle.models.specs.Plain.{plainCall}
 
 -- ---- a further call, after the calls
@@ -46,7 +47,7 @@ pub record ByPlainCall (calls : List Call) (q : Quantity) (a : Answer) : Type 0 
   pub x : List Float
   pub v : Float
   pub stands : bookOf empty [] calls ≡ book (some d) (some T) (some x)
-  pub plainly : plainCall (dataOf d) T x q ≡ Plainly v
+  pub plainly : plainCall (dataOf d) T usualTolerance x q ≡ Plainly v
   pub given : a ≡ Value v (touchedCells d (since (pastOf empty [] calls)))
 
 -- on three slices with any bits and with any head the opening is accepted; after it and any calls a further call is refused with k

@@ -5,7 +5,7 @@ use mathlib.Core.Option.{some}
 use lib.Ieee.{Float}
 use Rattle.models.specs.declared.answers.Quantity.{Quantity}
 use Rattle.models.specs.Answers.{numberOf as plainNumber, valuesOf as plainValues}
-use Rattle.models.specs.Faults.{indexFault}
+use Rattle.models.specs.Faults.{usualTolerance, indexFault}
 use Rattle.models.specs.Plain.{plainCall}
 use Rattle.mixture.specs.Holdings.{Held}
 use Rattle.mixture.specs.Answers.{valuesOf, countsOf}
@@ -24,6 +24,6 @@ abbrev pub PlainCall : Type 0
 PlainCall = (calls past : List Call) (d : Held) (T : Float) (x : List Float) (q : Quantity)
     → bookOf empty [] calls .model ≡ some d → bookOf empty [] calls .T ≡ some T → bookOf empty [] calls .x ≡ some x
     → indexFault (d .n) q ≡ 0
-    → (plainNumber (plainCall (dataOf d) T x q) ≡ 0)
-    × (valuesOf (bookAnswer (bookOf empty [] calls) past (Query q)) ≡ plainValues (plainCall (dataOf d) T x q))
+    → (plainNumber (plainCall (dataOf d) T usualTolerance x q) ≡ 0)
+    × (valuesOf (bookAnswer (bookOf empty [] calls) past (Query q)) ≡ plainValues (plainCall (dataOf d) T usualTolerance x q))
     × (countsOf (bookAnswer (bookOf empty [] calls) past (Query q)) ≡ touchedCells d (since past) ∷ [])

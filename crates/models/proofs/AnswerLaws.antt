@@ -143,12 +143,12 @@ pub sized-fits : {n s size : ℕ} {values x : List Float} {q : Quantity} → (n 
 sized-fits e f = record { few = f .few; sized = omega (arith, e (omega (arith, f .few)), f .sized); fractions = f .fractions; index = f .index }
 
 -- what a plain call answers, from its first fault
-module _ (d : ModelData) (T : Float) (x : List Float) (q : Quantity) {k : ℕ} (f : k ≡ first (dataFault d) (fractionsFault (d .n) x q)) where
-  pub plain-refused : (k ≡ 0 → ⊥) → Refused k ≡ plainCall d T x q
+module _ (d : ModelData) (T ε : Float) (x : List Float) (q : Quantity) {k : ℕ} (f : k ≡ first (dataFault d) (fractionsFault ε (d .n) x q)) where
+  pub plain-refused : (k ≡ 0 → ⊥) → Refused k ≡ plainCall d T ε x q
   unfolding plainCall
   plain-refused ne = answer-refused _ f ne
 
-  pub plain-value : {v : Float} → k ≡ 0 → v ≡ valueAt d T (at x) q → Value v ≡ plainCall d T x q
+  pub plain-value : {v : Float} → k ≡ 0 → v ≡ valueAt d T (at x) q → Value v ≡ plainCall d T ε x q
   unfolding plainCall
   plain-value z p = answer-value f z p
 

@@ -1,6 +1,7 @@
 pub mod GroupListLaws
 pub mod UnifacLaws
 pub mod AnswerLaws
+pub mod ToleranceLaws
 pub mod ExponentialLaws
 pub mod ParameterLaws
 pub mod WilsonLaws

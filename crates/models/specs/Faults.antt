@@ -1,10 +1,10 @@
 -- What the plain calls, the check of a composition and a load decline: document 01, "What each call declines". 0 for nothing.
-use mathlib.Core.Bool.{Bool, true, false, _&&_, cond}
+use mathlib.Core.Bool.{Bool, true, false, _&&_, _||_, cond}
 use mathlib.Core.List.{List}
 use Prim.Native.Nat.{ℕ, zero, suc}
 use lib.Dec.{leb, ltb, eqb}
 use lib.ListN.{length, getD}
-use lib.Ieee.{Float, lt}
+use lib.Ieee.{Float, lt, isNan}
 use Rattle.arithmetic.specs.Floats.{_⊖_, abs, dec, +0, one}
 use Rattle.arithmetic.specs.Sums.{total}
 use Rattle.arithmetic.specs.Tables.{at, from}
@@ -15,11 +15,19 @@ use Rattle.models.specs.Answers.{first, firstTo}
 use Rattle.models.specs.Model.{byModel, ModelData, sizeOf}
 use Rattle.models.specs.Values.{countsAt, start, unifacSize}
 
--- ---- the fractions, as `check_composition` of the source
+-- ---- the fractions, as `check_composition` of the source, with a tolerance ε (document 02, Change 3)
 
--- 1e-6
-unfoldable pub tolerance : Float
-tolerance = dec false 1 6
+-- 1e-6: the source's, and a mixture's after a load
+unfoldable pub usualTolerance : Float
+usualTolerance = dec false 1 6
+
+-- 1e-3
+unfoldable pub widestTolerance : Float
+widestTolerance = dec false 1 3
+
+-- 14: NaN, below 0 (-0 passes) or above 1e-3
+unfoldable pub toleranceFault : Float → ℕ
+toleranceFault ε = cond (isNan ε || (lt ε +0 || lt widestTolerance ε)) 14 0
 
 -- 6, |sum - 1| > ε (a NaN sum passes)
 unfoldable pub sumFault : Float → Float → ℕ
@@ -29,9 +37,13 @@ sumFault ε s = cond (lt ε (abs (s ⊖ one))) 6 0
 unfoldable pub compositionFault : Float → List Float → ℕ
 compositionFault ε x = cond (eqb (length x) 0) 5 (sumFault ε (total x))
 
--- 5 and 6 of the composition; 7, length not n
-unfoldable pub mixFault : ℕ → List Float → ℕ
-mixFault n x = first (compositionFault tolerance x) (cond (eqb (length x) n) 0 7)
+-- the check called alone: 14, then 5 and 6
+unfoldable pub checkFault : Float → List Float → ℕ
+checkFault ε x = first (toleranceFault ε) (compositionFault ε x)
+
+-- 5 and 6 of the composition under any ε; 7, length not n
+unfoldable pub mixFault : Float → ℕ → List Float → ℕ
+mixFault ε n x = first (compositionFault ε x) (cond (eqb (length x) n) 0 7)
 
 -- 7: no component i (the excess energy has no i)
 unfoldable pub indexFault : ℕ → Quantity → ℕ
@@ -39,9 +51,9 @@ indexFault n (LnGamma i) = cond (ltb i n) 0 7
 indexFault n (Gamma i) = cond (ltb i n) 0 7
 indexFault n ExcessGibbs = 0
 
--- the same, then 7: no component i
-unfoldable pub fractionsFault : ℕ → List Float → Quantity → ℕ
-fractionsFault n x q = first (mixFault n x) (indexFault n q)
+-- 14 of the tolerance; 5, 6 and 7 of the fractions; then 7: no component i
+unfoldable pub fractionsFault : Float → ℕ → List Float → Quantity → ℕ
+fractionsFault ε n x q = first (toleranceFault ε) (first (mixFault ε n x) (indexFault n q))
 
 -- ---- a model
 

@@ -25,9 +25,9 @@ valueAt d T x q =
     (unifacAt (d .n) (d .ng) (lists (d .lens) (d .groups) (from (countsAt (d .ng)) (d .values))) (groupRs (d .ng) (d .values))
     (groupQs (d .ng) (d .values)) (groupAs (d .ng) (d .values)) T x q)
 
--- 2; for UNIFAC then 3 or 4; then 5, 6 and 7
-unfoldable pub plainCall : ModelData → Float → List Float → Quantity → Answer
-plainCall d T x q = answer (first (dataFault d) (fractionsFault (d .n) x q)) (valueAt d T (at x) q)
+-- 2; for UNIFAC then 3 or 4; then 14, 5, 6 and 7
+unfoldable pub plainCall : ModelData → Float → Float → List Float → Quantity → Answer
+plainCall d T ε x q = answer (first (dataFault d) (fractionsFault ε (d .n) x q)) (valueAt d T (at x) q)
 
 -- ---- the four by name
 
@@ -35,14 +35,14 @@ plainCall d T x q = answer (first (dataFault d) (fractionsFault (d .n) x q)) (va
 abbrev pub bare : Model → ℕ → List Float → ModelData
 bare m n values = modelData m n 0 [] [] values
 
-abbrev pub wilsonPlain : ℕ → List Float → Float → List Float → Quantity → Answer
-wilsonPlain n values T x q = plainCall (bare Wilson n values) T x q
+abbrev pub wilsonPlain : ℕ → List Float → Float → Float → List Float → Quantity → Answer
+wilsonPlain n values T ε x q = plainCall (bare Wilson n values) T ε x q
 
-abbrev pub uniquacPlain : ℕ → List Float → Float → List Float → Quantity → Answer
-uniquacPlain n values T x q = plainCall (bare Uniquac n values) T x q
+abbrev pub uniquacPlain : ℕ → List Float → Float → Float → List Float → Quantity → Answer
+uniquacPlain n values T ε x q = plainCall (bare Uniquac n values) T ε x q
 
-abbrev pub nrtlPlain : ℕ → List Float → Float → List Float → Quantity → Answer
-nrtlPlain n values T x q = plainCall (bare Nrtl n values) T x q
+abbrev pub nrtlPlain : ℕ → List Float → Float → Float → List Float → Quantity → Answer
+nrtlPlain n values T ε x q = plainCall (bare Nrtl n values) T ε x q
 
-abbrev pub unifacPlain : ℕ → ℕ → List ℕ → List ℕ → List Float → Float → List Float → Quantity → Answer
-unifacPlain n ng lens groups values T x q = plainCall (modelData Unifac n ng lens groups values) T x q
+abbrev pub unifacPlain : ℕ → ℕ → List ℕ → List ℕ → List Float → Float → Float → List Float → Quantity → Answer
+unifacPlain n ng lens groups values T ε x q = plainCall (modelData Unifac n ng lens groups values) T ε x q

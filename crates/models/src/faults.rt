@@ -6,7 +6,8 @@ ghost use lib.Dec.{leb};
 ghost use lib.ListN.{length, getD};
 ghost use Rattle.models.specs.Answers.{first};
 ghost use Rattle.models.specs.Limits.{mostComponents, mostGroups, mostListed};
-ghost use Rattle.models.specs.Faults.{tolerance, sumFault, compositionFault, mixFault, indexFault};
+ghost use Rattle.models.specs.Faults.{usualTolerance, toleranceFault, checkFault};
+ghost use Rattle.models.specs.Faults.{sumFault, compositionFault, mixFault, indexFault};
 ghost use Rattle.models.specs.Faults.{fractionsFault};
 ghost use Rattle.models.specs.Faults.{between, shapeFault, allTo, listsFault, groupsFault};
 ghost use Rattle.models.specs.Faults.{unifacFault};
@@ -24,18 +25,42 @@ use crate::model::Model;
 use crate::model::has_groups;
 use crate::model::size_of;
 
-// How far a sum of fractions may be off 1.
-pub const TOLERANCE: f64 = 1e-6;
-
-// 0 where the composition passes; 5, it is empty; 6, its sum is off 1.
-pub fn check_composition(x: &[f64]) -> u8
-    ensures { λ r. ⌜ r ≡ compositionFault tolerance (now (x .entry)) ⌝ }
+// How far a sum of fractions may be off 1 in the source, and in a mixture after a load.
+pub fn usual_tolerance() -> f64
+    ensures { λ r. ⌜ r ≡ usualTolerance ⌝ }
 {
-    composition_fault(TOLERANCE, x)
+    1e-6
 }
 
-// The same for a tolerance.
-fn composition_fault(tolerance: f64, x: &[f64]) -> u8
+// 14: the tolerance is NaN, below 0 or above 1e-3.
+pub fn tolerance_fault(tolerance: f64) -> u8
+    ensures { λ r. ⌜ r ≡ toleranceFault tolerance ⌝ }
+{
+    if tolerance != tolerance {
+        return 14;
+    }
+    if tolerance < 0.0 {
+        return 14;
+    }
+    if tolerance > 1e-3 {
+        return 14;
+    }
+    0
+}
+
+// The check called alone: 14, then 5 and 6.
+pub fn check_composition(tolerance: f64, x: &[f64]) -> u8
+    ensures { λ r. ⌜ r ≡ checkFault tolerance (now (x .entry)) ⌝ }
+{
+    let fault = tolerance_fault(tolerance);
+    if fault != 0 {
+        return fault;
+    }
+    composition_fault(tolerance, x)
+}
+
+// 5, the composition is empty; 6, its sum is off 1. The tolerance is taken as it comes.
+pub fn composition_fault(tolerance: f64, x: &[f64]) -> u8
     ensures { λ r. ⌜ r ≡ compositionFault tolerance (now (x .entry)) ⌝ }
 {
     if x.len() == 0 {
@@ -58,12 +83,12 @@ pub fn sum_fault(tolerance: f64, total: f64) -> u8
     0
 }
 
-// 5 and 6 of the composition; 7, its length is not n.
-pub fn mix_fault(n: usize, x: &[f64]) -> u8
-    ensures { λ r. ⌜ (r ≡ mixFault n (now (x .entry)))
+// 5 and 6 of the composition; 7, its length is not n. The tolerance is taken as it comes.
+pub fn mix_fault(tolerance: f64, n: usize, x: &[f64]) -> u8
+    ensures { λ r. ⌜ (r ≡ mixFault tolerance n (now (x .entry)))
         × (r ≡ 0 → length (now (x .entry)) ≡ n) ⌝ }
 {
-    let fault = check_composition(x);
+    let fault = composition_fault(tolerance, x);
     if fault != 0 {
         return fault;
     }
@@ -84,12 +109,16 @@ pub fn index_fault(n: usize, q: Quantity) -> u8
     }
 }
 
-// 5, 6 and 7 of fractions and of what is asked.
-pub fn fractions_fault(n: usize, x: &[f64], q: Quantity) -> u8
-    ensures { λ r. ⌜ (r ≡ fractionsFault n (now (x .entry)) q)
+// 14 of the tolerance; then 5, 6 and 7 of fractions and of what is asked.
+pub fn fractions_fault(tolerance: f64, n: usize, x: &[f64], q: Quantity) -> u8
+    ensures { λ r. ⌜ (r ≡ fractionsFault tolerance n (now (x .entry)) q)
         × (r ≡ 0 → (length (now (x .entry)) ≡ n) × (indexFault n q ≡ 0)) ⌝ }
 {
-    let fault = mix_fault(n, x);
+    let fault = tolerance_fault(tolerance);
+    if fault != 0 {
+        return fault;
+    }
+    let fault = mix_fault(tolerance, n, x);
     if fault != 0 {
         return fault;
     }
@@ -113,17 +142,24 @@ pub fn shape_fault(n: usize, size: usize, values: &[f64]) -> u8
     0
 }
 
-// What a plain call of Wilson, UNIQUAC or NRTL declines: 2, then 5, 6 and 7.
-pub fn plain_fault(n: usize, size: usize, values: &[f64], x: &[f64], q: Quantity) -> u8
-    ensures { λ r. ⌜ (r
-        ≡ first (shapeFault n size (now (values .entry))) (fractionsFault n (now (x .entry)) q))
+// What a plain call of Wilson, UNIQUAC or NRTL declines: 2, then 14, 5, 6 and 7.
+pub fn plain_fault(
+    n: usize,
+    size: usize,
+    values: &[f64],
+    tolerance: f64,
+    x: &[f64],
+    q: Quantity,
+) -> u8
+    ensures { λ r. ⌜ (r ≡ first (shapeFault n size (now (values .entry)))
+        (fractionsFault tolerance n (now (x .entry)) q))
         × (r ≡ 0 → ValueFits n size (now (values .entry)) (now (x .entry)) q) ⌝ }
 {
     let fault = shape_fault(n, size, values);
     if fault != 0 {
         return fault;
     }
-    fractions_fault(n, x, q)
+    fractions_fault(tolerance, n, x, q)
 }
 
 // Whether none of the first n lists is over 12.

@@ -149,28 +149,30 @@ pub fn plain(
     groups: &[u8],
     values: &[f64],
     t: f64,
+    tolerance: f64,
     x: &[f64],
     q: Quantity,
 ) -> Answer
-    ensures { λ r. ⌜ r ≡ plainCall (given model n ng lens groups values) t (now (x .entry)) q ⌝ }
+    ensures { λ r. ⌜ r
+        ≡ plainCall (given model n ng lens groups values) t tolerance (now (x .entry)) q ⌝ }
 {
     match model {
         Model::Wilson => {
-            let fault = faults::plain_fault(n, size_of(Model::Wilson, n), values, x, q);
+            let fault = faults::plain_fault(n, size_of(Model::Wilson, n), values, tolerance, x, q);
             if fault != 0 {
                 return Answer::Refused(fault);
             }
             Answer::Value(wilson::value_at(n, values, t, x, q))
         }
         Model::Uniquac => {
-            let fault = faults::plain_fault(n, size_of(Model::Uniquac, n), values, x, q);
+            let fault = faults::plain_fault(n, size_of(Model::Uniquac, n), values, tolerance, x, q);
             if fault != 0 {
                 return Answer::Refused(fault);
             }
             Answer::Value(uniquac::value_at(n, values, t, x, q))
         }
         Model::Nrtl => {
-            let fault = faults::plain_fault(n, size_of(Model::Nrtl, n), values, x, q);
+            let fault = faults::plain_fault(n, size_of(Model::Nrtl, n), values, tolerance, x, q);
             if fault != 0 {
                 return Answer::Refused(fault);
             }
@@ -181,7 +183,7 @@ pub fn plain(
             if fault != 0 {
                 return Answer::Refused(fault);
             }
-            let fault = faults::fractions_fault(n, x, q);
+            let fault = faults::fractions_fault(tolerance, n, x, q);
             if fault != 0 {
                 return Answer::Refused(fault);
             }
@@ -191,8 +193,17 @@ pub fn plain(
 }
 
 // The same of a model without lists.
-pub fn plain_bare(model: Model, n: usize, values: &[f64], t: f64, x: &[f64], q: Quantity) -> Answer
-    ensures { λ r. ⌜ r ≡ plainCall (bare model n (now (values .entry))) t (now (x .entry)) q ⌝ }
+pub fn plain_bare(
+    model: Model,
+    n: usize,
+    values: &[f64],
+    t: f64,
+    tolerance: f64,
+    x: &[f64],
+    q: Quantity,
+) -> Answer
+    ensures { λ r. ⌜ r
+        ≡ plainCall (bare model n (now (values .entry))) t tolerance (now (x .entry)) q ⌝ }
 {
-    plain(model, n, 0, &[], &[], values, t, x, q)
+    plain(model, n, 0, &[], &[], values, t, tolerance, x, q)
 }

@@ -560,11 +560,12 @@ pub fn ln_gamma_at(
     groups: &[u8],
     values: &[f64],
     t: f64,
+    tolerance: f64,
     x: &[f64],
     i: usize,
 ) -> Answer
     ensures { λ r. ⌜ r ≡ unifacPlain n ng (now (lens .entry)) (now (groups .entry)) (now (values .entry))
-        t (now (x .entry)) (Quantity.LnGamma i) ⌝ }
+        t tolerance (now (x .entry)) (Quantity.LnGamma i) ⌝ }
 {
     plain(
         Model::Unifac,
@@ -574,6 +575,7 @@ pub fn ln_gamma_at(
         groups,
         values,
         t,
+        tolerance,
         x,
         Quantity::LnGamma(i),
     )
@@ -586,11 +588,12 @@ pub fn gamma_at(
     groups: &[u8],
     values: &[f64],
     t: f64,
+    tolerance: f64,
     x: &[f64],
     i: usize,
 ) -> Answer
     ensures { λ r. ⌜ r ≡ unifacPlain n ng (now (lens .entry)) (now (groups .entry)) (now (values .entry))
-        t (now (x .entry)) (Quantity.Gamma i) ⌝ }
+        t tolerance (now (x .entry)) (Quantity.Gamma i) ⌝ }
 {
     plain(
         Model::Unifac,
@@ -600,6 +603,7 @@ pub fn gamma_at(
         groups,
         values,
         t,
+        tolerance,
         x,
         Quantity::Gamma(i),
     )
@@ -612,10 +616,11 @@ pub fn reduced_excess_gibbs_at(
     groups: &[u8],
     values: &[f64],
     t: f64,
+    tolerance: f64,
     x: &[f64],
 ) -> Answer
     ensures { λ r. ⌜ r ≡ unifacPlain n ng (now (lens .entry)) (now (groups .entry)) (now (values .entry))
-        t (now (x .entry)) Quantity.ExcessGibbs ⌝ }
+        t tolerance (now (x .entry)) Quantity.ExcessGibbs ⌝ }
 {
     plain(
         Model::Unifac,
@@ -625,6 +630,7 @@ pub fn reduced_excess_gibbs_at(
         groups,
         values,
         t,
+        tolerance,
         x,
         Quantity::ExcessGibbs,
     )

@@ -128,22 +128,32 @@ pub fn value_at(n: usize, values: &[f64], t: f64, x: &[f64], q: Quantity) -> f64
 }
 
 // The plain calls: the values are a by rows, then V.
-pub fn ln_gamma_at(n: usize, values: &[f64], t: f64, x: &[f64], i: usize) -> Answer
-    ensures { λ r. ⌜ r ≡ wilsonPlain n (now (values .entry)) t (now (x .entry))
+pub fn ln_gamma_at(n: usize, values: &[f64], t: f64, tolerance: f64, x: &[f64], i: usize) -> Answer
+    ensures { λ r. ⌜ r ≡ wilsonPlain n (now (values .entry)) t tolerance (now (x .entry))
         (Quantity.LnGamma i) ⌝ }
 {
-    plain_bare(Model::Wilson, n, values, t, x, Quantity::LnGamma(i))
+    let q = Quantity::LnGamma(i);
+    plain_bare(Model::Wilson, n, values, t, tolerance, x, q)
 }
 
-pub fn gamma_at(n: usize, values: &[f64], t: f64, x: &[f64], i: usize) -> Answer
-    ensures { λ r. ⌜ r ≡ wilsonPlain n (now (values .entry)) t (now (x .entry)) (Quantity.Gamma i) ⌝ }
+pub fn gamma_at(n: usize, values: &[f64], t: f64, tolerance: f64, x: &[f64], i: usize) -> Answer
+    ensures { λ r. ⌜ r ≡ wilsonPlain n (now (values .entry)) t tolerance (now (x .entry))
+        (Quantity.Gamma i) ⌝ }
 {
-    plain_bare(Model::Wilson, n, values, t, x, Quantity::Gamma(i))
+    let q = Quantity::Gamma(i);
+    plain_bare(Model::Wilson, n, values, t, tolerance, x, q)
 }
 
-pub fn reduced_excess_gibbs_at(n: usize, values: &[f64], t: f64, x: &[f64]) -> Answer
-    ensures { λ r. ⌜ r ≡ wilsonPlain n (now (values .entry)) t (now (x .entry))
+pub fn reduced_excess_gibbs_at(
+    n: usize,
+    values: &[f64],
+    t: f64,
+    tolerance: f64,
+    x: &[f64],
+) -> Answer
+    ensures { λ r. ⌜ r ≡ wilsonPlain n (now (values .entry)) t tolerance (now (x .entry))
         Quantity.ExcessGibbs ⌝ }
 {
-    plain_bare(Model::Wilson, n, values, t, x, Quantity::ExcessGibbs)
+    let q = Quantity::ExcessGibbs;
+    plain_bare(Model::Wilson, n, values, t, tolerance, x, q)
 }

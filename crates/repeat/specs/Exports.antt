@@ -21,6 +21,7 @@ use Rattle.mixture.specs.declared.head.Head.{Head}
 use Rattle.models.specs.declared.model.Model.{Model}
 use Rattle.mixture.specs.declared.setting.Setting.{Setting}
 use Rattle.mixture.specs.declared.setting.Setting.the-variants.{Temperature, Entry, TdEntry}
+use Rattle.models.specs.Faults.{usualTolerance}
 use Rattle.models.specs.Limits.{mostComponents, mostValues}
 use Rattle.models.specs.Model.{ModelData, modelData, byModel, modelOf}
 use Rattle.mixture.specs.Answers.{valueOf}
@@ -76,10 +77,10 @@ begun m h d x =
 unfoldable pub zeros : Memory
 zeros = memory (replicate leastValues +0) (replicate leastCells +0) (replicate leastMarks 0)
 
--- the last value of the plain call
+-- the last value of the plain call at the usual tolerance, a mixture's after its load
 unfoldable pub plainTurns : ℕ → ModelData → List Float → Quantity → Vector → Float
 plainTurns zero d x q T = +0
-plainTurns (suc n) d x q T = plainValue (plainCall d (T n) x q)
+plainTurns (suc n) d x q T = plainValue (plainCall d (T n) usualTolerance x q)
 
 -- the last value over n temperatures: of the plain call where the change is 3, else of the mixture
 unfoldable pub repeated : ℕ → ModelData → List Float → Quantity → ℕ → Float → Vector → Float

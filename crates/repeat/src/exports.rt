@@ -6,6 +6,7 @@ ghost use lib.ListN.{length};
 ghost use Rattle.mixture.specs.Memory.{before, later, left};
 ghost use Rattle.mixture.specs.Answers.{valueOf};
 ghost use Rattle.mixture.specs.Calls.{noHead};
+ghost use Rattle.models.specs.Faults.{usualTolerance};
 ghost use Rattle.models.specs.Model.{given as dataGiven};
 ghost use Rattle.models.specs.Plain.{plainCall};
 ghost use Rattle.repeat.specs.Exports.{plainValue, settingOf, askedTimes};
@@ -29,6 +30,7 @@ use mixture::query::query;
 use mixture::set::set;
 use models::Quantity;
 use models::answers::quantity_of;
+use models::faults::usual_tolerance;
 use models::limits::COMPONENTS;
 use models::model::model_of;
 use models::model::plain;
@@ -205,7 +207,7 @@ fn begin(
     fractions(values, cells, marks, loaded.head, x)
 }
 
-// The value of the plain call, 0 where it declines.
+// The value of the plain call at the usual tolerance, 0 where it declines.
 fn plain_at(
     model: Model,
     n: usize,
@@ -217,10 +219,11 @@ fn plain_at(
     x: &[f64],
     q: Quantity,
 ) -> f64
-    ensures { λ r. ⌜ r
-        ≡ plainValue (plainCall (dataGiven model n ng lens groups given) t (now (x .entry)) q) ⌝ }
+    ensures { λ r. ⌜ r ≡ plainValue
+        (plainCall (dataGiven model n ng lens groups given) t usualTolerance (now (x .entry)) q) ⌝ }
 {
-    plain_value(plain(model, n, ng, lens, groups, given, t, x, q))
+    let tolerance = usual_tolerance();
+    plain_value(plain(model, n, ng, lens, groups, given, t, tolerance, x, q))
 }
 
 // The plain call at each temperature; the last value.

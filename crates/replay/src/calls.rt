@@ -10,12 +10,13 @@ use models::Answer;
 use models::Model;
 use models::Quantity;
 use models::answers::quantity_of;
+use models::faults::usual_tolerance;
 use models::limits::VALUES;
 use models::model::plain;
 
 // Room for the fractions or the lists of a line, and for the groups of these: for more than any model has,
 // since a line may be one that is refused for that.
-const LINE_ROOM: usize = 16;
+pub const LINE_ROOM: usize = 16;
 
 const GROUPS_ROOM: usize = 160;
 
@@ -90,6 +91,7 @@ fn with_lists(
             groups,
             &values[..count],
             float_of(t),
+            usual_tolerance(),
             &x[..parts],
             q,
         ),

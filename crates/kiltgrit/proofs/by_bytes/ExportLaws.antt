@@ -20,7 +20,7 @@ use Rattle.models.specs.declared.answers.Answer.the-variants.{Value, Refused}
 use Rattle.models.specs.declared.model.Model.{Model}
 use Rattle.models.specs.declared.model.Model.the-variants.{Wilson, Uniquac, Nrtl, Unifac}
 use Rattle.models.specs.Answers.{numberOf, answer, first}
-use Rattle.models.specs.Faults.{tolerance, sumFault, compositionFault, mixFault, indexFault, fractionsFault}
+use Rattle.models.specs.Faults.{toleranceFault, sumFault, compositionFault, mixFault, indexFault, fractionsFault}
 use Rattle.models.specs.Faults.{between, shapeFault, allTo, listsFault, unifacFault, dataFault}
 use Rattle.models.specs.Model.{modelOf, isModel, ModelData, modelData}
 use Rattle.models.specs.Plain.{valueAt, plainCall}
@@ -40,38 +40,49 @@ pub total-eights : (s : List ℕ) → sum (length s / 8) (λ k. floatAt s (8 * k
 unfolding total
 total-eights s = rw (length-eights s) (sum-same (length s / 8) _ _ (λ k h. sym (eights-at s k h)))
 
-module _ (n : ℕ) (x : List ℕ) (q : Quantity) (R : ℕ) where
-  pub eights-empty : length x < 8 → 5 ≡ first (fractionsFault n (floats x) q) R
-  unfolding fractionsFault mixFault compositionFault
-  eights-empty h = let e : length (floats x) ≡ 0 = omega (arith, length-eights x) in rw (eq-eqb _ 0 e)
+module _ (ε : Float) (n : ℕ) (x : List ℕ) (q : Quantity) (R : ℕ) {t : ℕ} (F : t ≡ toleranceFault ε) where
+  pub eights-wide : (t ≡ 0 → ⊥) → t ≡ first (fractionsFault ε n (floats x) q) R
+  unfolding fractionsFault
+  eights-wide ne = first-left R (first-left _ F ne) ne
 
-  module _ {s : Float} {k : ℕ} (some : 8 ≤ length x) (S : s ≡ total (floats x)) (K : k ≡ sumFault tolerance s) where
-    composition : k ≡ compositionFault tolerance (floats x)
-    unfolding compositionFault
-    composition =
-        let ne : length (floats x) ≡ 0 → ⊥ = λ e. omega (arith, length-eights x, e) in
-        rw (ne-eqb _ 0 ne) (K ∙ ap (sumFault tolerance) S)
+  module _ (w : t ≡ 0) where
+    within : {k : ℕ} → k ≡ first (mixFault ε n (floats x)) (indexFault n q) → k ≡ fractionsFault ε n (floats x) q
+    unfolding fractionsFault
+    within p = first-right F w p
 
-    pub eights-off : (k ≡ 0 → ⊥) → k ≡ first (fractionsFault n (floats x) q) R
-    unfolding fractionsFault mixFault
-    eights-off ne = first-left R (first-left _ (first-left _ composition ne) ne) ne
+    pub eights-empty : length x < 8 → 5 ≡ first (fractionsFault ε n (floats x) q) R
+    unfolding mixFault compositionFault
+    eights-empty h =
+        let e : length (floats x) ≡ 0 = omega (arith, length-eights x) in
+        first-left R (within (rw (eq-eqb _ 0 e))) (λ e. omega arith)
 
-    pub eights-length : k ≡ 0 → (length x / 8 ≡ n → ⊥) → 7 ≡ first (fractionsFault n (floats x) q) R
-    unfolding fractionsFault mixFault
-    eights-length z ne =
-        let other : length (floats x) ≡ n → ⊥ = λ e. ne (sym (length-eights x) ∙ e) in
-        first-left R (first-left _ (first-right composition z (rw (ne-eqb _ n other))) (λ e. omega arith)) (λ e. omega arith)
+    module _ {s : Float} {k : ℕ} (some : 8 ≤ length x) (S : s ≡ total (floats x)) (K : k ≡ sumFault ε s) where
+      composition : k ≡ compositionFault ε (floats x)
+      unfolding compositionFault
+      composition =
+          let ne : length (floats x) ≡ 0 → ⊥ = λ e. omega (arith, length-eights x, e) in
+          rw (ne-eqb _ 0 ne) (K ∙ ap (sumFault ε) S)
 
-    module _ {i : ℕ} (z : k ≡ 0) (many : length x / 8 ≡ n) (I : i ≡ indexFault n q) where
-      passed : i ≡ fractionsFault n (floats x) q
-      unfolding fractionsFault mixFault
-      passed = first-right (first-right composition z (rw (eq-eqb _ n (length-eights x ∙ many)))) refl I
+      pub eights-off : (k ≡ 0 → ⊥) → k ≡ first (fractionsFault ε n (floats x) q) R
+      unfolding mixFault
+      eights-off ne = first-left R (within (first-left _ (first-left _ composition ne) ne)) ne
 
-      pub eights-index : (i ≡ 0 → ⊥) → i ≡ first (fractionsFault n (floats x) q) R
-      eights-index ne = first-left R passed ne
+      pub eights-length : k ≡ 0 → (length x / 8 ≡ n → ⊥) → 7 ≡ first (fractionsFault ε n (floats x) q) R
+      unfolding mixFault
+      eights-length z ne =
+          let other : length (floats x) ≡ n → ⊥ = λ e. ne (sym (length-eights x) ∙ e) in
+          first-left R (within (first-left _ (first-right composition z (rw (ne-eqb _ n other))) (λ e. omega arith))) (λ e. omega arith)
 
-      pub eights-rest : i ≡ 0 → {r : ℕ} → r ≡ R → r ≡ first (fractionsFault n (floats x) q) R
-      eights-rest y e = first-right passed y e
+      module _ {i : ℕ} (z : k ≡ 0) (many : length x / 8 ≡ n) (I : i ≡ indexFault n q) where
+        passed : i ≡ fractionsFault ε n (floats x) q
+        unfolding mixFault
+        passed = within (first-right (first-right composition z (rw (eq-eqb _ n (length-eights x ∙ many)))) refl I)
+
+        pub eights-index : (i ≡ 0 → ⊥) → i ≡ first (fractionsFault ε n (floats x) q) R
+        eights-index ne = first-left R passed ne
+
+        pub eights-rest : i ≡ 0 → {r : ℕ} → r ≡ R → r ≡ first (fractionsFault ε n (floats x) q) R
+        eights-rest y e = first-right passed y e
 
 -- ---- the plain call, from the fault of its data, that of its fractions, and its value
 
@@ -85,11 +96,11 @@ rest-is zero zero r v = by-test (eqb r 0)
     by-test true = refl
     by-test false = refl
 
-pub by-parts : (d : ModelData) (T : Float) (x : List ℕ) (q : Quantity)
-    → answer (first (dataFault d) (first (fractionsFault (d .n) (floats x) q) (cond (eqb (length x % 8) 0) 0 7))) (valueAt d T (at (floats x)) q)
-    ≡ plainRest d T x q
+pub by-parts : (d : ModelData) (T ε : Float) (x : List ℕ) (q : Quantity)
+    → answer (first (dataFault d) (first (fractionsFault ε (d .n) (floats x) q) (cond (eqb (length x % 8) 0) 0 7))) (valueAt d T (at (floats x)) q)
+    ≡ plainRest d T ε x q
 unfolding plainRest plainCall
-by-parts d T x q = rest-is (dataFault d) (fractionsFault (d .n) (floats x) q) (length x % 8) (valueAt d T (at (floats x)) q)
+by-parts d T ε x q = rest-is (dataFault d) (fractionsFault ε (d .n) (floats x) q) (length x % 8) (valueAt d T (at (floats x)) q)
 
 -- ---- bytes that are whole eights
 
@@ -155,30 +166,30 @@ long-by Uniquac d e h = rw e (shape-long (d .n) _ (d .values) h (λ b. omega (ar
 long-by Nrtl d e h = rw e (shape-long (d .n) _ (d .values) h (λ b. omega (arith, mul-le-mul b b)))
 long-by Unifac d e h = rw e (unifac-long (d .n) (d .ng) (d .lens) (d .groups) (d .values) h)
 
-rest-long : (d : ModelData) (T : Float) (x : List ℕ) (q : Quantity) → 5328 < length (d .values) → Refused 2 ≡ plainRest d T x q
-rest-long d T x q h =
-    answer-refused _ (first-left _ (long-by (d .model) d refl h) (λ e. omega arith)) (λ e. omega arith) ∙ by-parts d T x q
+rest-long : (d : ModelData) (T ε : Float) (x : List ℕ) (q : Quantity) → 5328 < length (d .values) → Refused 2 ≡ plainRest d T ε x q
+rest-long d T ε x q h =
+    answer-refused _ (first-left _ (long-by (d .model) d refl h) (λ e. omega arith)) (λ e. omega arith) ∙ by-parts d T ε x q
 
-module _ (m n ng : ℕ) (lens groups values : List ℕ) (T : Float) (x : List ℕ) (q : Quantity) where
+module _ (m n ng : ℕ) (lens groups values : List ℕ) (T ε : Float) (x : List ℕ) (q : Quantity) where
   abbrev named : ModelData
   named = modelData (modelOf m) n ng lens groups (floats values)
 
-  pub exported-rest : (length values % 8 ≡ 0 → ⊥) → Refused 2 ≡ exported m n ng lens groups values T x q
+  pub exported-rest : (length values % 8 ≡ 0 → ⊥) → Refused 2 ≡ exported m n ng lens groups values T ε x q
   unfolding exported
   exported-rest h = rw (ne-eqb _ 0 h)
 
   module _ (whole : length values % 8 ≡ 0) where
-    pub exported-none : isModel m ≡ false → Refused 2 ≡ exported m n ng lens groups values T x q
+    pub exported-none : isModel m ≡ false → Refused 2 ≡ exported m n ng lens groups values T ε x q
     unfolding exported
     exported-none h = rw (eq-eqb _ 0 whole, h)
 
     module _ (some : isModel m ≡ true) where
-      pub exported-whole : {a : Answer} → a ≡ plainRest named T x q → a ≡ exported m n ng lens groups values T x q
+      pub exported-whole : {a : Answer} → a ≡ plainRest named T ε x q → a ≡ exported m n ng lens groups values T ε x q
       unfolding exported
       exported-whole p = rw (eq-eqb _ 0 whole, some) p
 
-      pub exported-long : 5328 < length values / 8 → Refused 2 ≡ exported m n ng lens groups values T x q
-      exported-long h = exported-whole (rest-long named T x q (rw (length-eights values) h))
+      pub exported-long : 5328 < length values / 8 → Refused 2 ≡ exported m n ng lens groups values T ε x q
+      exported-long h = exported-whole (rest-long named T ε x q (rw (length-eights values) h))
 
 -- the number and the value of an equal answer
 pub given-as : {a b : Answer} {r : ℕ} (old : Float) {new : Float} → a ≡ b → (r ≡ numberOf a) × (new ≡ left a old) → (r ≡ numberOf b) × (new ≡ left b old)

@@ -19,7 +19,7 @@ use Rattle.arithmetic.specs.Tables.{at, grid}
 use Rattle.arithmetic.proofs.Tests.{either}
 use Rattle.arithmetic.proofs.TableLaws.{cell-lt, cell-row, cell-column}
 use Rattle.models.specs.declared.answers.Quantity.{Quantity}
-use Rattle.models.specs.Faults.{indexFault, dataFault, mixFault}
+use Rattle.models.specs.Faults.{usualTolerance, indexFault, dataFault, mixFault}
 use Rattle.models.specs.Values.{start, lists}
 use Rattle.models.proofs.GroupListLaws.{list-place}
 use Rattle.mixture.specs.declared.head.Head.{Head}
@@ -350,12 +350,12 @@ unfolding afterFractions fractionsFault bookAnswer having bookAfter numberOf
 step-fractions m h none T u past x k =
     step-declined (fractionsFault m h x) 8 m h _ (book none T u) past (Fractions x) k (rw (head-none m h (k .long) (k .kept))) refl (nought 7)
 step-fractions m h (some d) T u past x k =
-    step-by (fractionsFault m h x) (mixFault (d .n) x) m h _ Done (book (some d) T u) past (Fractions x) k
-    (rw (head-fine m h (k .long) (k .kept .number) (k .kept .range)) (ap (λ (n : ℕ). mixFault n x) (k .kept .agrees .alike .n))) refl refl
+    step-by (fractionsFault m h x) (mixFault usualTolerance (d .n) x) m h _ Done (book (some d) T u) past (Fractions x) k
+    (rw (head-fine m h (k .long) (k .kept .number) (k .kept .range)) (ap (λ (n : ℕ). mixFault usualTolerance n x) (k .kept .agrees .alike .n))) refl refl
     (λ z. (
       refl,
       keeps-past m (withFractions h x) (book (some d) T (some x)) past (Fractions x ∷ past) (fractions-past x past)
-          (record { long = k .long; kept = fractions-kept m h d T u past x (mix-length (d .n) x z) (k .kept) }),
+          (record { long = k .long; kept = fractions-kept m h d T u past x (mix-length usualTolerance (d .n) x z) (k .kept) }),
     ))
 
 -- ---- query

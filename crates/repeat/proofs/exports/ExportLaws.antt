@@ -16,7 +16,9 @@ use Rattle.models.specs.declared.model.Model.{Model}
 use Rattle.mixture.specs.declared.setting.Setting.{Setting}
 use Rattle.mixture.specs.declared.setting.Setting.the-variants.{Temperature}
 use Rattle.mixture.specs.declared.answers.Answer.{Answer}
+use Rattle.models.specs.declared.answers.Answer as Plain
 use Rattle.models.specs.Answers.{quantityOf}
+use Rattle.models.specs.Faults.{usualTolerance}
 use Rattle.models.specs.Model.{ModelData, modelData, modelOf}
 use Rattle.mixture.specs.Answers.{valueOf}
 use Rattle.mixture.specs.Memory.{Memory, memory, After, after}
@@ -78,12 +80,16 @@ module _ (change : ℕ) (k : Model) (v : Float) (q : Quantity) (T : ℕ → Floa
     unfolding turns
     turns-set ne p = rw (ne-eqb change 0 ne, ← first-is) (ap (λ (c : After). valueOf (c .reply .answer)) p)
 
+pub plain-usual : (d : ModelData) (T : Float) (x : List Float) (q : Quantity) {a : Plain.Answer} {ε r : Float} →
+    ε ≡ usualTolerance → a ≡ plainCall d T ε x q → r ≡ plainValue a → r ≡ plainValue (plainCall d T usualTolerance x q)
+plain-usual d T x q e p s = s ∙ ap plainValue (p ∙ ap (λ (ε : Float). plainCall d T ε x q) e)
+
 module _ (d : ModelData) (x : List Float) (q : Quantity) (T : ℕ → Float) where
   pub plain-none : ofBits binary64 0 ≡ plainTurns 0 d x q T
   unfolding plainTurns ofBits
   plain-none = refl
 
-  pub plain-more : (n : ℕ) {r : Float} → r ≡ plainValue (plainCall d (T n) x q) → r ≡ plainTurns (n + 1) d x q T
+  pub plain-more : (n : ℕ) {r : Float} → r ≡ plainValue (plainCall d (T n) usualTolerance x q) → r ≡ plainTurns (n + 1) d x q T
   unfolding plainTurns
   plain-more n p = rw (add-one n) p
 

@@ -14,10 +14,10 @@ use Rattle.kiltgrit.proofs.by_bytes.call_with.Statement.{statement}
 use Rattle.kiltgrit.proofs.by_bytes.call_with.Tie as tie
 
 returns : tie.Need-returns
-returns c = answer-refused _ (first-left _ (c .before .data-fault .ensures .0) (c .if1 .taken)) (c .if1 .taken) ∙ by-parts _ _ _ _
+returns c = answer-refused _ (first-left _ (c .before .data-fault .ensures .0) (c .if1 .taken)) (c .if1 .taken) ∙ by-parts _ _ _ _ _
 
 returns-2 : tie.Need-returns-2
-returns-2 c = answer-refused _ (first-right (c .before .before .before .data-fault .ensures .0) (c .before .before .if1 .left) (c .before .fractions-fault .ensures .0)) (c .if2 .taken) ∙ by-parts _ _ _ _
+returns-2 c = answer-refused _ (first-right (c .before .before .before .data-fault .ensures .0) (c .before .before .if1 .left) (c .before .fractions-fault .ensures .0)) (c .if2 .taken) ∙ by-parts _ _ _ _ _
 
 fill-floats-requires : tie.Need-fill-floats-requires
 fill-floats-requires c κs = let ready = c .before .before .before .before .data-fault .ensures .1 (c .before .before .before .if1 .left) in (ready .few, omega (arith, c .before .before .fractions-fault .ensures .1 (c .before .if2 .left) .0))
@@ -39,7 +39,7 @@ returns-3 c =
     let decoded = c .before .before .before .fill-floats .ensures .1 ∙ whole-eights (now (a .x)) (a .n) (given .1 (passed .if2 .left) .0) in
     answer-value (first-right (load .data-fault .ensures .0) (passed .before .before .if1 .left) (given .0)) (passed .if2 .left)
     (c .value-at .ensures ∙ rw decoded)
-    ∙ by-parts _ _ _ _
+    ∙ by-parts _ _ _ _ _
 
 pub call-with-spec : {M : Type 1} → statement M
 call-with-spec =

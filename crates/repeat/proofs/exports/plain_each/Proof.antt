@@ -6,6 +6,7 @@ use borrow.Author.Needs.{needs}
 use lib.ListN.{length}
 use lib.Ieee.{Float}
 use denote.Ref.{now}
+use Rattle.models.specs.Faults.{usualTolerance}
 use Rattle.models.specs.Model.{ModelData, modelData}
 use Rattle.arithmetic.specs.Bytes.{floatAt}
 use Rattle.models.specs.Plain.{plainCall}
@@ -29,7 +30,7 @@ loop-holds c = (omega arith, plain-none _ _ _ _)
 loop-again : tie.Need-loop-again Inv-loop μ-loop
 loop-again c =
     let s = c .before .before .before .before .before .before .before .before .before in
-    (omega arith, plain-more (given-data s) _ _ _ _ (c .plain-at .ensures ∙ ap (λ (t : Float). plainValue (plainCall (given-data s) t (now (s .args .x)) (s .args .q))) (c .before .float-at .ensures)))
+    (omega arith, plain-more (given-data s) _ _ _ _ (c .plain-at .ensures ∙ ap (λ (t : Float). plainValue (plainCall (given-data s) t usualTolerance (now (s .args .x)) (s .args .q))) (c .before .float-at .ensures)))
 
 returns : tie.Need-returns Inv-loop μ-loop
 returns c = plain-done _ _ _ _ _ _ (c .before .loop .inv .1) (c .before .loop .inv .0) (c .loop-test .left)
