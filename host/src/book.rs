@@ -5,6 +5,7 @@
 use crate::calls::{Call, Load, Name};
 use crate::case::{Answer, Case, Quantity, NRTL, UNIFAC, UNIQUAC, WILSON};
 use crate::rust;
+use crate::tolerance::USUAL;
 use std::collections::{BTreeMap, BTreeSet};
 
 /// What the book answers: a number, nothing, or the bits of a value with the count.
@@ -211,6 +212,7 @@ impl Book {
             groups,
             values: values.collect::<Vec<f64>>().into(),
             t,
+            tolerance: USUAL,
             x: x.clone().into(),
             quantity,
         };

@@ -1,4 +1,5 @@
-//! A plain call: a model, its values in the strip's order, T, the fractions and what is asked; and an answer.
+//! A plain call: a model, its values in the strip's order, T, the tolerance, the fractions and what is asked; and an
+//! answer.
 
 use std::fmt;
 
@@ -48,6 +49,7 @@ pub struct Case {
     pub groups: Vec<u8>,
     pub values: Numbers,
     pub t: f64,
+    pub tolerance: f64,
     pub x: Numbers,
     pub quantity: Quantity,
 }
@@ -94,7 +96,9 @@ impl fmt::Display for Case {
             writeln!(f, "  ng {ng}, lens {lens:?}, groups {groups:?}")?;
         }
         writeln!(f, "  values: {}", self.values)?;
-        writeln!(f, "  T: {:016x} ({:e})", self.t.to_bits(), self.t)?;
+        for (name, v) in [("T", self.t), ("tolerance", self.tolerance)] {
+            writeln!(f, "  {name}: {:016x} ({v:e})", v.to_bits())?;
+        }
         write!(f, "  fractions: {}", self.x)
     }
 }

@@ -5,6 +5,7 @@ use crate::case::{Case, Numbers, Quantity, NRTL, UNIFAC, UNIQUAC, WILSON};
 use crate::inputs::{around, special};
 use crate::random::Random;
 use crate::rust::size;
+use crate::tolerance::{tolerance_fault, USUAL, WIDEST};
 
 /// How the numbers of a table are drawn.
 #[derive(Clone, Copy)]
@@ -87,7 +88,7 @@ impl<'a> Draw<'a> {
     }
 
     /// Whether one of n, at random, came up.
-    fn one_in(&mut self, n: usize) -> bool {
+    pub fn one_in(&mut self, n: usize) -> bool {
         self.below(n) == 0
     }
 
@@ -329,6 +330,7 @@ impl<'a> Draw<'a> {
             groups: Vec::new(),
             values: Numbers::default(),
             t: self.number(220.0, 650.0),
+            tolerance: USUAL,
             x: Numbers::default(),
             quantity: self.quantity(n),
         };
@@ -483,5 +485,45 @@ impl<'a> Draw<'a> {
             x.iter_mut().for_each(|v| *v *= 1.5);
         }
         x
+    }
+
+    /// A tolerance of any kind, most of them accepted. A sum can be off 1 by exactly a power of two.
+    pub fn tolerance(&mut self) -> f64 {
+        match self.below(8) {
+            0 => self.special(),
+            1 => self.any(&[0.0, -0.0, -5e-324, USUAL]),
+            2 => {
+                let beside: Vec<f64> = around(WIDEST, 2).collect();
+                self.any(&beside)
+            }
+            3 => f64::from_bits((1023 - 10 - self.random.below(43)) << 52),
+            4 => f64::from_bits(self.random.bits()),
+            _ => self.random.between(0.0, WIDEST),
+        }
+    }
+
+    /// Fractions whose sum is off 1 by the tolerance, by about it, by about 1e-5 or by any of what passes somewhere.
+    pub fn off(&mut self, x: Vec<f64>, tolerance: f64) -> Vec<f64> {
+        let edge = match tolerance_fault(tolerance) {
+            0 => tolerance,
+            _ => WIDEST,
+        };
+        let off = match self.below(4) {
+            0 => edge,
+            1 => self.random.between(0.5, 1.5) * edge,
+            2 => self.random.between(0.5, 1.5) * 1e-5,
+            _ => self.random.between(USUAL, WIDEST),
+        };
+        let sum = self.any(&[1.0 - off, 1.0 + off]);
+        let beside: Vec<f64> = around(sum, 1).collect();
+        completed(x, self.any(&beside))
+    }
+
+    /// Gives a case another tolerance, and half of the cases fractions that are off by about as much.
+    pub fn change_tolerance(&mut self, case: &mut Case) {
+        case.tolerance = self.tolerance();
+        if !case.x.all.is_empty() && self.one_in(2) {
+            case.x.all = self.off(std::mem::take(&mut case.x.all), case.tolerance);
+        }
     }
 }

@@ -2,6 +2,7 @@
 
 use crate::case::{Answer, Case, Quantity, NRTL, UNIFAC, UNIQUAC, WILSON};
 use crate::compare::bits;
+use crate::tolerance::USUAL;
 use crate::{papers, rust};
 use original::nrtl::Nrtl;
 use original::parameters::{InteractionMatrix, TdMatrix, TdParam, Volumes};
@@ -43,6 +44,7 @@ fn call(model: u32, values: Vec<f64>, x: &[f64], quantity: Quantity) -> Case {
         groups: Vec::new(),
         values: values.into(),
         t: 300.0,
+        tolerance: USUAL,
         x: x.to_vec().into(),
         quantity,
     }

@@ -27,6 +27,8 @@ extern "C" {
         entries_len: usize,
     ) -> u32;
 
+    fn kiltgrit_check_composition(tolerance: f64, x: *const f64, x_len: usize) -> u32;
+
     fn kiltgrit_run(strip: *const u8, strip_len: usize, out: *mut u8, out_len: usize) -> usize;
 
     fn kiltgrit_ln_gamma(
@@ -40,6 +42,7 @@ extern "C" {
         values: *const u8,
         values_len: usize,
         t: f64,
+        tolerance: f64,
         x: *const u8,
         x_len: usize,
         i: usize,
@@ -57,6 +60,7 @@ extern "C" {
         values: *const u8,
         values_len: usize,
         t: f64,
+        tolerance: f64,
         x: *const u8,
         x_len: usize,
         i: usize,
@@ -74,6 +78,7 @@ extern "C" {
         values: *const u8,
         values_len: usize,
         t: f64,
+        tolerance: f64,
         x: *const u8,
         x_len: usize,
         value: *mut f64,
@@ -117,6 +122,13 @@ pub fn import(text: &[u8], n: usize, entries: &mut [f64]) -> u32 {
     }
 }
 
+/// The number that the check of a composition answers, 0 for none.
+pub fn check_composition(tolerance: f64, x: &[f64]) -> u32 {
+    // SAFETY: the pointer comes from a slice that outlives the call, with the length of that slice. The call has no
+    // `requires`.
+    unsafe { kiltgrit_check_composition(tolerance, x.as_ptr(), x.len()) }
+}
+
 /// Stores a strip's text into `out`, as far as it fits, and answers how long it is.
 pub fn run(strip: &[u8], out: &mut [u8]) -> usize {
     // SAFETY: each pointer comes from a slice that outlives the call, with the length of that slice, and `out` is
@@ -143,6 +155,7 @@ pub fn plain(case: &Case, value: &mut f64) -> u32 {
                     values.as_ptr(),
                     values.len(),
                     case.t,
+                    case.tolerance,
                     x.as_ptr(),
                     x.len(),
                     $($i,)?

@@ -1,6 +1,7 @@
 //! Compares the exported calls of the Rattle crates with the original, in which document 01's exp and log
-//! stand in for libm, what a panel shows with exact whole numbers, and the import of a supplier's list with the places
-//! of all its faults. Prints a line for each comparison; the exit status is 0 only if nothing differs.
+//! stand in for libm, the check of fractions with another tolerance than the original's with document 02's words, what a
+//! panel shows with exact whole numbers, and the import of a supplier's list with the places of all its faults. Prints a
+//! line for each comparison; the exit status is 0 only if nothing differs.
 //!
 //! usage: compare [--cases N] [--seed S]    N random inputs of exp, log and millionths each, beside the edges (default
 //!                                          1000000), N/4 calls of a model, N/10 of UNIFAC, N/150 strips, N fields of
@@ -16,6 +17,7 @@ mod calls;
 mod case;
 mod cases;
 mod compare;
+mod compositions;
 mod differences;
 mod documented;
 mod exports;
@@ -36,6 +38,7 @@ mod strip;
 mod strips;
 mod suppliers;
 mod texts;
+mod tolerance;
 
 use random::Random;
 use std::path::Path;

@@ -5,6 +5,7 @@ use crate::book::{composition_fault, load_fault};
 use crate::calls::{Call, Head, Lent, Load, Name, WHOLE};
 use crate::case::{Case, Quantity, NRTL, UNIFAC, UNIQUAC, WILSON};
 use crate::compare::bits;
+use crate::tolerance::USUAL;
 use original::parameters::TdParam;
 use tpt_thermo_core::quantities::Temperature;
 
@@ -211,6 +212,7 @@ impl Memory {
             groups: lists.1,
             values: self.values[..self.size()].to_vec().into(),
             t: *t,
+            tolerance: USUAL,
             x: x[..*n].to_vec().into(),
             quantity,
         }

@@ -1,12 +1,26 @@
-//! The comparison of the models' plain calls, and of the check of a composition.
+//! The comparison of the models' plain calls.
 
-use crate::case::{Answer, Case, Quantity, NAMES, UNIFAC, WILSON};
+use crate::case::{Answer, Case, NAMES, UNIFAC};
 use crate::cases::{Draw, Sizes};
 use crate::compare::{bits, SHOWN};
+use crate::compositions;
 use crate::exports;
 use crate::random::Random;
 use crate::rust;
+use crate::tolerance::{by_source, is_off, is_usual, naive, tolerance_fault, WIDEST};
 use std::fmt;
+
+/// What comes up with other tolerances than the original's; the last with UNIFAC alone.
+const CLASSES: [&str; 8] = [
+    "values",
+    "values of fractions that the Rust refuses, held by the number",
+    "of these off by 2e-6 to 1e-3",
+    "refused 6 off by as much",
+    "refused 6 that the Rust accepts",
+    "refused 14 that are 5, 6 or 7 too",
+    "refused 2 that are 14 too",
+    "refused 3 or 4 that are 14 too",
+];
 
 /// How many of the expected answers were of each kind.
 #[derive(Default)]
@@ -14,14 +28,37 @@ struct Tally {
     finite: usize,
     infinite: usize,
     nan: usize,
-    refused: [usize; 8],
+    refused: [usize; 15],
+    /// By place in `CLASSES`.
+    others: [usize; 8],
+}
+
+/// Which of `CLASSES` a case with another tolerance is.
+fn classes(case: &Case, expected: Option<Answer>) -> [bool; 8] {
+    let (x, bad) = (&case.x.all, tolerance_fault(case.tolerance) != 0);
+    let is = |number| expected == Some(Answer::Refused(number));
+    [
+        matches!(expected, Some(Answer::Value(_))),
+        expected.is_none(),
+        expected.is_none() && is_off(x),
+        is(6) && is_off(x),
+        is(6) && by_source(x) == 0,
+        is(14) && (naive(WIDEST, x) != 0 || x.len() != case.n),
+        is(2) && bad,
+        (is(3) || is(4)) && bad,
+    ]
 }
 
 impl Tally {
-    fn add(&mut self, answer: Answer) {
-        match answer {
-            Answer::Refused(number) => self.refused[number as usize] += 1,
-            Answer::Value(bits) => {
+    fn add(&mut self, case: &Case, expected: Option<Answer>) {
+        if !is_usual(case.tolerance) {
+            let classes = classes(case, expected);
+            (0..8).for_each(|class| self.others[class] += usize::from(classes[class]));
+        }
+        match expected {
+            None => (),
+            Some(Answer::Refused(number)) => self.refused[number as usize] += 1,
+            Some(Answer::Value(bits)) => {
                 let v = f64::from_bits(bits);
                 if v.is_nan() {
                     self.nan += 1
@@ -32,6 +69,21 @@ impl Tally {
                 }
             }
         }
+    }
+
+    /// Prints what came up with other tolerances, and answers whether a class never did.
+    fn print_others(&self, model: u32) -> bool {
+        let classes = if model == UNIFAC { 8 } else { 7 };
+        let others = CLASSES.iter().zip(self.others).take(classes);
+        let counts: Vec<String> = others
+            .map(|(class, count)| format!("{count} {class}"))
+            .collect();
+        println!("  with other tolerances: {}", counts.join("; "));
+        let never = self.others[..classes].contains(&0);
+        if never {
+            println!("  one of these never came up");
+        }
+        never
     }
 }
 
@@ -70,12 +122,20 @@ fn compare_model(model: u32, cases: usize, random: &mut Random) -> bool {
     let mut tally = Tally::default();
     let (mut differ, mut smallest) = (0, Vec::new());
     for _ in 0..cases {
-        let case = draw.case(model);
-        let expected = rust::answer(&case);
-        tally.add(expected);
+        let mut case = draw.case(model);
+        if draw.one_in(4) {
+            draw.change_tolerance(&mut case);
+        }
+        let expected = rust::answer_at(&case);
+        tally.add(&case, expected);
         let (got, kept) = rattle(&case, draw.bits());
-        if got != expected || !kept {
+        let agrees = match expected {
+            Some(answer) => got == answer,
+            None => matches!(got, Answer::Value(_)),
+        };
+        if !agrees || !kept {
             differ += 1;
+            let expected = expected.map_or("any value".to_string(), |answer| answer.to_string());
             let left = if kept { "" } else { " and another result" };
             let text = format!("{case}\n  Rust: {expected}\n  Rattle: {got}{left}");
             smallest.push((case.values.all.len(), text));
@@ -87,58 +147,14 @@ fn compare_model(model: u32, cases: usize, random: &mut Random) -> bool {
         println!("{name}: {text}");
     }
     println!("{name}: {cases} cases, {differ} differ; {tally}");
-    differ == 0
-}
-
-/// A call of Wilson in which nothing but the composition is at fault, or its length.
-fn call_with(x: Vec<f64>) -> Case {
-    let n = x.len().clamp(1, 12);
-    let mut values = vec![0.0; n * n];
-    values.extend(vec![1.0; n]);
-    Case {
-        model: WILSON,
-        n,
-        ng: 0,
-        lens: Vec::new(),
-        groups: Vec::new(),
-        values: values.into(),
-        t: 300.0,
-        x: x.into(),
-        quantity: Quantity::ExcessGibbs,
-    }
-}
-
-/// Compares the original's check of a composition, called alone, with the 5 and 6 of a call.
-fn compare_compositions(cases: usize, random: &mut Random) -> bool {
-    let mut draw = Draw::new(random, Sizes::UpTo(12));
-    let (mut differ, mut counts) = (0, [0; 7]);
-    for _ in 0..cases {
-        let case = call_with(draw.composition());
-        let expected = original::check_composition(&case.x.all).map_or_else(rust::number, |()| 0);
-        let got = match rattle(&case, 0).0 {
-            Answer::Refused(number @ (5 | 6)) => number,
-            _ => 0,
-        };
-        counts[expected as usize] += 1;
-        if got != expected {
-            differ += 1;
-            if differ <= SHOWN {
-                println!(
-                    "composition: {}\n  Rust: {expected}\n  Rattle: {got}",
-                    case.x
-                );
-            }
-        }
-    }
-    let [pass, .., empty, off] = counts;
-    println!("composition: {cases} cases, {differ} differ; {pass} pass, {empty} refused 5, {off} refused 6");
-    differ == 0
+    let never = tally.print_others(model);
+    differ == 0 && !never
 }
 
 /// Compares N/4 random compositions, N/4 calls of each model, and N/10 of UNIFAC, which takes the original
 /// milliseconds at its largest size.
 pub fn compare_all(n: usize, random: &mut Random) -> bool {
-    let mut same = compare_compositions(n / 4, random);
+    let mut same = compositions::compare(n / 4, random);
     for model in 1..=4 {
         let cases = if model == UNIFAC { n / 10 } else { n / 4 };
         same &= compare_model(model, cases, random);

@@ -2,6 +2,7 @@
 
 use crate::case::{Answer, Case, Quantity, NRTL, UNIFAC, UNIQUAC, WILSON};
 use crate::compare::bits;
+use crate::tolerance::{by_source, check_fault, is_usual};
 use original::nrtl::Nrtl;
 use original::parameters::{InteractionMatrix, TdMatrix, TdParam, Volumes};
 use original::unifac::{GroupTable, UnifacModel, UnifacVariant};
@@ -156,8 +157,8 @@ pub fn asked(case: &Case) -> Answer {
     }
 }
 
-/// What document 01 says that the call answers, by the original from 3 on. A rest of the fractions' bytes gives
-/// 7, after 5 and 6.
+/// What document 01 says that the call answers, by the original from 3 on and so with its tolerance. A rest of the
+/// fractions' bytes gives 7, after 5 and 6.
 pub fn answer(case: &Case) -> Answer {
     if out_of_range(case) {
         return Answer::Refused(2);
@@ -165,5 +166,43 @@ pub fn answer(case: &Case) -> Answer {
     match asked(case) {
         Answer::Value(_) if !case.x.rest.is_empty() => Answer::Refused(7),
         answer => answer,
+    }
+}
+
+/// 3 and 4, by the original's constructor alone.
+fn model_fault(case: &Case) -> u32 {
+    let made = match case.model {
+        WILSON => wilson(case).map(drop),
+        UNIQUAC => uniquac(case).map(drop),
+        NRTL => nrtl(case).map(drop),
+        _ => unifac(case, UnifacVariant::Original).map(drop),
+    };
+    made.map_or_else(number, |()| 0)
+}
+
+/// 7: not n fractions, no such component, or a rest of the fractions' bytes.
+fn mismatch(case: &Case) -> u32 {
+    let past = match case.quantity {
+        Quantity::LnGamma(i) | Quantity::Gamma(i) => i >= case.n,
+        Quantity::ExcessGibbs => false,
+    };
+    match past || case.x.all.len() != case.n || !case.x.rest.is_empty() {
+        true => 7,
+        false => 0,
+    }
+}
+
+/// What the call answers with any tolerance; none where that is a value but the original, with its own, refuses the
+/// fractions.
+pub fn answer_at(case: &Case) -> Option<Answer> {
+    if is_usual(case.tolerance) || out_of_range(case) {
+        return Some(answer(case));
+    }
+    let check = check_fault(case.tolerance, &case.x.all);
+    let faults = [model_fault(case), check, mismatch(case)];
+    match faults.into_iter().find(|number| *number != 0) {
+        Some(number) => Some(Answer::Refused(number)),
+        None if by_source(&case.x.all) != 0 => None,
+        None => Some(asked(case)),
     }
 }
