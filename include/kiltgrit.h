@@ -144,8 +144,8 @@ typedef enum kiltgrit_asked {
 } kiltgrit_asked;
 
 /* ---- what crosses by value. The fields are the library's: read none, write none.
- * The head has the order and the offsets of the library's own. Flags are bytes, set where they are 1. form, changes and
- * tolerance are kept for later versions: written 0 and not read, as the unused bytes. */
+ * The head has the order and the offsets of the library's own. Flags are bytes, set where they are 1. form and changes
+ * are kept for later versions: written 0 and not read, as the unused bytes. */
 typedef struct kiltgrit_head {
     uint8_t model, form, unused[6];
     size_t n, ng;
@@ -217,7 +217,7 @@ kiltgrit_reply kiltgrit_mixture_load(double *values, size_t values_len, const do
 /* Writes the values that the setting names and makes the cells that it is an input of stale. */
 kiltgrit_reply kiltgrit_mixture_set(double *values, size_t values_len, const double *cells, size_t cells_len,
                                     uint8_t *marks, size_t marks_len, kiltgrit_head head, kiltgrit_setting s);
-/* Keeps the fractions in the head. */
+/* Keeps the fractions in the head, where the head's tolerance takes them. */
 kiltgrit_reply kiltgrit_mixture_fractions(const double *values, size_t values_len, const double *cells,
                                           size_t cells_len, const uint8_t *marks, size_t marks_len, kiltgrit_head head,
                                           const double *x, size_t x_len);
@@ -339,7 +339,7 @@ static inline kiltgrit_refusal kiltgrit_set(kiltgrit_mixture *m, kiltgrit_settin
     return kiltgrit_took_(m, &r);
 }
 
-/* The mole fractions of the n components; they add up to 1 within 1e-6, and are taken as they are. */
+/* The mole fractions of the n components; they add up to 1 within the tolerance, and are taken as they are. */
 KILTGRIT_CHECK_
 static inline kiltgrit_refusal kiltgrit_fractions(kiltgrit_mixture *m, const double *x, size_t n) {
     const kiltgrit_reply r = kiltgrit_mixture_fractions(KILTGRIT_LENT_(m), m->head, x, n);

@@ -95,6 +95,7 @@ fn head_of(r: Record, first: &[u8], second: &[u8], floats: &[f64]) -> Head {
         x: x,
         has_t: byte(first, HAS_T_AT) == 1,
         has_x: byte(first, HAS_X_AT) == 1,
+        tolerance: 1e-6,
     }
 }
 

@@ -13,8 +13,8 @@ use models::limits::COMPONENTS;
 use models::limits::PLACES;
 
 // The fields stand as Head's own do, each at the same offset. A flag is set where its byte is 1, so that no
-// bits of a caller's are out of range. Form, changes and tolerance are kept for later: written 0 and not
-// read, as the unused bytes.
+// bits of a caller's are out of range. Form and changes are kept for later: written 0 and not read, as the
+// unused bytes.
 #[repr(C)]
 pub struct CHead {
     pub model: u8,
@@ -86,6 +86,7 @@ pub fn head_of(c: CHead) -> Head
         x: x,
         has_t: c.has_t == 1,
         has_x: c.has_x == 1,
+        tolerance: c.tolerance,
     }
 }
 
@@ -115,7 +116,7 @@ fn c_head(h: Head) -> CHead
         has_t: flag(h.has_t),
         has_x: flag(h.has_x),
         also_unused: [0u8; 6],
-        tolerance: 0.0,
+        tolerance: h.tolerance,
     }
 }
 

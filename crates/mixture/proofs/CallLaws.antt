@@ -9,7 +9,7 @@ use lib.ListN.{length, getD, drop, replicate, length-replicate}
 use lib.Ieee.{Float}
 use borrow.Author.Tests.{le-leb, eqb-true, lt-ltb, eq-eqb, ne-eqb}
 use Rattle.arithmetic.specs.Floats.{+0}
-use Rattle.models.specs.Faults.{usualTolerance, compositionFault, between, allTo, dataFault, mixFault}
+use Rattle.models.specs.Faults.{compositionFault, between, allTo, dataFault, mixFault}
 use Rattle.models.specs.Values.{start}
 use Rattle.models.proofs.AnswerLaws.{first-left, first-right}
 use Rattle.mixture.specs.declared.head.Head.{Head}
@@ -146,7 +146,7 @@ pub fractions-fit : (m : Memory) (h : Head) (x : List Float) → fractionsFault 
 unfolding fractionsFault
 fractions-fit m h x e =
     let f = first-is (headFault m h) _ e in
-    omega (arith, mix-length usualTolerance (h .n) x (f .1), head-passed m h (f .0) .range .few)
+    omega (arith, mix-length (h .tolerance) (h .n) x (f .1), head-passed m h (f .0) .range .few)
 
 -- ---- a load that passes
 

@@ -386,10 +386,10 @@ module _ (m : Memory) (h : Head) (s : Setting) where
 
 -- a setting changes T alone of the head, and whether it is set
 pub head-changed : (h : Head) (s : Setting) (k : ℕ) {t : Float} {b : Bool} → t ≡ cond (eqb k 0) (setHead h s .t) (h .t) → b ≡ cond (eqb k 0) (setHead h s .«has_t») (h .«has_t»)
-    → headWith h t b (h .x) (h .«has_x») ≡ cond (eqb k 0) (setHead h s) h
+    → headWith h t b (h .x) (h .«has_x») (h .tolerance) ≡ cond (eqb k 0) (setHead h s) h
 head-changed h s k p q = rw (p, q) (go (eqb k 0))
   where
-    go : (b : Bool) → headWith h (cond b (setHead h s .t) (h .t)) (cond b (setHead h s .«has_t») (h .«has_t»)) (h .x) (h .«has_x») ≡ cond b (setHead h s) h
+    go : (b : Bool) → headWith h (cond b (setHead h s .t) (h .t)) (cond b (setHead h s .«has_t») (h .«has_t»)) (h .x) (h .«has_x») (h .tolerance) ≡ cond b (setHead h s) h
     go true = refl
     go false = refl
 

@@ -11,6 +11,7 @@ use Rattle.arithmetic.specs.Tables.{Table, Vector, at, grid}
 use Rattle.arithmetic.specs.Parameters.{tdAt}
 use Rattle.models.specs.declared.answers.Quantity.{Quantity}
 use Rattle.models.specs.Limits.{mostComponents, mostPlaces}
+use Rattle.models.specs.Faults.{usualTolerance}
 use Rattle.models.specs.Exponentials.{energy, nonrandomness, groupEnergy}
 use Rattle.models.specs.Wilson.{wilson}
 use Rattle.models.specs.Uniquac.{uniquac}
@@ -36,9 +37,9 @@ outcome k m h a = cond (eqb k 0) a (after m h (Refused k))
 
 -- ---- open
 
--- a head with T and fractions unset, and 0 in these fields
-abbrev pub unsetHead : ℕ → ℕ → ℕ → List ℕ → List ℕ → Head
-unsetHead model n ng lens groups =
+-- a head with a tolerance, T and fractions unset, and 0 in these fields
+abbrev pub unsetHead : Float → ℕ → ℕ → ℕ → List ℕ → List ℕ → Head
+unsetHead ε model n ng lens groups =
     record {
       model = model;
       n = n;
@@ -49,15 +50,16 @@ unsetHead model n ng lens groups =
       x = replicate mostComponents +0;
       «has_t» = false;
       «has_x» = false;
+      tolerance = ε;
     }
 
 -- with lists as a load brings them, and 0 in the places past them
-abbrev pub freshHead : ℕ → ℕ → ℕ → List ℕ → List ℕ → Head
-freshHead model n ng lens groups = unsetHead model n ng (padded mostComponents 0 lens) (padded mostPlaces 0 groups)
+abbrev pub freshHead : Float → ℕ → ℕ → ℕ → List ℕ → List ℕ → Head
+freshHead ε model n ng lens groups = unsetHead ε model n ng (padded mostComponents 0 lens) (padded mostPlaces 0 groups)
 
 -- the head without a model
 abbrev pub noHead : Head
-noHead = freshHead 0 0 0 [] []
+noHead = freshHead +0 0 0 0 [] []
 
 -- writes no lent place and leaves no model
 unfoldable pub afterOpen : Memory → Head → After
@@ -65,10 +67,11 @@ afterOpen m h = outcome (memoryFault m) m h (after m noHead Done)
 
 -- ---- load
 
+-- the tolerance is 1e-6
 unfoldable pub loadedHead : ModelData → Head
 loadedHead d =
-    cond (hasGroups (d .model)) (freshHead (modelNumber (d .model)) (d .n) (d .ng) (d .lens) (d .groups))
-    (freshHead (modelNumber (d .model)) (d .n) 0 [] [])
+    cond (hasGroups (d .model)) (freshHead usualTolerance (modelNumber (d .model)) (d .n) (d .ng) (d .lens) (d .groups))
+    (freshHead usualTolerance (modelNumber (d .model)) (d .n) 0 [] [])
 
 -- the model's values, and all its cells stale
 unfoldable pub loadedMemory : Memory → ModelData → Memory
@@ -98,9 +101,9 @@ unfoldable pub setMemory : Memory → ModelData → Setting → Memory
 setMemory m d s =
     memory (sets (m .values) (place d s) (numbers s)) (m .cells) (written (stalesAt (held d) s) (λ c. 0) (m .marks))
 
--- the head with another T and other fractions
-abbrev pub headWith : Head → Float → Bool → List Float → Bool → Head
-headWith h T hasT x hasX =
+-- the head with another T, other fractions and another tolerance
+abbrev pub headWith : Head → Float → Bool → List Float → Bool → Float → Head
+headWith h T hasT x hasX ε =
     record {
       model = h .model;
       n = h .n;
@@ -111,6 +114,7 @@ headWith h T hasT x hasX =
       x = x;
       «has_t» = hasT;
       «has_x» = hasX;
+      tolerance = ε;
     }
 
 -- T after a setting, and whether it is then set
@@ -129,7 +133,7 @@ hasTAfter (Size i which v) b = b
 hasTAfter (Count i j v) b = b
 
 abbrev pub setHead : Head → Setting → Head
-setHead h s = headWith h (tAfter s (h .t)) (hasTAfter s (h .«has_t»)) (h .x) (h .«has_x»)
+setHead h s = headWith h (tAfter s (h .t)) (hasTAfter s (h .«has_t»)) (h .x) (h .«has_x») (h .tolerance)
 
 unfoldable pub afterSetting : Memory → Head → Setting → After
 afterSetting m h s = outcome (settingFault m h s) m h (after (setMemory m (dataIn m h) s) (setHead h s) Done)
@@ -138,7 +142,7 @@ afterSetting m h s = outcome (settingFault m h s) m h (after (setMemory m (dataI
 
 -- 0 in the places past n
 abbrev pub withFractions : Head → List Float → Head
-withFractions h x = headWith h (h .t) (h .«has_t») (padded mostComponents +0 x) true
+withFractions h x = headWith h (h .t) (h .«has_t») (padded mostComponents +0 x) true (h .tolerance)
 
 unfoldable pub afterFractions : Memory → Head → List Float → After
 afterFractions m h x = outcome (fractionsFault m h x) m h (after m (withFractions h x) Done)

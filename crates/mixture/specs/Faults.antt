@@ -10,7 +10,7 @@ use Rattle.arithmetic.specs.Floats.{+0}
 use Rattle.models.specs.Limits.{mostComponents, mostGroups, mostListed}
 use Rattle.models.specs.declared.answers.Quantity.{Quantity}
 use Rattle.models.specs.Answers.{first}
-use Rattle.models.specs.Faults.{usualTolerance, mixFault, indexFault, between, allTo, dataFault}
+use Rattle.models.specs.Faults.{mixFault, indexFault, between, allTo, dataFault}
 use Rattle.models.specs.Model.{byModel, isModel, ModelData}
 use Rattle.models.specs.Values.{start}
 use Rattle.mixture.specs.declared.head.Head.{Head}
@@ -70,8 +70,9 @@ loadFault m d = first (memoryFault m) (dataFault d)
 unfoldable pub settingFault : Memory → Head → Setting → ℕ
 settingFault m h s = first (headFault m h) (caseFault (held (dataIn m h)) s)
 
+-- by the tolerance that the head holds, whatever it is
 unfoldable pub fractionsFault : Memory → Head → List Float → ℕ
-fractionsFault m h x = first (headFault m h) (mixFault usualTolerance (h .n) x)
+fractionsFault m h x = first (headFault m h) (mixFault (h .tolerance) (h .n) x)
 
 -- a model, T and fractions are there: 1 and 8; 9, T unset; 9, fractions unset
 unfoldable pub readyFault : Memory → Head → ℕ

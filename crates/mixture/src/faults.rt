@@ -214,8 +214,7 @@ pub fn fractions_fault(lv: usize, lc: usize, lm: usize, head: Head, x: &[f64]) -
     if fault != 0 {
         return fault;
     }
-    let tolerance = models::faults::usual_tolerance();
-    models::faults::mix_fault(tolerance, head.n, x)
+    models::faults::mix_fault(head.tolerance, head.n, x)
 }
 
 // Whether a model, T and fractions are there: 1 and 8; 9, T unset; 9, fractions unset. Memory counts by its

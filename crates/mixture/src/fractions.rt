@@ -23,7 +23,7 @@ pub fn fractions(values: &[f64], cells: &[f64], marks: &[u8], head: Head, x: &[f
     }
     let padded = pad_fractions(x);
     Reply {
-        head: head_with(head, head.t, head.has_t, padded, true),
+        head: head_with(head, head.t, head.has_t, padded, true, head.tolerance),
         answer: Answer::Done,
     }
 }

@@ -4,10 +4,12 @@ ghost use mathlib.Core.List.{[]};
 ghost use Prim.Native.Nat.{_≤_};
 ghost use lib.ListN.{length};
 ghost use Rattle.arithmetic.specs.Floats.{+0};
+ghost use Rattle.models.specs.Faults.{usualTolerance};
 ghost use Rattle.models.specs.Limits.{mostComponents, mostPlaces};
 ghost use Rattle.mixture.specs.Lists.{padded};
 ghost use Rattle.mixture.specs.Calls.{unsetHead, freshHead, noHead, headWith};
 use arithmetic::slices::copy_bytes;
+use models::faults::usual_tolerance;
 use models::limits::COMPONENTS;
 use models::limits::PLACES;
 
@@ -22,6 +24,7 @@ pub struct Head {
     pub x: [f64; COMPONENTS],
     pub has_t: bool,
     pub has_x: bool,
+    pub tolerance: f64,
 }
 
 // The fractions, with 0 in the places past them.
@@ -36,9 +39,16 @@ pub fn pad_fractions(s: &[f64]) -> [f64; COMPONENTS]
     r
 }
 
-// A head with T and fractions unset.
-fn unset_head(model: u8, n: usize, ng: usize, lens: [u8; COMPONENTS], groups: [u8; PLACES]) -> Head
-    ensures { λ r. ⌜ r ≡ unsetHead model n ng lens groups ⌝ }
+// A head with a tolerance, T and fractions unset.
+fn unset_head(
+    tolerance: f64,
+    model: u8,
+    n: usize,
+    ng: usize,
+    lens: [u8; COMPONENTS],
+    groups: [u8; PLACES],
+) -> Head
+    ensures { λ r. ⌜ r ≡ unsetHead tolerance model n ng lens groups ⌝ }
 {
     Head {
         model: model,
@@ -50,6 +60,7 @@ fn unset_head(model: u8, n: usize, ng: usize, lens: [u8; COMPONENTS], groups: [u
         x: [0.0; COMPONENTS],
         has_t: false,
         has_x: false,
+        tolerance: tolerance,
     }
 }
 
@@ -57,31 +68,41 @@ fn unset_head(model: u8, n: usize, ng: usize, lens: [u8; COMPONENTS], groups: [u
 pub fn no_head() -> Head
     ensures { λ r. ⌜ r ≡ noHead ⌝ }
 {
-    unset_head(0, 0, 0, [0u8; COMPONENTS], [0u8; PLACES])
+    unset_head(0.0, 0, 0, 0, [0u8; COMPONENTS], [0u8; PLACES])
 }
 
-// A head with T and fractions unset and no lists.
+// The head of a load without lists.
 pub fn bare_head(model: u8, n: usize) -> Head
-    ensures { λ r. ⌜ r ≡ freshHead model n 0 [] [] ⌝ }
+    ensures { λ r. ⌜ r ≡ freshHead usualTolerance model n 0 [] [] ⌝ }
 {
-    unset_head(model, n, 0, [0u8; COMPONENTS], [0u8; PLACES])
+    let tolerance = usual_tolerance();
+    unset_head(tolerance, model, n, 0, [0u8; COMPONENTS], [0u8; PLACES])
 }
 
 // The same with lists.
 pub fn listed_head(model: u8, n: usize, ng: usize, lens: &[u8], groups: &[u8]) -> Head
     requires { ⌜ (length (now lens) ≤ mostComponents) × (length (now groups) ≤ mostPlaces) ⌝ }
-    ensures { λ r. ⌜ r ≡ freshHead model n ng (now (lens .entry)) (now (groups .entry)) ⌝ }
+    ensures { λ r. ⌜ r
+        ≡ freshHead usualTolerance model n ng (now (lens .entry)) (now (groups .entry)) ⌝ }
 {
     let mut all_lens = [0u8; COMPONENTS];
     copy_bytes(lens, &mut all_lens);
     let mut all_groups = [0u8; PLACES];
     copy_bytes(groups, &mut all_groups);
-    unset_head(model, n, ng, all_lens, all_groups)
+    let tolerance = usual_tolerance();
+    unset_head(tolerance, model, n, ng, all_lens, all_groups)
 }
 
-// The head with another T and other fractions.
-pub fn head_with(head: Head, t: f64, has_t: bool, x: [f64; COMPONENTS], has_x: bool) -> Head
-    ensures { λ r. ⌜ r ≡ headWith head t «has_t» x «has_x» ⌝ }
+// The head with another T, other fractions and another tolerance.
+pub fn head_with(
+    head: Head,
+    t: f64,
+    has_t: bool,
+    x: [f64; COMPONENTS],
+    has_x: bool,
+    tolerance: f64,
+) -> Head
+    ensures { λ r. ⌜ r ≡ headWith head t «has_t» x «has_x» tolerance ⌝ }
 {
     let lens = head.lens;
     let groups = head.groups;
@@ -95,5 +116,6 @@ pub fn head_with(head: Head, t: f64, has_t: bool, x: [f64; COMPONENTS], has_x: b
         x: x,
         has_t: has_t,
         has_x: has_x,
+        tolerance: tolerance,
     }
 }

@@ -58,24 +58,25 @@ abbrev KeptX : Option (List Float) → ℕ → Head → Type 0
 KeptX none n h = h .«has_x» ≡ false
 KeptX (some x) n h = (h .«has_x» ≡ true) × (length x ≡ n) × (h .x ≡ padded 12 +0 x)
 
-record KeptModel (m : Memory) (h : Head) (d : Held) (T : Option Float) (x : Option (List Float)) (past : List Call) : Type 0 where
+record KeptModel (m : Memory) (h : Head) (d : Held) (T : Option Float) (x : Option (List Float)) (ε : Float) (past : List Call) : Type 0 where
   number : h .model ≡ 0 → ⊥
   range : (isModel (h .model) && inRange (dataIn m h)) ≡ true
   agrees : Agrees (held (dataIn m h)) d
   keptT : KeptT T h
   keptX : KeptX x (d .n) h
+  tolerance : h .tolerance ≡ ε
   marks : (i j : ℕ) → i < width d → j < width d → isCell d i j ≡ true
       → eqb (getD (m .marks) (i * width d + j) 0) 1 ≡ not (touched (d .model) (since past) i j)
   cells : (i j : ℕ) → i < width d → j < width d → isCell d i j ≡ true → touched (d .model) (since past) i j ≡ false
       → (U : Float) → T ≡ some U → grid (width d) (m .cells) i j ≡ exponential d U i j
 
-abbrev Kept : Memory → Head → Option Held → Option Float → Option (List Float) → List Call → Type 0
-Kept m h none T x past = h .model ≡ 0
-Kept m h (some d) T x past = KeptModel m h d T x past
+abbrev Kept : Memory → Head → Option Held → Option Float → Option (List Float) → Float → List Call → Type 0
+Kept m h none T x ε past = h .model ≡ 0
+Kept m h (some d) T x ε past = KeptModel m h d T x ε past
 
 record Keeps (m : Memory) (h : Head) (b : Book) (past : List Call) : Type 0 where
   long : Long m
-  kept : Kept m h (b .model) (b .T) (b .x) past
+  kept : Kept m h (b .model) (b .T) (b .x) usualTolerance past
 
 -- touched by one call more that is no query, or before
 touched-more : (k : Model) (past : List Call) (c : Call) → isQuery c ≡ false → (i j : ℕ)
@@ -84,23 +85,24 @@ unfolding touched anyOf since
 touched-more k past c n i j = rw n
 
 -- of the accepted calls only what they touch since the last answered query counts
-kept-past : (m : Memory) (h : Head) (o : Option Held) (T : Option Float) (x : Option (List Float)) (past past′ : List Call)
-    → ((k : Model) (i j : ℕ) → touched k (since past) i j ≡ touched k (since past′) i j) → Kept m h o T x past → Kept m h o T x past′
-kept-past m h none T x past past′ e k = k
-kept-past m h (some d) T x past past′ e k =
+kept-past : (m : Memory) (h : Head) (o : Option Held) (T : Option Float) (x : Option (List Float)) (ε : Float) (past past′ : List Call)
+    → ((k : Model) (i j : ℕ) → touched k (since past) i j ≡ touched k (since past′) i j) → Kept m h o T x ε past → Kept m h o T x ε past′
+kept-past m h none T x ε past past′ e k = k
+kept-past m h (some d) T x ε past past′ e k =
     record {
       number = k .number;
       range = k .range;
       agrees = k .agrees;
       keptT = k .keptT;
       keptX = k .keptX;
+      tolerance = k .tolerance;
       marks = λ i j hi hj c. rw (← (e (d .model) i j)) (k .marks i j hi hj c);
       cells = λ i j hi hj c t. k .cells i j hi hj c (e (d .model) i j ∙ t);
     }
 
 keeps-past : (m : Memory) (h : Head) (b : Book) (past past′ : List Call) → ((k : Model) (i j : ℕ) → touched k (since past) i j ≡ touched k (since past′) i j)
     → Keeps m h b past → Keeps m h b past′
-keeps-past m h b past past′ e k = record { long = k .long; kept = kept-past m h (b .model) (b .T) (b .x) past past′ e (k .kept) }
+keeps-past m h b past past′ e k = record { long = k .long; kept = kept-past m h (b .model) (b .T) (b .x) usualTolerance past past′ e (k .kept) }
 
 -- ---- one call
 
@@ -150,7 +152,7 @@ head-fine : (m : Memory) (h : Head) → Long m → (h .model ≡ 0 → ⊥) → 
 unfolding headFault
 head-fine m h l n r = rw (short-no m l, ne-eqb (h .model) 0 n, r)
 
-kept-range : (m : Memory) (h : Head) {d : Held} {T : Option Float} {x : Option (List Float)} {past : List Call} → KeptModel m h d T x past → inRange (dataIn m h) ≡ true
+kept-range : (m : Memory) (h : Head) {d : Held} {T : Option Float} {x : Option (List Float)} {ε : Float} {past : List Call} → KeptModel m h d T x ε past → inRange (dataIn m h) ≡ true
 kept-range m h k = both (isModel (h .model)) (inRange (dataIn m h)) (k .range) .1
 
 -- ---- open
@@ -184,7 +186,7 @@ stale-mark p marks c h t = getD-written p (λ c. 0) marks c 0 h ∙ rw t
 -- ---- load
 
 load-kept : (m : Memory) (d : ModelData) (past : List Call) → Long m → Sound d
-    → KeptModel (loadedMemory m d) (loadedHead d) (held d) none none (Load d ∷ past)
+    → KeptModel (loadedMemory m d) (loadedHead d) (held d) none none usualTolerance (Load d ∷ past)
 unfolding touched anyOf loadedMemory since isQuery
 load-kept m d past l s =
     let k = d .model in
@@ -198,6 +200,7 @@ load-kept m d past l s =
       agrees = agrees;
       keptT = unset .0;
       keptX = unset .1;
+      tolerance = unset .2;
       marks = λ i j hi hj c.
           rw (
             load-inputs k d i j,
@@ -248,7 +251,7 @@ stales-same c d a (TdEntry r q p) i j = refl
 stales-same c d a (Size r w v) i j = refl
 stales-same c d a (Count r q v) i j = refl
 
-module _ (m : Memory) (h : Head) (d : Held) (T : Option Float) (x : Option (List Float)) (past : List Call) (l : Long m) (k : KeptModel m h d T x past) where
+module _ (m : Memory) (h : Head) (d : Held) (T : Option Float) (x : Option (List Float)) (ε : Float) (past : List Call) (l : Long m) (k : KeptModel m h d T x ε past) where
   abbrev e : ModelData
   e = dataIn m h
 
@@ -287,7 +290,7 @@ module _ (m : Memory) (h : Head) (d : Held) (T : Option Float) (x : Option (List
       let b = or-none (stales d s i j) (touched (d .model) (since past) i j) (ap (λ (z : Bool). z || touched (d .model) (since past) i j) (stales-inputs d s i j f) ∙ sym (touched-more (d .model) past (Set s) refl i j) ∙ t) in
       k .cells i j hi hj c (b .1) U (sym (setT-still d s i j T (b .0)) ∙ p) ∙ sym (exponential-still d s U i j (b .0))
 
-  set-kept : (s : Setting) → caseFault d s ≡ 0 → KeptModel (setMemory m e s) (setHead h s) (setIn s d) (setT s T) x (Set s ∷ past)
+  set-kept : (s : Setting) → caseFault d s ≡ 0 → KeptModel (setMemory m e s) (setHead h s) (setIn s d) (setT s T) x ε (Set s ∷ past)
   set-kept s f =
       let a = set-alike s d in
       let w : width d ≡ width (setIn s d) = width-same d (setIn s d) a in
@@ -297,6 +300,7 @@ module _ (m : Memory) (h : Head) (d : Held) (T : Option Float) (x : Option (List
         agrees = set-agree s f;
         keptT = set-keptT h s T (k .keptT);
         keptX = subst (λ (n : ℕ). KeptX x n (setHead h s)) (a .n) (set-keptX h s x (d .n) (k .keptX));
+        tolerance = k .tolerance;
         marks = λ i j hi hj c. rw (← w, ← (a .model)) (set-marks s f i j (rw w hi) (rw w hj) (isCell-same d (setIn s d) a i j ∙ c));
         cells = λ i j hi hj c t U p. rw (← w) (set-cells s f i j (rw w hi) (rw w hj) (isCell-same d (setIn s d) a i j ∙ c) (rw (a .model) t) U p);
       }
@@ -318,7 +322,7 @@ step-set m h none T x past s k =
 step-set m h (some d) T x past s k =
     step-by (settingFault m h s) (caseFault d s) m h _ Done (book (some d) T x) past (Set s) k
     (rw (head-fine m h (k .long) (k .kept .number) (k .kept .range)) (caseFault-same (held (dataIn m h)) d (k .kept .agrees .alike) s)) refl refl
-    (λ z. (refl, record { long = set-long m (dataIn m h) s (k .long); kept = set-kept m h d T x past (k .long) (k .kept) s z }))
+    (λ z. (refl, record { long = set-long m (dataIn m h) s (k .long); kept = set-kept m h d T x usualTolerance past (k .long) (k .kept) s z }))
 
 -- ---- fractions
 
@@ -326,15 +330,16 @@ fractions-keptT : (h : Head) (T : Option Float) (x : List Float) → KeptT T h �
 fractions-keptT h none x k = k
 fractions-keptT h (some T) x k = k
 
-fractions-kept : (m : Memory) (h : Head) (d : Held) (T : Option Float) (o : Option (List Float)) (past : List Call) (x : List Float) → length x ≡ d .n
-    → KeptModel m h d T o past → KeptModel m (withFractions h x) d T (some x) past
-fractions-kept m h d T o past x n k =
+fractions-kept : (m : Memory) (h : Head) (d : Held) (T : Option Float) (o : Option (List Float)) (ε : Float) (past : List Call) (x : List Float) → length x ≡ d .n
+    → KeptModel m h d T o ε past → KeptModel m (withFractions h x) d T (some x) ε past
+fractions-kept m h d T o ε past x n k =
     record {
       number = k .number;
       range = k .range;
       agrees = k .agrees;
       keptT = fractions-keptT h T x (k .keptT);
       keptX = (refl, n, refl);
+      tolerance = k .tolerance;
       marks = k .marks;
       cells = k .cells;
     }
@@ -351,11 +356,11 @@ step-fractions m h none T u past x k =
     step-declined (fractionsFault m h x) 8 m h _ (book none T u) past (Fractions x) k (rw (head-none m h (k .long) (k .kept))) refl (nought 7)
 step-fractions m h (some d) T u past x k =
     step-by (fractionsFault m h x) (mixFault usualTolerance (d .n) x) m h _ Done (book (some d) T u) past (Fractions x) k
-    (rw (head-fine m h (k .long) (k .kept .number) (k .kept .range)) (ap (λ (n : ℕ). mixFault usualTolerance n x) (k .kept .agrees .alike .n))) refl refl
+    (rw (head-fine m h (k .long) (k .kept .number) (k .kept .range)) (ap₂ (λ (ε : Float) (n : ℕ). mixFault ε n x) (k .kept .tolerance) (k .kept .agrees .alike .n))) refl refl
     (λ z. (
       refl,
       keeps-past m (withFractions h x) (book (some d) T (some x)) past (Fractions x ∷ past) (fractions-past x past)
-          (record { long = k .long; kept = fractions-kept m h d T u past x (mix-length usualTolerance (d .n) x z) (k .kept) }),
+          (record { long = k .long; kept = fractions-kept m h d T u usualTolerance past x (mix-length usualTolerance (d .n) x z) (k .kept) }),
     ))
 
 -- ---- query
@@ -363,7 +368,7 @@ step-fractions m h (some d) T u past x k =
 some-is : (T U : Float) → _≡_ {A = Option Float} (some T) (some U) → T ≡ U
 some-is T U e = cc
 
-module _ (m : Memory) (h : Head) (d : Held) (T : Float) (x : List Float) (past : List Call) (l : Long m) (k : KeptModel m h d (some T) (some x) past) where
+module _ (m : Memory) (h : Head) (d : Held) (T : Float) (x : List Float) (ε : Float) (past : List Call) (l : Long m) (k : KeptModel m h d (some T) (some x) ε past) where
   abbrev c : Held
   c = held (dataIn m h)
 
@@ -428,7 +433,7 @@ module _ (m : Memory) (h : Head) (d : Held) (T : Float) (x : List Float) (past :
   unfolding touchedCells
   count = rw same (howMany-rows (width d) (width d) (staleAt m c) ∙ howManyPairs-same (width d) (width d) _ _ stale-is)
 
-  query-kept : (q : Quantity) → KeptModel (worked m c (h .t)) h d (some T) (some x) (Query q ∷ past)
+  query-kept : (q : Quantity) → KeptModel (worked m c (h .t)) h d (some T) (some x) ε (Query q ∷ past)
   unfolding worked touched anyOf since isQuery
   query-kept q =
       record {
@@ -437,6 +442,7 @@ module _ (m : Memory) (h : Head) (d : Held) (T : Float) (x : List Float) (past :
         agrees = k .agrees;
         keptT = k .keptT;
         keptX = k .keptX;
+        tolerance = k .tolerance;
         marks = fresh;
         cells = λ i j hi hj t u U e. right i j hi hj t ∙ ap (λ (t : Float). exponential d t i j) (some-is T U e);
       }
@@ -465,8 +471,8 @@ step-query m h (some d) (some T) (some x) past q k =
     (book (some d) (some T) (some x)) past (Query q) k
     (rw (head-fine m h (k .long) (k .kept .number) (k .kept .range), k .kept .keptT .0, k .kept .keptX .0) (ap (λ (n : ℕ). indexFault n q) (k .kept .agrees .alike .n))) refl refl
     (λ z. (
-      ap₂ Value (value m h d T x past (k .long) (k .kept) q z) (count m h d T x past (k .long) (k .kept)),
-      record { long = work-long m h d (k .long); kept = query-kept m h d T x past (k .long) (k .kept) q },
+      ap₂ Value (value m h d T x usualTolerance past (k .long) (k .kept) q z) (count m h d T x usualTolerance past (k .long) (k .kept)),
+      record { long = work-long m h d (k .long); kept = query-kept m h d T x usualTolerance past (k .long) (k .kept) q },
     ))
 
 -- ---- every list

@@ -10,6 +10,7 @@ use lib.ListN.{length, getD, drop, replicate, length-append, List·getD-append}
 use lib.Ieee.{nan}
 use borrow.Author.Tests.{le-leb, lt-ltb}
 use Rattle.arithmetic.specs.Tables.{at}
+use Rattle.models.specs.Faults.{usualTolerance}
 use Rattle.models.specs.Values.{fiveAt, start, lists}
 use Rattle.models.specs.declared.model.Model.{Model}
 use Rattle.models.specs.declared.model.Model.the-variants.{Wilson, Uniquac, Nrtl, Unifac}
@@ -157,12 +158,13 @@ module _ (m : Memory) (d : ModelData) where
   left-number Nrtl = (nought 2, refl)
   left-number Unifac = (nought 3, refl)
 
-  pub left-unset : (k : Model) → (loadedHead (D d k) .«has_t» ≡ false) × (loadedHead (D d k) .«has_x» ≡ false)
+  pub left-unset : (k : Model)
+      → (loadedHead (D d k) .«has_t» ≡ false) × (loadedHead (D d k) .«has_x» ≡ false) × (loadedHead (D d k) .tolerance ≡ usualTolerance)
   unfolding loadedHead
-  left-unset Wilson = (refl, refl)
-  left-unset Uniquac = (refl, refl)
-  left-unset Nrtl = (refl, refl)
-  left-unset Unifac = (refl, refl)
+  left-unset Wilson = (refl, refl, refl)
+  left-unset Uniquac = (refl, refl, refl)
+  left-unset Nrtl = (refl, refl, refl)
+  left-unset Unifac = (refl, refl, refl)
 
   pub left-agrees : (k : Model) → Sound (D d k) → Agrees (held (left k)) (held (D d k))
   unfolding loadedMemory
