@@ -23,9 +23,9 @@ use Rattle.mixture.specs.declared.answers.Answer.the-variants.{Refused, 
 use Rattle.mixture.specs.Answers.{valuesOf}
 use Rattle.mixture.specs.Holdings.{Held}
 use Rattle.mixture.specs.Memory.{Memory, isShort, short, leastValues, leastCells, leastMarks}
-use Rattle.mixture.specs.Book.{Call, Open, Query, Book, book, empty, plain, having, touchedCells, since, queryAnswer, bookAnswer, bookAnswers, bookOf, pastOf}
+use Rattle.mixture.specs.Book.{Mix, Call, Open, Query, Book, book, empty, plain, having, touchedCells, since, queryAnswer, bookAnswer, bookAnswers, bookOf, pastOf}
 use Rattle.mixture.specs.History.{afterCall, answers}
-use Rattle.mixture.specs.Demand3.{leftBy, answerAfter, bookAnswerAfter, ByPlainCall, Demand3}
+use Rattle.mixture.specs.Demand3.{leftBy, answerAfter, bookAnswerAfter, Stands, ByPlainCall, Demand3}
 use Rattle.mixture.proofs.history.History.{history}
 use Rattle.mixture.proofs.PlainCall.{plain-call, one-more}
 
@@ -58,22 +58,22 @@ book-is m h calls c s =
 record Found (b : Book) (past : List Call) (q : Quantity) : Type 0 where
   d : Held
   T : Float
-  x : List Float
-  stands : b ≡ book (some d) (some T) (some x)
+  x : Mix
+  stands : Stands b d T x
   index : indexFault (d .n) q ≡ 0
-  answer : bookAnswer b past (Query q) ≡ Value (plain d T x q) (touchedCells d (since past))
+  answer : bookAnswer b past (Query q) ≡ Value (plain d T (x .fractions) q) (touchedCells d (since past))
 
 found : (b : Book) (past : List Call) (q : Quantity) → ((k : ℕ) → bookAnswer b past (Query q) ≡ Refused k → ⊥) → Found b past q
 unfolding bookAnswer queryAnswer having
-found b past q ne = go (b .model) (b .T) (b .x) ne
+found b past q ne = go (b .model) (b .T) (b .x) (b .tolerance) ne
   where
-    go : (o : Option Held) (t : Option Float) (u : Option (List Float)) → ((k : ℕ) → bookAnswer (book o t u) past (Query q) ≡ Refused k → ⊥) → Found (book o t u) past q
-    go none t u ne = absurd (ne 8 refl)
-    go (some d) none u ne = absurd (ne 9 refl)
-    go (some d) (some T) none ne = absurd (ne 9 refl)
-    go (some d) (some T) (some x) ne =
+    go : (o : Option Held) (t : Option Float) (u : Option Mix) (ε : Float) → ((k : ℕ) → bookAnswer (book o t u ε) past (Query q) ≡ Refused k → ⊥) → Found (book o t u ε) past q
+    go none t u ε ne = absurd (ne 8 refl)
+    go (some d) none u ε ne = absurd (ne 9 refl)
+    go (some d) (some T) none ε ne = absurd (ne 9 refl)
+    go (some d) (some T) (some x) ε ne =
         elim (either (eqb (indexFault (d .n) q) 0)) [
-          | inl e ↦ record { d = d; T = T; x = x; stands = refl; index = eqb-true _ 0 e; answer = rw e }
+          | inl e ↦ record { d = d; T = T; x = x; stands = (refl, refl, refl); index = eqb-true _ 0 e; answer = rw e }
           | inr e ↦ absurd (ne (indexFault (d .n) q) (rw e refl))
         ]
 
@@ -99,13 +99,12 @@ by-book : (calls : List Call) (q : Quantity) {a : Answer} → a ≡ bookAnswerAf
 unfolding valuesOf
 by-book calls q e f =
     let plain-is =
-    plain-call calls (pastOf empty [] calls) (f .d) (f .T) (f .x) q
-    (ap (λ (b : Book). b .model) (f .stands)) (ap (λ (b : Book). b .T) (f .stands)) (ap (λ (b : Book). b .x) (f .stands)) (f .index) in
+    plain-call calls (pastOf empty [] calls) (f .d) (f .T) (f .x) q (f .stands .0) (f .stands .1) (f .stands .2) (f .index) in
     record {
       d = f .d;
       T = f .T;
       x = f .x;
-      v = plain (f .d) (f .T) (f .x) q;
+      v = plain (f .d) (f .T) (f .x .fractions) q;
       stands = f .stands;
       plainly = plainly _ _ (sym (ap valuesOf (f .answer)) ∙ plain-is .1);
       given = e ∙ f .answer;

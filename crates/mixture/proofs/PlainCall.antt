@@ -19,7 +19,7 @@ use Rattle.arithmetic.proofs.TableLaws.{cell-lt, from-at}
 use Rattle.models.specs.declared.answers.Quantity.{Quantity}
 use Rattle.models.specs.declared.answers.Answer.the-variants.{Value}
 use Rattle.models.specs.Answers.{answer, first, numberOf as plainNumber, valuesOf as plainValues}
-use Rattle.models.specs.Faults.{indexFault, shapeFault, fractionsFault, listsFault, placeFault, groupsFault, unifacFault, usualTolerance, toleranceFault, dataFault, mixFault}
+use Rattle.models.specs.Faults.{indexFault, shapeFault, fractionsFault, listsFault, placeFault, groupsFault, unifacFault, toleranceFault, dataFault, mixFault}
 use Rattle.models.specs.Plain.{valueAt, plainCall}
 use Rattle.models.specs.Values.{tdGrid, wilsonSize, energies, volumes, uniquacSize, rs, qs, nrtlSize, taus, alphas, countsAt, groupRs, groupQs, groupAs, start, unifacSize, lists}
 use Rattle.models.proofs.ToleranceLaws.{usual-passes}
@@ -36,7 +36,7 @@ use Rattle.mixture.specs.Holdings.{Held, held, entries, tdEntries, sizes
 use Rattle.models.specs.Model.{ModelData, byModel, sizeOf}
 use Rattle.mixture.specs.Faults.{hasEntry, hasTdEntry, hasSize, hasCount, caseFault}
 use Rattle.mixture.specs.Calls.{exponential}
-use Rattle.mixture.specs.Book.{Call, Open, Load, Set, Fractions, Query, Book, empty, replaced, holding, setIn, setModel, bookAfter, plain, having, touchedCells, settingAnswer, queryAnswer, bookAnswer, accepted, since, bookAnswers, bookOf, pastOf}
+use Rattle.mixture.specs.Book.{Mix, mix, Call, Open, Load, Set, Fractions, Query, Book, empty, replaced, holding, setIn, setModel, bookAfter, plain, having, touchedCells, settingAnswer, queryAnswer, bookAnswer, accepted, since, bookAnswers, bookOf, pastOf}
 use Rattle.mixture.specs.PlainCall.{OneMore, PlainCall}
 use Rattle.mixture.specs.WrittenBack.{fives, valuesIn, dataOf}
 use Rattle.mixture.proofs.ListLaws.{never}
@@ -351,10 +351,14 @@ plain-answers d T ε x q p t m z =
 
 -- ---- every book that calls made
 
-abbrev ProperBook : Option Held → Option (List Float) → Type 0
-ProperBook none x = Unit {0}
-ProperBook (some d) none = Proper d
-ProperBook (some d) (some x) = Proper d × (mixFault usualTolerance (d .n) x ≡ 0)
+-- its fractions pass the check under their own tolerance
+abbrev ProperMix : ℕ → Mix → Type 0
+ProperMix n x = (toleranceFault (x .under) ≡ 0) × (mixFault (x .under) n (x .fractions) ≡ 0)
+
+abbrev ProperBook : Option Held → Option Mix → Float → Type 0
+ProperBook none x ε = Unit {0}
+ProperBook (some d) none ε = Proper d × (toleranceFault ε ≡ 0)
+ProperBook (some d) (some x) ε = Proper d × (toleranceFault ε ≡ 0) × ProperMix (d .n) x
 
 -- the number of an accepted call
 took : (k : ℕ) (v : MixtureAnswer) → eqb (numberOf (unless k v)) 0 ≡ true → k ≡ 0
@@ -365,25 +369,33 @@ took k v h =
       | inr e ↦ eqb-true k 0 (rw e at h)
     ]
 
-after-proper : (b : Book) (past : List Call) (c : Call) → accepted b past c ≡ true → ProperBook (b .model) (b .x) → ProperBook (bookAfter b c .model) (bookAfter b c .x)
+after-proper : (b : Book) (past : List Call) (c : Call) → accepted b past c ≡ true → ProperBook (b .model) (b .x) (b .tolerance)
+    → ProperBook (bookAfter b c .model) (bookAfter b c .x) (bookAfter b c .tolerance)
 unfolding bookAfter bookAnswer settingAnswer empty setModel having numberOf
 after-proper b past Open t p = tt
-after-proper b past (Load e) t p = load-proper e (sound e (took (dataFault e) Done t))
+after-proper b past (Load e) t p = (load-proper e (sound e (took (dataFault e) Done t)), usual-passes)
 after-proper b past (Set s) t p = set-case (b .model) (b .x) t p
   where
-    set-case : (o : Option Held) (x : Option (List Float)) → eqb (numberOf (having 8 o (λ d. unless (caseFault d s) Done))) 0 ≡ true → ProperBook o x → ProperBook (setModel s o) x
+    ε : Float
+    ε = b .tolerance
+
+    set-case : (o : Option Held) (x : Option Mix) → eqb (numberOf (having 8 o (λ d. unless (caseFault d s) Done))) 0 ≡ true → ProperBook o x ε → ProperBook (setModel s o) x ε
     set-case none x t p = tt
-    set-case (some d) none t p = set-proper s d (took (caseFault d s) Done t) p
-    set-case (some d) (some x) t p = (set-proper s d (took (caseFault d s) Done t) (p .0), ap (λ (n : ℕ). mixFault usualTolerance n x) (sym (set-alike s d .n)) ∙ p .1)
+    set-case (some d) none t p = (set-proper s d (took (caseFault d s) Done t) (p .0), p .1)
+    set-case (some d) (some x) t p = (set-proper s d (took (caseFault d s) Done t) (p .0), p .1, subst (λ (n : ℕ). ProperMix n x) (set-alike s d .n) (p .2))
 after-proper b past (Fractions x) t p = mix-case (b .model) (b .x) t p
   where
-    mix-case : (o : Option Held) (u : Option (List Float)) → eqb (numberOf (having 8 o (λ d. unless (mixFault usualTolerance (d .n) x) Done))) 0 ≡ true → ProperBook o u → ProperBook o (some x)
+    ε : Float
+    ε = b .tolerance
+
+    mix-case : (o : Option Held) (u : Option Mix) → eqb (numberOf (having 8 o (λ d. unless (mixFault ε (d .n) x) Done))) 0 ≡ true → ProperBook o u ε → ProperBook o (some (mix x ε)) ε
     mix-case none u t p = tt
-    mix-case (some d) none t p = (p, took (mixFault usualTolerance (d .n) x) Done t)
-    mix-case (some d) (some u) t p = (p .0, took (mixFault usualTolerance (d .n) x) Done t)
+    mix-case (some d) none t p = (p .0, p .1, (p .1, took (mixFault ε (d .n) x) Done t))
+    mix-case (some d) (some u) t p = (p .0, p .1, (p .1, took (mixFault ε (d .n) x) Done t))
 after-proper b past (Query q) t p = p
 
-of-proper : (cs : List Call) (b : Book) (past : List Call) → ProperBook (b .model) (b .x) → ProperBook (bookOf b past cs .model) (bookOf b past cs .x)
+of-proper : (cs : List Call) (b : Book) (past : List Call) → ProperBook (b .model) (b .x) (b .tolerance)
+    → ProperBook (bookOf b past cs .model) (bookOf b past cs .x) (bookOf b past cs .tolerance)
 unfolding bookOf
 of-proper [] b past p = p
 of-proper (c ∷ cs) b past p =
@@ -393,18 +405,19 @@ of-proper (c ∷ cs) b past p =
     ]
 
 -- what a book with all three answers to a query
-book-answers : (b : Book) (past : List Call) (d : Held) (T : Float) (x : List Float) (q : Quantity)
+book-answers : (b : Book) (past : List Call) (d : Held) (T : Float) (x : Mix) (q : Quantity)
     → b .model ≡ some d → b .T ≡ some T → b .x ≡ some x → indexFault (d .n) q ≡ 0
-    → bookAnswer b past (Query q) ≡ Answered (plain d T x q) (touchedCells d (since past))
+    → bookAnswer b past (Query q) ≡ Answered (plain d T (x .fractions) q) (touchedCells d (since past))
 unfolding bookAnswer queryAnswer having
 book-answers b past d T x q p r s z = rw (p, r, s, z)
 
 pub plain-call : PlainCall
 unfolding empty plainNumber plainValues valuesOf countsOf
 plain-call cs past d T x q r s u z =
-    let o : ProperBook (some d) (bookOf empty [] cs .x) = subst (λ (o : Option Held). ProperBook o (bookOf empty [] cs .x)) r (of-proper cs empty [] tt) in
-    let p : Proper d × (mixFault usualTolerance (d .n) x ≡ 0) = subst (λ (o : Option (List Float)). ProperBook (some d) o) u o in
-    let plainly = plain-answers d T usualTolerance x q (p .0) usual-passes (p .1) z in
+    let b = bookOf empty [] cs in
+    let o : ProperBook (some d) (b .x) (b .tolerance) = subst (λ (o : Option Held). ProperBook o (b .x) (b .tolerance)) r (of-proper cs empty [] tt) in
+    let p : ProperBook (some d) (some x) (b .tolerance) = subst (λ (o : Option Mix). ProperBook (some d) o (b .tolerance)) u o in
+    let plainly = plain-answers d T (x .under) (x .fractions) q (p .0) (p .2 .0) (p .2 .1) z in
     rw (plainly, book-answers (bookOf empty [] cs) past d T x q r s u z) (refl, refl, refl)
 
 -- ---- one more call

@@ -1,10 +1,12 @@
--- The book: document 01, "Mixture". It is told the calls alone, and holds what document 01 names.
+-- The book: document 01, "Mixture". It is told the calls alone, and holds what document 01 names, and a tolerance (document 02,
+-- Change 3).
 use mathlib.Core.Bool.{Bool, true, false, not, _&&_, cond}
 use mathlib.Core.List.{List, [], _∷_}
 use mathlib.Core.Option.{Option, none, some}
 use Prim.Native.Nat.{ℕ}
 use lib.Dec.{eqb}
 use lib.Ieee.{Float}
+use Rattle.arithmetic.specs.Floats.{+0}
 use Rattle.arithmetic.specs.Tables.{Table, at}
 use Rattle.arithmetic.specs.declared.parameters.TdParam.{TdParam}
 use Rattle.models.specs.declared.answers.Quantity.{Quantity}
@@ -33,17 +35,26 @@ pub data Call : Type 0 where
   Fractions : List Float → Call
   Query : Quantity → Call
 
--- a model, or none; T and fractions, each perhaps unset
+-- fractions, and the tolerance under which they were accepted
+pub record Mix : Type 0 where
+  pub fractions : List Float
+  pub under : Float
+
+abbrev pub mix : List Float → Float → Mix
+mix x ε = record { fractions = x; under = ε }
+
+-- a model, or none; T and fractions, each perhaps unset; the tolerance of fractions to come
 pub record Book : Type 0 where
   pub model : Option Held
   pub T : Option Float
-  pub x : Option (List Float)
+  pub x : Option Mix
+  pub tolerance : Float
 
-abbrev pub book : Option Held → Option Float → Option (List Float) → Book
-book d T x = record { model = d; T = T; x = x }
+abbrev pub book : Option Held → Option Float → Option Mix → Float → Book
+book d T x ε = record { model = d; T = T; x = x; tolerance = ε }
 
 unfoldable pub empty : Book
-empty = book none none none
+empty = book none none none +0
 
 -- ---- what a call changes
 
@@ -87,9 +98,9 @@ setModel s (some d) = some (setIn s d)
 -- the book after an accepted call
 unfoldable pub bookAfter : Book → Call → Book
 bookAfter b Open = empty
-bookAfter b (Load d) = book (some (held d)) none none
-bookAfter b (Set s) = book (setModel s (b .model)) (setT s (b .T)) (b .x)
-bookAfter b (Fractions x) = book (b .model) (b .T) (some x)
+bookAfter b (Load d) = book (some (held d)) none none usualTolerance
+bookAfter b (Set s) = book (setModel s (b .model)) (setT s (b .T)) (b .x) (b .tolerance)
+bookAfter b (Fractions x) = book (b .model) (b .T) (some (mix x (b .tolerance))) (b .tolerance)
 bookAfter b (Query q) = b
 
 -- ---- the cells that calls touch: those with an input that a call loads or sets
@@ -148,14 +159,14 @@ settingAnswer b s = having 8 (b .model) (λ d. unless (caseFault d s) Done)
 unfoldable pub queryAnswer : Book → List Call → Quantity → Answer
 queryAnswer b past q =
     having 8 (b .model) (λ d. having 9 (b .T) (λ T. having 9 (b .x) (λ x.
-    unless (indexFault (d .n) q) (Value (plain d T x q) (touchedCells d (since past))))))
+    unless (indexFault (d .n) q) (Value (plain d T (x .fractions) q) (touchedCells d (since past))))))
 
 -- to a call
 unfoldable pub bookAnswer : Book → List Call → Call → Answer
 bookAnswer b past Open = Done
 bookAnswer b past (Load d) = unless (dataFault d) Done
 bookAnswer b past (Set s) = settingAnswer b s
-bookAnswer b past (Fractions x) = having 8 (b .model) (λ d. unless (mixFault usualTolerance (d .n) x) Done)
+bookAnswer b past (Fractions x) = having 8 (b .model) (λ d. unless (mixFault (b .tolerance) (d .n) x) Done)
 bookAnswer b past (Query q) = queryAnswer b past q
 
 abbrev pub accepted : Book → List Call → Call → Bool

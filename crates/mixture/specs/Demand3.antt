@@ -13,10 +13,9 @@ use Rattle.mixture.specs.declared.answers.Answer.{Answer}
 use Rattle.mixture.specs.declared.answers.Answer.the-variants.{Refused, Done, Value}
 use Rattle.mixture.specs.Holdings.{Held}
 use Rattle.mixture.specs.Memory.{Memory}
-use Rattle.mixture.specs.Book.{Call, Open, Query, book, empty, touchedCells, since, bookAnswer, bookOf, pastOf}
+use Rattle.mixture.specs.Book.{Mix, Book, Call, Open, Query, empty, touchedCells, since, bookAnswer, bookOf, pastOf}
 use Rattle.mixture.specs.History.{afterCall}
 use Rattle.mixture.specs.WrittenBack.{dataOf}
-use Rattle.models.specs.Faults.{usualTolerance}
 use Rattle.models.specs.Plain.{plainCall}
 
 -- ---- a further call, after the calls
@@ -39,15 +38,19 @@ bookAnswerAfter calls c = bookAnswer (bookOf empty [] calls) (pastOf empty [] ca
 
 -- ---- the claim
 
--- the answer to a query: the plain call's value for what stands in the book, and the number of distinct cells with an input
--- loaded or set since the last answered query
+-- the book holds a model, T and fractions
+abbrev pub Stands : Book → Held → Float → Mix → Type 0
+Stands b d T x = (b .model ≡ some d) × (b .T ≡ some T) × (b .x ≡ some x)
+
+-- the answer to a query: the plain call's value for what stands in the book, with the tolerance under which its fractions were
+-- accepted, and the number of distinct cells with an input loaded or set since the last answered query
 pub record ByPlainCall (calls : List Call) (q : Quantity) (a : Answer) : Type 0 where
   pub d : Held
   pub T : Float
-  pub x : List Float
+  pub x : Mix
   pub v : Float
-  pub stands : bookOf empty [] calls ≡ book (some d) (some T) (some x)
-  pub plainly : plainCall (dataOf d) T usualTolerance x q ≡ Plainly v
+  pub stands : Stands (bookOf empty [] calls) d T x
+  pub plainly : plainCall (dataOf d) T (x .under) (x .fractions) q ≡ Plainly v
   pub given : a ≡ Value v (touchedCells d (since (pastOf empty [] calls)))
 
 -- on three slices with any bits and with any head the opening is accepted; after it and any calls a further call is refused with k

@@ -38,7 +38,7 @@ use Rattle.mixture.specs.Faults.{caseFault, memoryFault, inRange, headFa
 use Rattle.mixture.specs.Memory.{Memory, memory, leastValues, leastCells, leastMarks, After}
 use Rattle.mixture.specs.Layout.{dataIn, place, numbers, cellAt}
 use Rattle.mixture.specs.Calls.{outcome, noHead, afterOpen, loadedHead, loadedMemory, afterLoad, stales, stalesAt, setMemory, tAfter, hasTAfter, setHead, afterSetting, withFractions, afterFractions, exponential, valueBy, staleAt, worked, answered, afterQuery}
-use Rattle.mixture.specs.Book.{Call, Open, Load, Set, Fractions, Query, Book, book, empty, setIn, setT, setModel, bookAfter, gives, touched, touchedCells, plain, having, settingAnswer, queryAnswer, bookAnswer, isQuery, accepted, since, bookAnswers}
+use Rattle.mixture.specs.Book.{Mix, mix, Call, Open, Load, Set, Fractions, Query, Book, book, empty, setIn, setT, setModel, bookAfter, gives, touched, touchedCells, plain, having, settingAnswer, queryAnswer, bookAnswer, isQuery, accepted, since, bookAnswers}
 use Rattle.mixture.specs.History.{afterCall, answers, History}
 use Rattle.mixture.proofs.ListLaws.{never, or-none, length-written, getD-written, howMany-rows, howManyPairs-same}
 use Rattle.mixture.proofs.PlaceLaws.{both, nought}
@@ -54,11 +54,11 @@ abbrev KeptT : Option Float → Head → Type 0
 KeptT none h = h .«has_t» ≡ false
 KeptT (some T) h = (h .«has_t» ≡ true) × (h .t ≡ T)
 
-abbrev KeptX : Option (List Float) → ℕ → Head → Type 0
+abbrev KeptX : Option Mix → ℕ → Head → Type 0
 KeptX none n h = h .«has_x» ≡ false
-KeptX (some x) n h = (h .«has_x» ≡ true) × (length x ≡ n) × (h .x ≡ padded 12 +0 x)
+KeptX (some x) n h = (h .«has_x» ≡ true) × (length (x .fractions) ≡ n) × (h .x ≡ padded 12 +0 (x .fractions))
 
-record KeptModel (m : Memory) (h : Head) (d : Held) (T : Option Float) (x : Option (List Float)) (ε : Float) (past : List Call) : Type 0 where
+record KeptModel (m : Memory) (h : Head) (d : Held) (T : Option Float) (x : Option Mix) (ε : Float) (past : List Call) : Type 0 where
   number : h .model ≡ 0 → ⊥
   range : (isModel (h .model) && inRange (dataIn m h)) ≡ true
   agrees : Agrees (held (dataIn m h)) d
@@ -70,13 +70,13 @@ record KeptModel (m : Memory) (h : Head) (d : Held) (T : Option Float) (x : Opti
   cells : (i j : ℕ) → i < width d → j < width d → isCell d i j ≡ true → touched (d .model) (since past) i j ≡ false
       → (U : Float) → T ≡ some U → grid (width d) (m .cells) i j ≡ exponential d U i j
 
-abbrev Kept : Memory → Head → Option Held → Option Float → Option (List Float) → Float → List Call → Type 0
+abbrev Kept : Memory → Head → Option Held → Option Float → Option Mix → Float → List Call → Type 0
 Kept m h none T x ε past = h .model ≡ 0
 Kept m h (some d) T x ε past = KeptModel m h d T x ε past
 
 record Keeps (m : Memory) (h : Head) (b : Book) (past : List Call) : Type 0 where
   long : Long m
-  kept : Kept m h (b .model) (b .T) (b .x) usualTolerance past
+  kept : Kept m h (b .model) (b .T) (b .x) (b .tolerance) past
 
 -- touched by one call more that is no query, or before
 touched-more : (k : Model) (past : List Call) (c : Call) → isQuery c ≡ false → (i j : ℕ)
@@ -85,7 +85,7 @@ unfolding touched anyOf since
 touched-more k past c n i j = rw n
 
 -- of the accepted calls only what they touch since the last answered query counts
-kept-past : (m : Memory) (h : Head) (o : Option Held) (T : Option Float) (x : Option (List Float)) (ε : Float) (past past′ : List Call)
+kept-past : (m : Memory) (h : Head) (o : Option Held) (T : Option Float) (x : Option Mix) (ε : Float) (past past′ : List Call)
     → ((k : Model) (i j : ℕ) → touched k (since past) i j ≡ touched k (since past′) i j) → Kept m h o T x ε past → Kept m h o T x ε past′
 kept-past m h none T x ε past past′ e k = k
 kept-past m h (some d) T x ε past past′ e k =
@@ -102,7 +102,7 @@ kept-past m h (some d) T x ε past past′ e k =
 
 keeps-past : (m : Memory) (h : Head) (b : Book) (past past′ : List Call) → ((k : Model) (i j : ℕ) → touched k (since past) i j ≡ touched k (since past′) i j)
     → Keeps m h b past → Keeps m h b past′
-keeps-past m h b past past′ e k = record { long = k .long; kept = kept-past m h (b .model) (b .T) (b .x) usualTolerance past past′ e (k .kept) }
+keeps-past m h b past past′ e k = record { long = k .long; kept = kept-past m h (b .model) (b .T) (b .x) (b .tolerance) past past′ e (k .kept) }
 
 -- ---- one call
 
@@ -152,7 +152,7 @@ head-fine : (m : Memory) (h : Head) → Long m → (h .model ≡ 0 → ⊥) → 
 unfolding headFault
 head-fine m h l n r = rw (short-no m l, ne-eqb (h .model) 0 n, r)
 
-kept-range : (m : Memory) (h : Head) {d : Held} {T : Option Float} {x : Option (List Float)} {ε : Float} {past : List Call} → KeptModel m h d T x ε past → inRange (dataIn m h) ≡ true
+kept-range : (m : Memory) (h : Head) {d : Held} {T : Option Float} {x : Option Mix} {ε : Float} {past : List Call} → KeptModel m h d T x ε past → inRange (dataIn m h) ≡ true
 kept-range m h k = both (isModel (h .model)) (inRange (dataIn m h)) (k .range) .1
 
 -- ---- open
@@ -235,7 +235,7 @@ set-keptT h (TdEntry i j p) T k = k
 set-keptT h (Size i w v) T k = k
 set-keptT h (Count i j v) T k = k
 
-set-keptX : (h : Head) (s : Setting) (x : Option (List Float)) (n : ℕ) → KeptX x n h → KeptX x n (setHead h s)
+set-keptX : (h : Head) (s : Setting) (x : Option Mix) (n : ℕ) → KeptX x n h → KeptX x n (setHead h s)
 set-keptX h s none n k = k
 set-keptX h s (some x) n k = k
 
@@ -251,7 +251,7 @@ stales-same c d a (TdEntry r q p) i j = refl
 stales-same c d a (Size r w v) i j = refl
 stales-same c d a (Count r q v) i j = refl
 
-module _ (m : Memory) (h : Head) (d : Held) (T : Option Float) (x : Option (List Float)) (ε : Float) (past : List Call) (l : Long m) (k : KeptModel m h d T x ε past) where
+module _ (m : Memory) (h : Head) (d : Held) (T : Option Float) (x : Option Mix) (ε : Float) (past : List Call) (l : Long m) (k : KeptModel m h d T x ε past) where
   abbrev e : ModelData
   e = dataIn m h
 
@@ -314,15 +314,15 @@ set-long m e s l =
       marks = rw (length-written _ (λ c. 0) (m .marks)) (l .marks);
     }
 
-step-set : (m : Memory) (h : Head) (o : Option Held) (T : Option Float) (x : Option (List Float)) (past : List Call) (s : Setting)
-    → Keeps m h (book o T x) past → Step (afterSetting m h s) (book o T x) past (Set s)
+step-set : (m : Memory) (h : Head) (o : Option Held) (T : Option Float) (x : Option Mix) (ε : Float) (past : List Call) (s : Setting)
+    → Keeps m h (book o T x ε) past → Step (afterSetting m h s) (book o T x ε) past (Set s)
 unfolding afterSetting settingFault bookAnswer settingAnswer having bookAfter setModel numberOf
-step-set m h none T x past s k =
-    step-declined (settingFault m h s) 8 m h _ (book none T x) past (Set s) k (rw (head-none m h (k .long) (k .kept))) refl (nought 7)
-step-set m h (some d) T x past s k =
-    step-by (settingFault m h s) (caseFault d s) m h _ Done (book (some d) T x) past (Set s) k
+step-set m h none T x ε past s k =
+    step-declined (settingFault m h s) 8 m h _ (book none T x ε) past (Set s) k (rw (head-none m h (k .long) (k .kept))) refl (nought 7)
+step-set m h (some d) T x ε past s k =
+    step-by (settingFault m h s) (caseFault d s) m h _ Done (book (some d) T x ε) past (Set s) k
     (rw (head-fine m h (k .long) (k .kept .number) (k .kept .range)) (caseFault-same (held (dataIn m h)) d (k .kept .agrees .alike) s)) refl refl
-    (λ z. (refl, record { long = set-long m (dataIn m h) s (k .long); kept = set-kept m h d T x usualTolerance past (k .long) (k .kept) s z }))
+    (λ z. (refl, record { long = set-long m (dataIn m h) s (k .long); kept = set-kept m h d T x ε past (k .long) (k .kept) s z }))
 
 -- ---- fractions
 
@@ -330,8 +330,8 @@ fractions-keptT : (h : Head) (T : Option Float) (x : List Float) → KeptT T h �
 fractions-keptT h none x k = k
 fractions-keptT h (some T) x k = k
 
-fractions-kept : (m : Memory) (h : Head) (d : Held) (T : Option Float) (o : Option (List Float)) (ε : Float) (past : List Call) (x : List Float) → length x ≡ d .n
-    → KeptModel m h d T o ε past → KeptModel m (withFractions h x) d T (some x) ε past
+fractions-kept : (m : Memory) (h : Head) (d : Held) (T : Option Float) (o : Option Mix) (ε : Float) (past : List Call) (x : List Float) → length x ≡ d .n
+    → KeptModel m h d T o ε past → KeptModel m (withFractions h x) d T (some (mix x ε)) ε past
 fractions-kept m h d T o ε past x n k =
     record {
       number = k .number;
@@ -349,18 +349,18 @@ fractions-past : (x : List Float) (past : List Call) (k : Model) (i j : ℕ) →
 unfolding isQuery
 fractions-past x past k i j = sym (touched-more k past (Fractions x) refl i j ∙ rw (← (fractions-inputs k x i j)))
 
-step-fractions : (m : Memory) (h : Head) (o : Option Held) (T : Option Float) (u : Option (List Float)) (past : List Call) (x : List Float)
-    → Keeps m h (book o T u) past → Step (afterFractions m h x) (book o T u) past (Fractions x)
+step-fractions : (m : Memory) (h : Head) (o : Option Held) (T : Option Float) (u : Option Mix) (ε : Float) (past : List Call) (x : List Float)
+    → Keeps m h (book o T u ε) past → Step (afterFractions m h x) (book o T u ε) past (Fractions x)
 unfolding afterFractions fractionsFault bookAnswer having bookAfter numberOf
-step-fractions m h none T u past x k =
-    step-declined (fractionsFault m h x) 8 m h _ (book none T u) past (Fractions x) k (rw (head-none m h (k .long) (k .kept))) refl (nought 7)
-step-fractions m h (some d) T u past x k =
-    step-by (fractionsFault m h x) (mixFault usualTolerance (d .n) x) m h _ Done (book (some d) T u) past (Fractions x) k
+step-fractions m h none T u ε past x k =
+    step-declined (fractionsFault m h x) 8 m h _ (book none T u ε) past (Fractions x) k (rw (head-none m h (k .long) (k .kept))) refl (nought 7)
+step-fractions m h (some d) T u ε past x k =
+    step-by (fractionsFault m h x) (mixFault ε (d .n) x) m h _ Done (book (some d) T u ε) past (Fractions x) k
     (rw (head-fine m h (k .long) (k .kept .number) (k .kept .range)) (ap₂ (λ (ε : Float) (n : ℕ). mixFault ε n x) (k .kept .tolerance) (k .kept .agrees .alike .n))) refl refl
     (λ z. (
       refl,
-      keeps-past m (withFractions h x) (book (some d) T (some x)) past (Fractions x ∷ past) (fractions-past x past)
-          (record { long = k .long; kept = fractions-kept m h d T u usualTolerance past x (mix-length usualTolerance (d .n) x z) (k .kept) }),
+      keeps-past m (withFractions h x) (book (some d) T (some (mix x ε)) ε) past (Fractions x ∷ past) (fractions-past x past)
+          (record { long = k .long; kept = fractions-kept m h d T u ε past x (mix-length ε (d .n) x z) (k .kept) }),
     ))
 
 -- ---- query
@@ -368,7 +368,7 @@ step-fractions m h (some d) T u past x k =
 some-is : (T U : Float) → _≡_ {A = Option Float} (some T) (some U) → T ≡ U
 some-is T U e = cc
 
-module _ (m : Memory) (h : Head) (d : Held) (T : Float) (x : List Float) (ε : Float) (past : List Call) (l : Long m) (k : KeptModel m h d (some T) (some x) ε past) where
+module _ (m : Memory) (h : Head) (d : Held) (T : Float) (x : Mix) (ε : Float) (past : List Call) (l : Long m) (k : KeptModel m h d (some T) (some x) ε past) where
   abbrev c : Held
   c = held (dataIn m h)
 
@@ -420,14 +420,14 @@ module _ (m : Memory) (h : Head) (d : Held) (T : Float) (x : List Float) (ε : F
       (bounds (dataIn m h) (kept-range m h k) .lists (k .agrees .alike .model ∙ e) .below (start (h .lens) i + p)
       (list-place (h .lens) i (h .n) p (rw (k .agrees .alike .n) hi) (rw (g .length i hi) hp))))
 
-  fraction : (i : ℕ) → i < d .n → at (h .x) i ≡ at x i
-  fraction i b = rw (k .keptX .2) (List·getD-append x (replicate (12 - length x) +0) nan i (rw (k .keptX .1) b))
+  fraction : (i : ℕ) → i < d .n → at (h .x) i ≡ at (x .fractions) i
+  fraction i b = rw (k .keptX .2) (List·getD-append (x .fractions) (replicate (12 - length (x .fractions)) +0) nan i (rw (k .keptX .1) b))
 
-  value : (q : Quantity) → indexFault (d .n) q ≡ 0 → valueBy c (h .t) (grid (width c) (worked m c (h .t) .cells)) (at (h .x)) q ≡ plain d T x q
+  value : (q : Quantity) → indexFault (d .n) q ≡ 0 → valueBy c (h .t) (grid (width c) (worked m c (h .t) .cells)) (at (h .x)) q ≡ plain d T (x .fractions) q
   value q z =
-      valueBy-same c d (k .agrees) (h .t) (grid (width c) (worked m c (h .t) .cells)) (exponential d T) (at (h .x)) (at x)
+      valueBy-same c d (k .agrees) (h .t) (grid (width c) (worked m c (h .t) .cells)) (exponential d T) (at (h .x)) (at (x .fractions))
       (λ i j hi hj t. rw same (right i j hi hj t)) fraction known q z
-      ∙ rw (k .keptT .1) (plain-is d T x q)
+      ∙ rw (k .keptT .1) (plain-is d T (x .fractions) q)
 
   count : howMany (width c * width c) (staleAt m c) ≡ touchedCells d (since past)
   unfolding touchedCells
@@ -456,23 +456,23 @@ work-long m h d l =
       marks = rw (length-written _ _ (m .marks)) (l .marks);
     }
 
-step-query : (m : Memory) (h : Head) (o : Option Held) (T : Option Float) (x : Option (List Float)) (past : List Call) (q : Quantity)
-    → Keeps m h (book o T x) past → Step (afterQuery m h q) (book o T x) past (Query q)
+step-query : (m : Memory) (h : Head) (o : Option Held) (T : Option Float) (x : Option Mix) (ε : Float) (past : List Call) (q : Quantity)
+    → Keeps m h (book o T x ε) past → Step (afterQuery m h q) (book o T x ε) past (Query q)
 unfolding afterQuery queryFault readyFault answered bookAnswer queryAnswer having bookAfter numberOf
-step-query m h none T x past q k =
-    step-declined (queryFault m h q) 8 m h _ (book none T x) past (Query q) k (rw (head-none m h (k .long) (k .kept))) refl (nought 7)
-step-query m h (some d) none x past q k =
-    step-declined (queryFault m h q) 9 m h _ (book (some d) none x) past (Query q) k (rw (head-fine m h (k .long) (k .kept .number) (k .kept .range), k .kept .keptT)) refl (nought 8)
-step-query m h (some d) (some T) none past q k =
-    step-declined (queryFault m h q) 9 m h _ (book (some d) (some T) none) past (Query q) k
+step-query m h none T x ε past q k =
+    step-declined (queryFault m h q) 8 m h _ (book none T x ε) past (Query q) k (rw (head-none m h (k .long) (k .kept))) refl (nought 7)
+step-query m h (some d) none x ε past q k =
+    step-declined (queryFault m h q) 9 m h _ (book (some d) none x ε) past (Query q) k (rw (head-fine m h (k .long) (k .kept .number) (k .kept .range), k .kept .keptT)) refl (nought 8)
+step-query m h (some d) (some T) none ε past q k =
+    step-declined (queryFault m h q) 9 m h _ (book (some d) (some T) none ε) past (Query q) k
     (rw (head-fine m h (k .long) (k .kept .number) (k .kept .range), k .kept .keptT .0, k .kept .keptX)) refl (nought 8)
-step-query m h (some d) (some T) (some x) past q k =
-    step-by (queryFault m h q) (indexFault (d .n) q) m h _ (Value (plain d T x q) (touchedCells d (since past)))
-    (book (some d) (some T) (some x)) past (Query q) k
+step-query m h (some d) (some T) (some x) ε past q k =
+    step-by (queryFault m h q) (indexFault (d .n) q) m h _ (Value (plain d T (x .fractions) q) (touchedCells d (since past)))
+    (book (some d) (some T) (some x) ε) past (Query q) k
     (rw (head-fine m h (k .long) (k .kept .number) (k .kept .range), k .kept .keptT .0, k .kept .keptX .0) (ap (λ (n : ℕ). indexFault n q) (k .kept .agrees .alike .n))) refl refl
     (λ z. (
-      ap₂ Value (value m h d T x usualTolerance past (k .long) (k .kept) q z) (count m h d T x usualTolerance past (k .long) (k .kept)),
-      record { long = work-long m h d (k .long); kept = query-kept m h d T x usualTolerance past (k .long) (k .kept) q },
+      ap₂ Value (value m h d T x ε past (k .long) (k .kept) q z) (count m h d T x ε past (k .long) (k .kept)),
+      record { long = work-long m h d (k .long); kept = query-kept m h d T x ε past (k .long) (k .kept) q },
     ))
 
 -- ---- every list
@@ -481,9 +481,9 @@ step : (m : Memory) (h : Head) (b : Book) (past : List Call) (c : Call) → Keep
 unfolding afterCall
 step m h b past Open k = step-open m h b past k
 step m h b past (Load d) k = step-load m h b past d k
-step m h b past (Set s) k = step-set m h (b .model) (b .T) (b .x) past s k
-step m h b past (Fractions x) k = step-fractions m h (b .model) (b .T) (b .x) past x k
-step m h b past (Query q) k = step-query m h (b .model) (b .T) (b .x) past q k
+step m h b past (Set s) k = step-set m h (b .model) (b .T) (b .x) (b .tolerance) past s k
+step m h b past (Fractions x) k = step-fractions m h (b .model) (b .T) (b .x) (b .tolerance) past x k
+step m h b past (Query q) k = step-query m h (b .model) (b .T) (b .x) (b .tolerance) past q k
 
 follows : (cs : List Call) (m : Memory) (h : Head) (b : Book) (past : List Call) → Keeps m h b past → answers m h cs ≡ bookAnswers b past cs
 unfolding answers bookAnswers
