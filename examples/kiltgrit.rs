@@ -169,6 +169,7 @@ pub enum Setting {
     TdEntry(usize, usize, [f64; 5]),
     Size(usize, usize, f64),
     Count(usize, usize, f64),
+    Tolerance(f64),
 }
 
 impl Setting {
@@ -180,6 +181,7 @@ impl Setting {
             Setting::TdEntry(i, j, five) => (8, i, j, five),
             Setting::Size(i, which, v) => (9, i, which, one(v)),
             Setting::Count(i, place, v) => (10, i, place, one(v)),
+            Setting::Tolerance(v) => (14, 0, 0, one(v)),
         };
         let unused = 0;
         raw::Setting {

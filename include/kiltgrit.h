@@ -86,7 +86,7 @@ extern "C" {
 /* R of each group; Q of each; a, td entries; how often each listed group is in its component, list after list */
 #define KILTGRIT_UNIFAC_VALUES(ng, listed) (2 * (ng) + 5 * (ng) * (ng) + (listed))
 
-/* By how much the sum of fractions may be off 1. */
+/* By how much the sum of fractions may be off 1 after a load; kiltgrit_tolerance below sets it. */
 #define KILTGRIT_USUAL_TOLERANCE 1e-6
 
 /* ---- what a call answers */
@@ -176,7 +176,7 @@ typedef struct kiltgrit_counts {
     size_t cells_worked, renewed;
 } kiltgrit_counts;
 
-/* A setting; kiltgrit_temperature, _entry, _td, _size and _count below make one. */
+/* A setting; kiltgrit_temperature, _entry, _td, _size, _count and _tolerance below make one. */
 typedef struct kiltgrit_setting {
     double v[5];
     size_t i, j;
@@ -330,9 +330,11 @@ static inline kiltgrit_setting kiltgrit_size(size_t i, size_t which, double v) {
 static inline kiltgrit_setting kiltgrit_count(size_t i, size_t place, double v) {
     return kiltgrit_setting_(10, i, place, v);
 }
+/* by how much the sum of fractions may be off 1 from now on, 0 to 1e-3; fractions that were taken stay */
+static inline kiltgrit_setting kiltgrit_tolerance(double tolerance) { return kiltgrit_setting_(14, 0, 0, tolerance); }
 
-/* Replaces one parameter or the temperature, by the same value too; the next query works out again what it is an input
- * of, and nothing else. */
+/* Replaces one parameter, the temperature or the tolerance, by the same value too; the next query works out again what
+ * it is an input of, and nothing else. */
 KILTGRIT_CHECK_
 static inline kiltgrit_refusal kiltgrit_set(kiltgrit_mixture *m, kiltgrit_setting s) {
     const kiltgrit_reply r = kiltgrit_mixture_set(KILTGRIT_LENT_(m), m->head, s);

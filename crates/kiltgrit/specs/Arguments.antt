@@ -10,7 +10,7 @@ use Rattle.models.specs.declared.answers.Quantity.{Quantity}
 use Rattle.models.specs.declared.answers.Quantity.the-variants.{LnGamma}
 use Rattle.models.specs.Answers.{quantityOf}
 use Rattle.mixture.specs.declared.setting.Setting.{Setting}
-use Rattle.mixture.specs.declared.setting.Setting.the-variants.{Size}
+use Rattle.mixture.specs.declared.setting.Setting.the-variants.{Size, Tolerance}
 use Rattle.models.specs.Model.{modelOf, isModel, ModelData, modelData}
 use Rattle.models.specs.Values.{fiveAt}
 use Rattle.strip.specs.Calls.{settingOf as settingOfKind}
@@ -32,9 +32,12 @@ knownN model form n = cond (isModel model && eqb form 0) n 0
 abbrev pub loadOf : ℕ → ℕ → ℕ → ℕ → List ℕ → List ℕ → List Float → ModelData
 loadOf model form n ng lens groups given = modelData (modelOf model) (knownN model form n) ng lens groups given
 
--- a kind of the strip's that is a setting
+-- a kind of the strip's that is a setting; 14 is the tolerance
 abbrev pub isKind : ℕ → Bool
-isKind k = eqb k 5 || eqb k 7 || eqb k 8 || eqb k 9 || eqb k 10
+isKind k = eqb k 5 || eqb k 7 || eqb k 8 || eqb k 9 || eqb k 10 || eqb k 14
 
 unfoldable pub settingOf : CSetting → Setting
-settingOf s = cond (isKind (s .kind)) (settingOfKind (s .kind) (s .i) (s .j) (fiveAt (s .v) 0)) (Size noIndex 0 +0)
+settingOf s =
+    let five = fiveAt (s .v) 0 in
+    cond (isKind (s .kind)) (cond (eqb (s .kind) 14) (Tolerance (five .a)) (settingOfKind (s .kind) (s .i) (s .j) five))
+    (Size noIndex 0 +0)

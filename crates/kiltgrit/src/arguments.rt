@@ -11,7 +11,7 @@ use models::model::is_model;
 // An index that no model has.
 const NO_INDEX: usize = 18446744073709551615;
 
-// The kind is the strip's: 5 temperature, 7 entry, 8 td entry, 9 size, 10 count.
+// The kind is the strip's: 5 temperature, 7 entry, 8 td entry, 9 size, 10 count; and 14 tolerance.
 #[repr(C)]
 pub struct CSetting {
     pub v: [f64; 5],
@@ -43,7 +43,7 @@ pub fn known_n(model: u32, form: u32, n: usize) -> usize
     n
 }
 
-// Whether a kind of the strip's is a setting.
+// Whether a kind is a setting's.
 fn is_kind(kind: u32) -> bool
     ensures { λ r. ⌜ r ≡ isKind kind ⌝ }
 {
@@ -53,6 +53,7 @@ fn is_kind(kind: u32) -> bool
         8 => true,
         9 => true,
         10 => true,
+        14 => true,
         _ => false,
     }
 }
@@ -62,6 +63,9 @@ pub fn setting_of(s: CSetting) -> Setting
 {
     if is_kind(s.kind) {
         let v = s.v;
+        if s.kind == 14 {
+            return Setting::Tolerance(v[0]);
+        }
         let five = TdParam {
             a: v[0],
             b: v[1],

@@ -18,7 +18,7 @@ use Rattle.models.specs.Values.{fiveAt, wilsonSize, uniquacSize, nrtlSize, coun
 use Rattle.models.specs.declared.model.Model.{Model}
 use Rattle.models.specs.declared.model.Model.the-variants.{Wilson, Uniquac, Nrtl, Unifac}
 use Rattle.mixture.specs.declared.setting.Setting.{Setting}
-use Rattle.mixture.specs.declared.setting.Setting.the-variants.{Temperature, Entry, TdEntry, Size, Count}
+use Rattle.mixture.specs.declared.setting.Setting.the-variants.{Temperature, Entry, TdEntry, Size, Count, Tolerance}
 use Rattle.mixture.specs.Holdings.{held, name, named}
 use Rattle.models.specs.Model.{ModelData, sizeOf}
 use Rattle.mixture.specs.Faults.{below, hasEntry, hasTdEntry, hasSize, hasCount, caseFault}
@@ -48,10 +48,14 @@ module _ (d : ModelData) (p : ℕ) where
             ]
       ]
 
-  -- T has no number, so stands over nothing
+  -- T and the tolerance have no number, so stand over nothing
   t-nowhere : {A : Type 0} (T : Float) → Over d (Temperature T) p → A
   unfolding place
   t-nowhere T s = absurd (omega (arith, s .ends))
+
+  ε-nowhere : {A : Type 0} (ε : Float) → Over d (Tolerance ε) p → A
+  unfolding place
+  ε-nowhere ε s = absurd (omega (arith, s .ends))
 
   entry-had : (i j : ℕ) (a : Float) → Over d (Entry i j a) p → hasEntry (held d) i j ≡ true
   unfolding caseFault
@@ -99,21 +103,26 @@ module _ (d : ModelData) (p : ℕ) where
   once (Entry i j a) (TdEntry k l P) o u = td-or-entry k l i j P a u o
   once (Entry i j a) (Size k w b) o u = entry-or-size i j k w a b o u
   once (Entry i j a) (Count k l b) o u = entry-or-count i j k l a b o u
+  once (Entry i j a) (Tolerance ε) o u = ε-nowhere ε u
   once (TdEntry i j P) (Temperature T) o u = t-nowhere T u
   once (TdEntry i j P) (Entry k l b) o u = td-or-entry i j k l P b o u
   once (TdEntry i j P) (TdEntry k l Q) o u = td-name i j k l P Q o u (td-had i j P o) (td-had k l Q u)
   once (TdEntry i j P) (Size k w b) o u = size-or-td k w i j b P u o
   once (TdEntry i j P) (Count k l b) o u = td-or-count i j k l P b o u
+  once (TdEntry i j P) (Tolerance ε) o u = ε-nowhere ε u
   once (Size i w a) (Temperature T) o u = t-nowhere T u
   once (Size i w a) (Entry k l b) o u = entry-or-size k l i w b a u o
   once (Size i w a) (TdEntry k l P) o u = size-or-td i w k l a P o u
   once (Size i w a) (Size k v b) o u = one-name 3 i w k v _ _ (size-places d (d .model) i w k v a b (size-had i w a o) (size-had k v b u)) (o .begins) (o .ends) (u .begins) (u .ends)
   once (Size i w a) (Count k l b) o u = size-or-count i w k l a b o u
+  once (Size i w a) (Tolerance ε) o u = ε-nowhere ε u
   once (Count i j a) (Temperature T) o u = t-nowhere T u
   once (Count i j a) (Entry k l b) o u = entry-or-count k l i j b a u o
   once (Count i j a) (TdEntry k l P) o u = td-or-count k l i j P a u o
   once (Count i j a) (Size k w b) o u = size-or-count k w i j b a u o
   once (Count i j a) (Count k l b) o u = one-name 4 i j k l _ _ (count-places d (d .model) i j k l a b (count-had i j a o) (count-had k l b u)) (o .begins) (o .ends) (u .begins) (u .ends)
+  once (Count i j a) (Tolerance ε) o u = ε-nowhere ε u
+  once (Tolerance ε) t o u = ε-nowhere ε o
 
 -- ---- one setting at least
 

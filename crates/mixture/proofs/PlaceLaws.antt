@@ -21,7 +21,7 @@ use Rattle.models.proofs.GroupListLaws.{list-place}
 use Rattle.models.specs.declared.model.Model.{Model}
 use Rattle.models.specs.declared.model.Model.the-variants.{Wilson, Uniquac, Nrtl, Unifac}
 use Rattle.mixture.specs.declared.setting.Setting.{Setting}
-use Rattle.mixture.specs.declared.setting.Setting.the-variants.{Temperature, Entry, TdEntry, Size, Count}
+use Rattle.mixture.specs.declared.setting.Setting.the-variants.{Temperature, Entry, TdEntry, Size, Count, Tolerance}
 use Rattle.mixture.specs.Holdings.{held, entries, tdEntries, sizes}
 use Rattle.models.specs.Model.{ModelData, modelData, byModel, sizeOf}
 use Rattle.mixture.specs.Faults.{below, hasEntry, hasTdEntry, hasSize, hasCount, caseFault}
@@ -405,3 +405,4 @@ store-in d (Entry i j a) f = entry-in d (d .model) i j a (had (hasEntry (held d)
 store-in d (TdEntry i j p) f = td-in d (d .model) i j p (had (hasTdEntry (held d) i j) 0 f)
 store-in d (Size i w a) f = size-in d (d .model) i w a (had (hasSize (held d) i w) 0 f)
 store-in d (Count i j a) f = count-in d (d .model) i j a (had (hasCount (held d) i j) _ f)
+store-in d (Tolerance ε) f = omega arith

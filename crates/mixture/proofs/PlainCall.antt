@@ -27,7 +27,7 @@ use Rattle.models.proofs.GroupListLaws.{list-place}
 use Rattle.models.specs.declared.model.Model.{Model}
 use Rattle.models.specs.declared.model.Model.the-variants.{Wilson, Uniquac, Nrtl, Unifac}
 use Rattle.mixture.specs.declared.setting.Setting.{Setting}
-use Rattle.mixture.specs.declared.setting.Setting.the-variants.{Temperature, Entry, TdEntry, Size, Count}
+use Rattle.mixture.specs.declared.setting.Setting.the-variants.{Temperature, Entry, TdEntry, Size, Count, Tolerance}
 use Rattle.mixture.specs.declared.answers.Answer.{Answer as MixtureAnswer}
 use Rattle.mixture.specs.declared.answers.Answer.the-variants.{Done, Value as Answered}
 use Rattle.mixture.specs.Answers.{numberOf, valuesOf, countsOf, unless}
@@ -36,7 +36,7 @@ use Rattle.mixture.specs.Holdings.{Held, held, entries, tdEntries, sizes
 use Rattle.models.specs.Model.{ModelData, byModel, sizeOf}
 use Rattle.mixture.specs.Faults.{hasEntry, hasTdEntry, hasSize, hasCount, caseFault}
 use Rattle.mixture.specs.Calls.{exponential}
-use Rattle.mixture.specs.Book.{Mix, mix, Call, Open, Load, Set, Fractions, Query, Book, empty, replaced, holding, setIn, setModel, bookAfter, plain, having, touchedCells, settingAnswer, queryAnswer, bookAnswer, accepted, since, bookAnswers, bookOf, pastOf}
+use Rattle.mixture.specs.Book.{Mix, mix, Call, Open, Load, Set, Fractions, Query, Book, empty, replaced, holding, setIn, setTolerance, setModel, bookAfter, plain, having, touchedCells, settingAnswer, queryAnswer, bookAnswer, accepted, since, bookAnswers, bookOf, pastOf}
 use Rattle.mixture.specs.PlainCall.{OneMore, PlainCall}
 use Rattle.mixture.specs.WrittenBack.{fives, valuesIn, dataOf}
 use Rattle.mixture.proofs.ListLaws.{never}
@@ -234,6 +234,7 @@ values-proper d p e t s k counts =
 set-proper : (s : Setting) (d : Held) → caseFault d s ≡ 0 → Proper d → Proper (setIn s d)
 unfolding setIn caseFault replaced
 set-proper (Temperature T) d f p = p
+set-proper (Tolerance ε) d f p = p
 set-proper (Entry i j v) d f p = values-proper d p _ _ _ _ (λ r s h. h)
 set-proper (TdEntry i j v) d f p = values-proper d p _ _ _ _ (λ r s h. h)
 set-proper (Size i w v) d f p = values-proper d p _ _ _ _ (λ r s h. h)
@@ -245,6 +246,16 @@ set-proper (Count i j v) d f p = values-proper d p _ _ _ _ (λ r s h. replaced-c
           | inl e ↦ rw e (spared (lt v +0) 0 4 (nought 3) new .0)
           | inr e ↦ rw e old
         ]
+
+-- an accepted tolerance is in range, and no other setting changes it
+set-tolerance : (s : Setting) (d : Held) (ε : Float) → caseFault d s ≡ 0 → toleranceFault ε ≡ 0 → toleranceFault (setTolerance s ε) ≡ 0
+unfolding setTolerance caseFault
+set-tolerance (Temperature T) d ε f p = p
+set-tolerance (Entry i j v) d ε f p = p
+set-tolerance (TdEntry i j v) d ε f p = p
+set-tolerance (Size i w v) d ε f p = p
+set-tolerance (Count i j v) d ε f p = p
+set-tolerance (Tolerance δ) d ε f p = f
 
 -- ---- the checks of the plain call
 
@@ -376,13 +387,13 @@ after-proper b past Open t p = tt
 after-proper b past (Load e) t p = (load-proper e (sound e (took (dataFault e) Done t)), usual-passes)
 after-proper b past (Set s) t p = set-case (b .model) (b .x) t p
   where
-    ε : Float
-    ε = b .tolerance
-
-    set-case : (o : Option Held) (x : Option Mix) → eqb (numberOf (having 8 o (λ d. unless (caseFault d s) Done))) 0 ≡ true → ProperBook o x ε → ProperBook (setModel s o) x ε
+    set-case : (o : Option Held) (x : Option Mix) → eqb (numberOf (having 8 o (λ d. unless (caseFault d s) Done))) 0 ≡ true
+        → ProperBook o x (b .tolerance) → ProperBook (setModel s o) x (setTolerance s (b .tolerance))
     set-case none x t p = tt
-    set-case (some d) none t p = (set-proper s d (took (caseFault d s) Done t) (p .0), p .1)
-    set-case (some d) (some x) t p = (set-proper s d (took (caseFault d s) Done t) (p .0), p .1, subst (λ (n : ℕ). ProperMix n x) (set-alike s d .n) (p .2))
+    set-case (some d) none t p = let f = took (caseFault d s) Done t in (set-proper s d f (p .0), set-tolerance s d (b .tolerance) f (p .1))
+    set-case (some d) (some x) t p =
+        let f = took (caseFault d s) Done t in
+        (set-proper s d f (p .0), set-tolerance s d (b .tolerance) f (p .1), subst (λ (n : ℕ). ProperMix n x) (set-alike s d .n) (p .2))
 after-proper b past (Fractions x) t p = mix-case (b .model) (b .x) t p
   where
     ε : Float

@@ -14,13 +14,14 @@ use borrow.Author.Tests.{le-ltb, eq-eqb, ne-eqb}
 use Rattle.arithmetic.specs.Floats.{+0}
 use Rattle.arithmetic.specs.declared.parameters.TdParam.{TdParam}
 use Rattle.arithmetic.proofs.TableLaws.{cell-lt}
+use Rattle.models.specs.Faults.{toleranceFault}
 use Rattle.models.specs.Values.{countsAt, start, lists}
 use Rattle.models.proofs.GroupListLaws.{start-up}
 use Rattle.mixture.specs.declared.head.Head.{Head}
 use Rattle.models.specs.declared.model.Model.{Model}
 use Rattle.models.specs.declared.model.Model.the-variants.{Wilson, Uniquac, Nrtl, Unifac}
 use Rattle.mixture.specs.declared.setting.Setting.{Setting}
-use Rattle.mixture.specs.declared.setting.Setting.the-variants.{Temperature, Entry, TdEntry, Size, Count}
+use Rattle.mixture.specs.declared.setting.Setting.the-variants.{Temperature, Entry, TdEntry, Size, Count, Tolerance}
 use Rattle.mixture.specs.declared.answers.Answer.{Answer}
 use Rattle.mixture.specs.declared.answers.Reply.{Reply}
 use Rattle.mixture.specs.declared.answers.Answer.the-variants.{Done}
@@ -46,6 +47,10 @@ module _ (m : Memory) (h : Head) {model : Model} (e : model ≡ modelOf (h .mode
   pub temperature-case : {T : Float} → s ≡ Temperature T → 0 ≡ caseFault (held (dataIn m h)) s
   unfolding caseFault
   temperature-case g = rw g
+
+  pub tolerance-case : {ε : Float} {r : ℕ} → s ≡ Tolerance ε → r ≡ toleranceFault ε → r ≡ caseFault (held (dataIn m h)) s
+  unfolding caseFault
+  tolerance-case g p = p ∙ rw g
 
   pub entry-case : {i j k r : ℕ} {v : Float} → s ≡ Entry i j v → k ≡ byModel model w w w 0 → r ≡ cond (below i k j k) 0 10 → r ≡ caseFault (held (dataIn m h)) s
   unfolding caseFault hasEntry
@@ -211,6 +216,10 @@ pub temperature-place : (h : Head) {T : Float} {s : Setting} → s ≡ Temperatu
 unfolding place
 temperature-place h g = rw g
 
+pub tolerance-place : (h : Head) {ε : Float} {s : Setting} → s ≡ Tolerance ε → 0 ≡ place (headOnly h) s
+unfolding place
+tolerance-place h g = rw g
+
 -- ---- the head alone
 
 module _ (m : Memory) (h : Head) where
@@ -225,6 +234,7 @@ module _ (m : Memory) (h : Head) where
   case-only (TdEntry i j p) = refl
   case-only (Size i which v) = refl
   case-only (Count i j v) = refl
+  case-only (Tolerance ε) = refl
 
   place-only : (s : Setting) → place (dataIn m h) s ≡ place (headOnly h) s
   unfolding place
@@ -233,6 +243,7 @@ module _ (m : Memory) (h : Head) where
   place-only (TdEntry i j p) = refl
   place-only (Size i which v) = refl
   place-only (Count i j v) = refl
+  place-only (Tolerance ε) = refl
 
   stales-only : (s : Setting) (c : ℕ) → stalesAt (held (dataIn m h)) s c ≡ stalesAt (held (headOnly h)) s c
   unfolding stalesAt stales cellAt isCell width
@@ -241,6 +252,7 @@ module _ (m : Memory) (h : Head) where
   stales-only (TdEntry i j p) c = refl
   stales-only (Size i which v) c = refl
   stales-only (Count i j v) c = refl
+  stales-only (Tolerance ε) c = refl
 
 -- ---- the cells that it makes stale
 
@@ -262,6 +274,7 @@ module _ (h : Head) {model : Model} (e : model ≡ modelOf (h .model)) {w : ℕ}
   block-fits (TdEntry i j p) ok = let b = td-within h ok e f refl in (omega arith, omega arith)
   block-fits (Size i which v) ok = (omega arith, omega arith)
   block-fits (Count i j v) ok = (omega arith, omega arith)
+  block-fits (Tolerance ε) ok = (omega arith, omega arith)
 
   module _ {diagonal : Bool} (g : diagonal ≡ hasGroups model) where
     at-width : w ≡ width (held (headOnly h))
@@ -299,6 +312,7 @@ module _ (h : Head) {model : Model} (e : model ≡ modelOf (h .model)) {w : ℕ}
     block-stales (TdEntry i j p) ok c = rw (← at-width) (one-cell (held (headOnly h)) w diagonal at-width at-diagonal (width-in h ok e f .0) i (td-within h ok e f refl .1) c j)
     block-stales (Size i which v) ok c = no-cells (held (headOnly h)) w diagonal at-width at-diagonal (width-in h ok e f .0) c
     block-stales (Count i j v) ok c = no-cells (held (headOnly h)) w diagonal at-width at-diagonal (width-in h ok e f .0) c
+    block-stales (Tolerance ε) ok c = no-cells (held (headOnly h)) w diagonal at-width at-diagonal (width-in h ok e f .0) c
 
     pub stale-is : (s : Setting) → Settable h s → (l : List ℕ) {b : Block} {r : List ℕ} → b ≡ blockOf model w s → r ≡ written (inBlock w diagonal b) (λ c. 0) l
         → r ≡ written (stalesAt (held (headOnly h)) s) (λ c. 0) l
@@ -384,12 +398,13 @@ module _ (m : Memory) (h : Head) (s : Setting) where
   unfolding afterSetting
   set-refused {k} e n = rw (ne-eqb k 0 n) (refused m h _ e n)
 
--- a setting changes T alone of the head, and whether it is set
-pub head-changed : (h : Head) (s : Setting) (k : ℕ) {t : Float} {b : Bool} → t ≡ cond (eqb k 0) (setHead h s .t) (h .t) → b ≡ cond (eqb k 0) (setHead h s .«has_t») (h .«has_t»)
-    → headWith h t b (h .x) (h .«has_x») (h .tolerance) ≡ cond (eqb k 0) (setHead h s) h
-head-changed h s k p q = rw (p, q) (go (eqb k 0))
+-- a setting changes of the head T, whether it is set, and the tolerance alone
+pub head-changed : (h : Head) (s : Setting) (k : ℕ) {t ε : Float} {b : Bool} → t ≡ cond (eqb k 0) (setHead h s .t) (h .t)
+    → b ≡ cond (eqb k 0) (setHead h s .«has_t») (h .«has_t») → ε ≡ cond (eqb k 0) (setHead h s .tolerance) (h .tolerance)
+    → headWith h t b (h .x) (h .«has_x») ε ≡ cond (eqb k 0) (setHead h s) h
+head-changed h s k p q r = rw (p, q, r) (go (eqb k 0))
   where
-    go : (b : Bool) → headWith h (cond b (setHead h s .t) (h .t)) (cond b (setHead h s .«has_t») (h .«has_t»)) (h .x) (h .«has_x») (h .tolerance) ≡ cond b (setHead h s) h
+    go : (b : Bool) → headWith h (cond b (setHead h s .t) (h .t)) (cond b (setHead h s .«has_t») (h .«has_t»)) (h .x) (h .«has_x») (cond b (setHead h s .tolerance) (h .tolerance)) ≡ cond b (setHead h s) h
     go true = refl
     go false = refl
 

@@ -17,7 +17,7 @@ use Rattle.models.specs.Nrtl.{nrtlAt}
 use Rattle.models.specs.Unifac.{unifacAt}
 use Rattle.models.specs.declared.model.Model.{Model}
 use Rattle.mixture.specs.declared.setting.Setting.{Setting}
-use Rattle.mixture.specs.declared.setting.Setting.the-variants.{Temperature, Entry, TdEntry, Size, Count}
+use Rattle.mixture.specs.declared.setting.Setting.the-variants.{Temperature, Entry, TdEntry, Size, Count, Tolerance}
 use Rattle.mixture.specs.declared.answers.Answer.{Answer}
 use Rattle.mixture.specs.declared.answers.Answer.the-variants.{Refused, Done, Value}
 use Rattle.mixture.specs.Answers.{numberOf, unless}
@@ -82,6 +82,7 @@ setIn (Entry i j v) d = holding d (replaced (d .entry) i j v) (d .tdEntry) (d .s
 setIn (TdEntry i j p) d = holding d (d .entry) (replaced (d .tdEntry) i j p) (d .size) (d .lists .count)
 setIn (Size i which v) d = holding d (d .entry) (d .tdEntry) (replaced (d .size) i which v) (d .lists .count)
 setIn (Count i j v) d = holding d (d .entry) (d .tdEntry) (d .size) (replaced (d .lists .count) i j v)
+setIn (Tolerance ε) d = d
 
 -- or T
 unfoldable pub setT : Setting → Option Float → Option Float
@@ -90,6 +91,16 @@ setT (Entry i j v) o = o
 setT (TdEntry i j p) o = o
 setT (Size i which v) o = o
 setT (Count i j v) o = o
+setT (Tolerance ε) o = o
+
+-- or the tolerance of fractions to come
+unfoldable pub setTolerance : Setting → Float → Float
+setTolerance (Temperature T) u = u
+setTolerance (Entry i j v) u = u
+setTolerance (TdEntry i j p) u = u
+setTolerance (Size i which v) u = u
+setTolerance (Count i j v) u = u
+setTolerance (Tolerance ε) u = ε
 
 unfoldable pub setModel : Setting → Option Held → Option Held
 setModel s none = none
@@ -99,7 +110,7 @@ setModel s (some d) = some (setIn s d)
 unfoldable pub bookAfter : Book → Call → Book
 bookAfter b Open = empty
 bookAfter b (Load d) = book (some (held d)) none none usualTolerance
-bookAfter b (Set s) = book (setModel s (b .model)) (setT s (b .T)) (b .x) (b .tolerance)
+bookAfter b (Set s) = book (setModel s (b .model)) (setT s (b .T)) (b .x) (setTolerance s (b .tolerance))
 bookAfter b (Fractions x) = book (b .model) (b .T) (some (mix x (b .tolerance))) (b .tolerance)
 bookAfter b (Query q) = b
 

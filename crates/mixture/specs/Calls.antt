@@ -19,7 +19,7 @@ use Rattle.models.specs.Nrtl.{nrtl}
 use Rattle.models.specs.Unifac.{unifac}
 use Rattle.mixture.specs.declared.head.Head.{Head}
 use Rattle.mixture.specs.declared.setting.Setting.{Setting}
-use Rattle.mixture.specs.declared.setting.Setting.the-variants.{Temperature, Entry, TdEntry, Size, Count}
+use Rattle.mixture.specs.declared.setting.Setting.the-variants.{Temperature, Entry, TdEntry, Size, Count, Tolerance}
 use Rattle.mixture.specs.declared.answers.Answer.the-variants.{Refused, Done, Value}
 use Rattle.mixture.specs.Lists.{written, padded, howMany}
 use Rattle.mixture.specs.Holdings.{Held, held}
@@ -83,8 +83,8 @@ afterLoad m h d = outcome (loadFault m d) m h (after (loadedMemory m d) (loadedH
 
 -- ---- setting
 
--- the setting makes the cell k, l stale: T every cell; an entry or td entry its own, an energy a_ii row i's; sizes and
--- counts none
+-- the setting makes the cell k, l stale: T every cell; an entry or td entry its own, an energy a_ii row i's; sizes, counts and
+-- the tolerance none
 unfoldable pub stales : Held → Setting → ℕ → ℕ → Bool
 stales d (Temperature T) k l = true
 stales d (Entry i j v) k l =
@@ -92,6 +92,7 @@ stales d (Entry i j v) k l =
 stales d (TdEntry i j p) k l = eqb k i && eqb l j
 stales d (Size i which v) k l = false
 stales d (Count i j v) k l = false
+stales d (Tolerance ε) k l = false
 
 -- the place c is that of a cell that the setting makes stale
 unfoldable pub stalesAt : Held → Setting → ℕ → Bool
@@ -124,6 +125,7 @@ tAfter (Entry i j v) u = u
 tAfter (TdEntry i j p) u = u
 tAfter (Size i which v) u = u
 tAfter (Count i j v) u = u
+tAfter (Tolerance ε) u = u
 
 unfoldable pub hasTAfter : Setting → Bool → Bool
 hasTAfter (Temperature T) b = true
@@ -131,9 +133,20 @@ hasTAfter (Entry i j v) b = b
 hasTAfter (TdEntry i j p) b = b
 hasTAfter (Size i which v) b = b
 hasTAfter (Count i j v) b = b
+hasTAfter (Tolerance ε) b = b
+
+-- the tolerance after a setting
+unfoldable pub toleranceAfter : Setting → Float → Float
+toleranceAfter (Temperature T) u = u
+toleranceAfter (Entry i j v) u = u
+toleranceAfter (TdEntry i j p) u = u
+toleranceAfter (Size i which v) u = u
+toleranceAfter (Count i j v) u = u
+toleranceAfter (Tolerance ε) u = ε
 
 abbrev pub setHead : Head → Setting → Head
-setHead h s = headWith h (tAfter s (h .t)) (hasTAfter s (h .«has_t»)) (h .x) (h .«has_x») (h .tolerance)
+setHead h s =
+    headWith h (tAfter s (h .t)) (hasTAfter s (h .«has_t»)) (h .x) (h .«has_x») (toleranceAfter s (h .tolerance))
 
 unfoldable pub afterSetting : Memory → Head → Setting → After
 afterSetting m h s = outcome (settingFault m h s) m h (after (setMemory m (dataIn m h) s) (setHead h s) Done)

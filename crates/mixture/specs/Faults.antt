@@ -10,12 +10,12 @@ use Rattle.arithmetic.specs.Floats.{+0}
 use Rattle.models.specs.Limits.{mostComponents, mostGroups, mostListed}
 use Rattle.models.specs.declared.answers.Quantity.{Quantity}
 use Rattle.models.specs.Answers.{first}
-use Rattle.models.specs.Faults.{mixFault, indexFault, between, allTo, dataFault}
+use Rattle.models.specs.Faults.{toleranceFault, mixFault, indexFault, between, allTo, dataFault}
 use Rattle.models.specs.Model.{byModel, isModel, ModelData}
 use Rattle.models.specs.Values.{start}
 use Rattle.mixture.specs.declared.head.Head.{Head}
 use Rattle.mixture.specs.declared.setting.Setting.{Setting}
-use Rattle.mixture.specs.declared.setting.Setting.the-variants.{Temperature, Entry, TdEntry, Size, Count}
+use Rattle.mixture.specs.declared.setting.Setting.the-variants.{Temperature, Entry, TdEntry, Size, Count, Tolerance}
 use Rattle.mixture.specs.Holdings.{Held, held}
 use Rattle.mixture.specs.Memory.{Memory, isShort}
 use Rattle.mixture.specs.Layout.{dataIn}
@@ -38,13 +38,14 @@ hasSize d i which = byModel (d .model) (below i (d .n) which 1) (below i (d .n) 
 unfoldable pub hasCount : Held → ℕ → ℕ → Bool
 hasCount d i j = byModel (d .model) false false false (below i (d .n) j (d .lists .length i))
 
--- a setting: 10, no such case or index for this model; 4, a count < 0 (-0 and NaN pass)
+-- a setting: 10, no such case or index for this model; 4, a count < 0 (-0 and NaN pass); 14, a tolerance out of range
 unfoldable pub caseFault : Held → Setting → ℕ
 caseFault d (Temperature T) = 0
 caseFault d (Entry i j v) = cond (hasEntry d i j) 0 10
 caseFault d (TdEntry i j p) = cond (hasTdEntry d i j) 0 10
 caseFault d (Size i which v) = cond (hasSize d i which) 0 10
 caseFault d (Count i j v) = cond (hasCount d i j) (cond (lt v +0) 4 0) 10
+caseFault d (Tolerance ε) = toleranceFault ε
 
 -- ---- on lent memory, with a head
 

@@ -11,7 +11,7 @@ use Rattle.models.specs.Values.{fiveAt, energies, volumes, rs, qs, taus, alphas
 use Rattle.models.specs.declared.model.Model.{Model}
 use Rattle.models.specs.Model.{byModel, ModelData}
 use Rattle.mixture.specs.declared.setting.Setting.{Setting}
-use Rattle.mixture.specs.declared.setting.Setting.the-variants.{Temperature, Entry, TdEntry, Size, Count}
+use Rattle.mixture.specs.declared.setting.Setting.the-variants.{Temperature, Entry, TdEntry, Size, Count, Tolerance}
 
 -- a model with n, ng, lists and values, by their names; counts stand in the lists
 pub record Held : Type 0 where
@@ -55,7 +55,7 @@ held d =
 
 -- ---- the names
 
--- a name: one of the five cases, and its indices
+-- a name: one of the six cases, and its indices
 pub record Name : Type 0 where
   pub case : ℕ
   pub i : ℕ
@@ -79,6 +79,9 @@ size i which = name 3 i which
 abbrev pub count : ℕ → ℕ → Name
 count i j = name 4 i j
 
+abbrev pub tolerance : Name
+tolerance = name 5 0 0
+
 abbrev pub same : Name → Name → Bool
 same a b = eqb (a .case) (b .case) && eqb (a .i) (b .i) && eqb (a .j) (b .j)
 
@@ -89,3 +92,4 @@ named (Entry i j v) = entry i j
 named (TdEntry i j p) = tdEntry i j
 named (Size i which v) = size i which
 named (Count i j v) = count i j
+named (Tolerance ε) = tolerance

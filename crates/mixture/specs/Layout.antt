@@ -8,7 +8,7 @@ use Rattle.models.specs.Values.{countsAt, start}
 use Rattle.mixture.specs.declared.head.Head.{Head}
 use Rattle.models.specs.Model.{byModel, modelOf, ModelData, modelData}
 use Rattle.mixture.specs.declared.setting.Setting.{Setting}
-use Rattle.mixture.specs.declared.setting.Setting.the-variants.{Temperature, Entry, TdEntry, Size, Count}
+use Rattle.mixture.specs.declared.setting.Setting.the-variants.{Temperature, Entry, TdEntry, Size, Count, Tolerance}
 use Rattle.mixture.specs.Holdings.{Held}
 use Rattle.mixture.specs.Cells.{width, isCell}
 use Rattle.mixture.specs.Memory.{Memory}
@@ -26,6 +26,7 @@ numbers (Entry i j v) = v ∷ []
 numbers (TdEntry i j p) = p .a ∷ p .b ∷ p .c ∷ p .d ∷ p .e ∷ []
 numbers (Size i which v) = v ∷ []
 numbers (Count i j v) = v ∷ []
+numbers (Tolerance ε) = []
 
 -- the place that they stand from
 unfoldable pub place : ModelData → Setting → ℕ
@@ -34,6 +35,7 @@ place d (Entry i j v) = byModel (d .model) (i * d .n + j) (i * d .n + j) (d .n *
 place d (TdEntry i j p) = byModel (d .model) 0 0 ((i * d .n + j) * 5) (d .ng + d .ng + (i * d .ng + j) * 5)
 place d (Size i which v) = byModel (d .model) (d .n * d .n + i) (d .n * d .n + (which * d .n + i)) 0 (which * d .ng + i)
 place d (Count i j v) = byModel (d .model) 0 0 0 (countsAt (d .ng) + (start (d .lens) i + j))
+place d (Tolerance ε) = 0
 
 -- ---- cells and marks
 

@@ -7,7 +7,7 @@ use lib.Dec.{eqb}
 use lib.ListN.{length}
 use Rattle.models.specs.Faults.{dataFault}
 use Rattle.mixture.specs.declared.setting.Setting.{Setting}
-use Rattle.mixture.specs.declared.setting.Setting.the-variants.{Temperature, Entry, TdEntry, Size, Count}
+use Rattle.mixture.specs.declared.setting.Setting.the-variants.{Temperature, Entry, TdEntry, Size, Count, Tolerance}
 use Rattle.mixture.specs.Lists.{howManyPairs}
 use Rattle.mixture.specs.Holdings.{Held, held, named}
 use Rattle.mixture.specs.Cells.{width, isCell}
@@ -48,13 +48,14 @@ abbrev pub CellsNumber : Type 0
 CellsNumber = (d : Held) → howManyPairs (width d) (width d) (isCell d) ≡ cellsNumber d
 
 -- T makes all cells stale; an entry its own, an energy a_ii the n - 1 of its row, NRTL's α_ii none; a td entry its own, NRTL's τ_ii
--- none; sizes and counts none
+-- none; sizes, counts and the tolerance none
 unfoldable pub stalesNumber : Held → Setting → ℕ
 stalesNumber d (Temperature T) = cellsNumber d
 stalesNumber d (Entry i j v) = cond (eqb i j) (byModel (d .model) (d .n - 1) (d .n - 1) 0 0) 1
 stalesNumber d (TdEntry i j p) = cond (eqb i j) (byModel (d .model) 0 0 0 1) 1
 stalesNumber d (Size i which v) = 0
 stalesNumber d (Count i j v) = 0
+stalesNumber d (Tolerance ε) = 0
 
 -- of a setting that the model takes
 abbrev pub StalesNumber : Type 0

@@ -166,7 +166,8 @@ fn list_fault(n: usize, lens: [u8; COMPONENTS], model: Model, i: usize, j: usize
     count_fault(&lens[..], k, i, j, v)
 }
 
-// 10: no such case or index for this model. 4: a count is below 0. The lent values don't count.
+// 10: no such case or index for this model. 4: a count is below 0. 14: a tolerance is out of range. The lent
+// values don't count.
 fn case_fault(head: Head, s: Setting) -> u8
     requires { ⌜ head .n ≤ mostComponents ⌝ }
     ensures { λ r. ⌜ ((m : Memory) → r ≡ caseFault (held (dataIn m head)) s) ⌝ }
@@ -191,6 +192,7 @@ fn case_fault(head: Head, s: Setting) -> u8
             let lens = head.lens;
             list_fault(head.n, lens, model, i, j, v)
         }
+        Setting::Tolerance(e) => models::faults::tolerance_fault(e),
     }
 }
 

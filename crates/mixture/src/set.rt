@@ -79,6 +79,7 @@ fn store_at(head: Head, s: Setting) -> usize
             let lens = head.lens;
             count_at(lens, head.ng, i, j)
         }
+        Setting::Tolerance(_) => 0,
     }
 }
 
@@ -105,6 +106,7 @@ fn put(s: Setting, at: usize, values: &mut [f64])
         Setting::Count(_, _, v) => {
             values[at] = v;
         }
+        Setting::Tolerance(_) => {}
     }
 }
 
@@ -160,6 +162,12 @@ fn block_of(model: Model, w: usize, s: Setting) -> Block
             left: 0,
             columns: 0,
         },
+        Setting::Tolerance(_) => Block {
+            top: 0,
+            rows: 0,
+            left: 0,
+            columns: 0,
+        },
     }
 }
 
@@ -188,6 +196,7 @@ fn t_after(head: Head, fault: u8, s: Setting) -> f64
         Setting::TdEntry(_, _, _) => head.t,
         Setting::Size(_, _, _) => head.t,
         Setting::Count(_, _, _) => head.t,
+        Setting::Tolerance(_) => head.t,
     }
 }
 
@@ -204,6 +213,24 @@ fn has_t_after(head: Head, fault: u8, s: Setting) -> bool
         Setting::TdEntry(_, _, _) => head.has_t,
         Setting::Size(_, _, _) => head.has_t,
         Setting::Count(_, _, _) => head.has_t,
+        Setting::Tolerance(_) => head.has_t,
+    }
+}
+
+// The head's tolerance after a setting that may have been declined.
+fn tolerance_after(head: Head, fault: u8, s: Setting) -> f64
+    ensures { λ r. ⌜ r ≡ cond (eqb fault 0) (setHead head s .tolerance) (head .tolerance) ⌝ }
+{
+    if fault != 0 {
+        return head.tolerance;
+    }
+    match s {
+        Setting::Temperature(_) => head.tolerance,
+        Setting::Entry(_, _, _) => head.tolerance,
+        Setting::TdEntry(_, _, _) => head.tolerance,
+        Setting::Size(_, _, _) => head.tolerance,
+        Setting::Count(_, _, _) => head.tolerance,
+        Setting::Tolerance(e) => e,
     }
 }
 
@@ -233,13 +260,14 @@ fn change(values: &mut [f64], cells: &[f64], marks: &mut [u8], head: Head, s: Se
     0
 }
 
-// The reply to a setting: the head with its T where that was set, and what it was declined for.
+// The reply to a setting: the head with its T or tolerance where that was set, and what it was declined for.
 fn reply_by(head: Head, fault: u8, s: Setting) -> Reply
     ensures { λ r. ⌜ r ≡ setReply fault head s ⌝ }
 {
     let mut after = head;
     after.t = t_after(head, fault, s);
     after.has_t = has_t_after(head, fault, s);
+    after.tolerance = tolerance_after(head, fault, s);
     Reply {
         head: after,
         answer: answer_by(fault),

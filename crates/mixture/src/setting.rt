@@ -1,4 +1,4 @@
-// A setting: one of five cases, each with its own f64.
+// A setting: one of six cases, each with its own f64.
 use arithmetic::TdParam;
 
 pub enum Setting {
@@ -11,4 +11,6 @@ pub enum Setting {
     Size(usize, usize, f64),
     // component i, list place j
     Count(usize, usize, f64),
+    // how far a sum of fractions may be off 1
+    Tolerance(f64),
 }

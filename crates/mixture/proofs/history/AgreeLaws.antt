@@ -13,7 +13,7 @@ use Rattle.models.specs.Values.{lists}
 use Rattle.models.specs.declared.model.Model.{Model}
 use Rattle.models.specs.declared.model.Model.the-variants.{Wilson, Uniquac, Nrtl, Unifac}
 use Rattle.mixture.specs.declared.setting.Setting.{Setting}
-use Rattle.mixture.specs.declared.setting.Setting.the-variants.{Temperature, Entry, TdEntry, Size, Count}
+use Rattle.mixture.specs.declared.setting.Setting.the-variants.{Temperature, Entry, TdEntry, Size, Count, Tolerance}
 use Rattle.mixture.specs.Holdings.{Held, held}
 use Rattle.mixture.specs.Cells.{width, isCell}
 use Rattle.models.specs.Model.{ModelData, byModel, sizeOf}
@@ -81,6 +81,7 @@ module _ (c d : Held) (a : Alike c d) where
   caseFault-same (TdEntry i j p) = rw (hasTdEntry-same i j)
   caseFault-same (Size i w v) = rw (hasSize-same i w)
   caseFault-same (Count i j v) = rw (hasCount-same i j)
+  caseFault-same (Tolerance ε) = refl
 
   pub width-same : width c ≡ width d
   unfolding width
@@ -131,6 +132,7 @@ set-alike (Entry i j v) d = values-alike d d (alike-refl d) _ _ _ _ _ _ _ _
 set-alike (TdEntry i j p) d = values-alike d d (alike-refl d) _ _ _ _ _ _ _ _
 set-alike (Size i w v) d = values-alike d d (alike-refl d) _ _ _ _ _ _ _ _
 set-alike (Count i j v) d = values-alike d d (alike-refl d) _ _ _ _ _ _ _ _
+set-alike (Tolerance ε) d = alike-refl d
 
 replaced-same : {A : Type 0} (f g : ℕ → ℕ → A) (i j : ℕ) (v : A) (r s : ℕ) → f r s ≡ g r s → replaced f i j v r s ≡ replaced g i j v r s
 unfolding replaced
@@ -145,6 +147,7 @@ module _ (c d : Held) (a : Agrees c d) where
   sets-alike (TdEntry i j p) = values-alike c d (a .alike) _ _ _ _ _ _ _ _
   sets-alike (Size i w v) = values-alike c d (a .alike) _ _ _ _ _ _ _ _
   sets-alike (Count i j v) = values-alike c d (a .alike) _ _ _ _ _ _ _ _
+  sets-alike (Tolerance ε) = a .alike
 
   pub set-agrees : (s : Setting) → Agrees (setIn s c) (setIn s d)
   unfolding setIn hasEntry hasTdEntry hasSize hasCount
@@ -181,6 +184,7 @@ module _ (c d : Held) (a : Agrees c d) where
         size = a .size;
         count = λ r s h. replaced-same (c .lists .count) (d .lists .count) i j v r s (a .count r s h);
       }
+  set-agrees (Tolerance ε) = a
 
 -- a store in the values is a setting of the holdings
 pub store-agrees : (d : ModelData) (s : Setting) → caseFault (held d) s ≡ 0 → sizeOf d ≤ length (d .values) → Agrees (held (stored d s)) (setIn s (held d))

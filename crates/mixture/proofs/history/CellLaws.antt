@@ -29,7 +29,7 @@ use Rattle.models.proofs.UniquacLaws.{uniquac-same}
 use Rattle.models.specs.declared.model.Model.{Model}
 use Rattle.models.specs.declared.model.Model.the-variants.{Wilson, Uniquac, Nrtl, Unifac}
 use Rattle.mixture.specs.declared.setting.Setting.{Setting}
-use Rattle.mixture.specs.declared.setting.Setting.the-variants.{Temperature, Entry, TdEntry, Size, Count}
+use Rattle.mixture.specs.declared.setting.Setting.the-variants.{Temperature, Entry, TdEntry, Size, Count, Tolerance}
 use Rattle.mixture.specs.Lists.{anyOf}
 use Rattle.mixture.specs.Holdings.{Held, temperature, entry, tdEntry, named}
 use Rattle.mixture.specs.Cells.{width, isCell, inputs}
@@ -139,6 +139,7 @@ exponential-still d (TdEntry r s p) T i j h = go (d .model) refl
     go Unifac e = rw e (rw (replaced-off (d .tdEntry) r s p i j h))
 exponential-still d (Size r w v) T i j h = refl
 exponential-still d (Count r s v) T i j h = refl
+exponential-still d (Tolerance ε) T i j h = refl
 
 -- nor T
 pub setT-still : (d : Held) (s : Setting) (i j : ℕ) (o : Option Float) → stales d s i j ≡ false → setT s o ≡ o
@@ -148,6 +149,7 @@ setT-still d (Entry r s v) i j o h = refl
 setT-still d (TdEntry r s p) i j o h = refl
 setT-still d (Size r w v) i j o h = refl
 setT-still d (Count r s v) i j o h = refl
+setT-still d (Tolerance ε) i j o h = refl
 
 -- ---- what is made stale is what has an input set
 
@@ -186,6 +188,7 @@ stales-inputs d (TdEntry r s p) i j f = go (d .model) refl (had (hasTdEntry d r 
     go Unifac e h = rw e (sym (or-false (eqb i r && eqb j s)))
 stales-inputs d (Size r w v) i j f = no-inputs (d .model) i j (Set (Size r w v)) refl (λ a b. refl) (λ a b. refl)
 stales-inputs d (Count r s v) i j f = no-inputs (d .model) i j (Set (Count r s v)) refl (λ a b. refl) (λ a b. refl)
+stales-inputs d (Tolerance ε) i j f = no-inputs (d .model) i j (Set (Tolerance ε)) refl (λ a b. refl) (λ a b. refl)
 
 -- a load loads an input of every cell
 pub load-inputs : (k : Model) (d : ModelData) (i j : ℕ) → anyOf (inputs k i j) (gives (Load d)) ≡ true

@@ -12,7 +12,7 @@ use Rattle.arithmetic.specs.declared.parameters.TdParam.{TdParam}
 use Rattle.arithmetic.proofs.Tests.{either, le-or}
 use Rattle.models.specs.declared.model.Model.{Model}
 use Rattle.models.specs.declared.model.Model.the-variants.{Wilson, Uniquac, Nrtl, Unifac}
-use Rattle.mixture.specs.declared.setting.Setting.the-variants.{Temperature, Entry, TdEntry, Size, Count}
+use Rattle.mixture.specs.declared.setting.Setting.the-variants.{Temperature, Entry, TdEntry, Size, Count, Tolerance}
 use Rattle.mixture.specs.Lists.{howMany, howManyPairs}
 use Rattle.mixture.specs.Holdings.{Held}
 use Rattle.mixture.specs.Cells.{width, isCell}
@@ -165,3 +165,4 @@ stales-number d (Entry i j v) f = entry-stales d i j v (had (hasEntry d i j) 0 f
 stales-number d (TdEntry i j p) f = td-stales d i j p (had (hasTdEntry d i j) 0 f)
 stales-number d (Size i which v) f = none-stale d
 stales-number d (Count i j v) f = none-stale d
+stales-number d (Tolerance ε) f = none-stale d

@@ -26,7 +26,7 @@ use Rattle.mixture.specs.declared.head.Head.{Head}
 use Rattle.models.specs.declared.model.Model.{Model}
 use Rattle.models.specs.declared.model.Model.the-variants.{Unifac}
 use Rattle.mixture.specs.declared.setting.Setting.{Setting}
-use Rattle.mixture.specs.declared.setting.Setting.the-variants.{Temperature, Entry, TdEntry, Size, Count}
+use Rattle.mixture.specs.declared.setting.Setting.the-variants.{Temperature, Entry, TdEntry, Size, Count, Tolerance}
 use Rattle.mixture.specs.declared.answers.Answer.{Answer}
 use Rattle.mixture.specs.declared.answers.Answer.the-variants.{Refused, Done, Value}
 use Rattle.mixture.specs.Answers.{numberOf, unless}
@@ -37,8 +37,8 @@ use Rattle.models.specs.Model.{ModelData, isModel, sizeOf}
 use Rattle.mixture.specs.Faults.{caseFault, memoryFault, inRange, headFault, loadFault, settingFault, fractionsFault, readyFault, queryFault}
 use Rattle.mixture.specs.Memory.{Memory, memory, leastValues, leastCells, leastMarks, After}
 use Rattle.mixture.specs.Layout.{dataIn, place, numbers, cellAt}
-use Rattle.mixture.specs.Calls.{outcome, noHead, afterOpen, loadedHead, loadedMemory, afterLoad, stales, stalesAt, setMemory, tAfter, hasTAfter, setHead, afterSetting, withFractions, afterFractions, exponential, valueBy, staleAt, worked, answered, afterQuery}
-use Rattle.mixture.specs.Book.{Mix, mix, Call, Open, Load, Set, Fractions, Query, Book, book, empty, setIn, setT, setModel, bookAfter, gives, touched, touchedCells, plain, having, settingAnswer, queryAnswer, bookAnswer, isQuery, accepted, since, bookAnswers}
+use Rattle.mixture.specs.Calls.{outcome, noHead, afterOpen, loadedHead, loadedMemory, afterLoad, stales, stalesAt, setMemory, tAfter, hasTAfter, toleranceAfter, setHead, afterSetting, withFractions, afterFractions, exponential, valueBy, staleAt, worked, answered, afterQuery}
+use Rattle.mixture.specs.Book.{Mix, mix, Call, Open, Load, Set, Fractions, Query, Book, book, empty, setIn, setT, setTolerance, setModel, bookAfter, gives, touched, touchedCells, plain, having, settingAnswer, queryAnswer, bookAnswer, isQuery, accepted, since, bookAnswers}
 use Rattle.mixture.specs.History.{afterCall, answers, History}
 use Rattle.mixture.proofs.ListLaws.{never, or-none, length-written, getD-written, howMany-rows, howManyPairs-same}
 use Rattle.mixture.proofs.PlaceLaws.{both, nought}
@@ -228,12 +228,23 @@ step-load m h b past d k =
 -- ---- setting
 
 set-keptT : (h : Head) (s : Setting) (T : Option Float) → KeptT T h → KeptT (setT s T) (setHead h s)
-unfolding tAfter hasTAfter setT
+unfolding tAfter hasTAfter toleranceAfter setT
 set-keptT h (Temperature U) T k = (refl, refl)
 set-keptT h (Entry i j v) T k = k
 set-keptT h (TdEntry i j p) T k = k
 set-keptT h (Size i w v) T k = k
 set-keptT h (Count i j v) T k = k
+set-keptT h (Tolerance ε) none k = k
+set-keptT h (Tolerance ε) (some T) k = k
+
+set-tolerance : (h : Head) (s : Setting) (ε : Float) → h .tolerance ≡ ε → setHead h s .tolerance ≡ setTolerance s ε
+unfolding toleranceAfter setTolerance
+set-tolerance h (Temperature T) ε e = e
+set-tolerance h (Entry i j v) ε e = e
+set-tolerance h (TdEntry i j p) ε e = e
+set-tolerance h (Size i w v) ε e = e
+set-tolerance h (Count i j v) ε e = e
+set-tolerance h (Tolerance δ) ε e = refl
 
 set-keptX : (h : Head) (s : Setting) (x : Option Mix) (n : ℕ) → KeptX x n h → KeptX x n (setHead h s)
 set-keptX h s none n k = k
@@ -250,6 +261,7 @@ stales-same c d a (Entry r q v) i j = rw (a .model)
 stales-same c d a (TdEntry r q p) i j = refl
 stales-same c d a (Size r w v) i j = refl
 stales-same c d a (Count r q v) i j = refl
+stales-same c d a (Tolerance ε) i j = refl
 
 module _ (m : Memory) (h : Head) (d : Held) (T : Option Float) (x : Option Mix) (ε : Float) (past : List Call) (l : Long m) (k : KeptModel m h d T x ε past) where
   abbrev e : ModelData
@@ -290,7 +302,7 @@ module _ (m : Memory) (h : Head) (d : Held) (T : Option Float) (x : Option Mix) 
       let b = or-none (stales d s i j) (touched (d .model) (since past) i j) (ap (λ (z : Bool). z || touched (d .model) (since past) i j) (stales-inputs d s i j f) ∙ sym (touched-more (d .model) past (Set s) refl i j) ∙ t) in
       k .cells i j hi hj c (b .1) U (sym (setT-still d s i j T (b .0)) ∙ p) ∙ sym (exponential-still d s U i j (b .0))
 
-  set-kept : (s : Setting) → caseFault d s ≡ 0 → KeptModel (setMemory m e s) (setHead h s) (setIn s d) (setT s T) x ε (Set s ∷ past)
+  set-kept : (s : Setting) → caseFault d s ≡ 0 → KeptModel (setMemory m e s) (setHead h s) (setIn s d) (setT s T) x (setTolerance s ε) (Set s ∷ past)
   set-kept s f =
       let a = set-alike s d in
       let w : width d ≡ width (setIn s d) = width-same d (setIn s d) a in
@@ -300,7 +312,7 @@ module _ (m : Memory) (h : Head) (d : Held) (T : Option Float) (x : Option Mix) 
         agrees = set-agree s f;
         keptT = set-keptT h s T (k .keptT);
         keptX = subst (λ (n : ℕ). KeptX x n (setHead h s)) (a .n) (set-keptX h s x (d .n) (k .keptX));
-        tolerance = k .tolerance;
+        tolerance = set-tolerance h s ε (k .tolerance);
         marks = λ i j hi hj c. rw (← w, ← (a .model)) (set-marks s f i j (rw w hi) (rw w hj) (isCell-same d (setIn s d) a i j ∙ c));
         cells = λ i j hi hj c t U p. rw (← w) (set-cells s f i j (rw w hi) (rw w hj) (isCell-same d (setIn s d) a i j ∙ c) (rw (a .model) t) U p);
       }

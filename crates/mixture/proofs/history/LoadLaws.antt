@@ -15,7 +15,7 @@ use Rattle.models.specs.Values.{fiveAt, start, lists}
 use Rattle.models.specs.declared.model.Model.{Model}
 use Rattle.models.specs.declared.model.Model.the-variants.{Wilson, Uniquac, Nrtl, Unifac}
 use Rattle.mixture.specs.declared.setting.Setting.{Setting}
-use Rattle.mixture.specs.declared.setting.Setting.the-variants.{Temperature, Entry, TdEntry, Size, Count}
+use Rattle.mixture.specs.declared.setting.Setting.the-variants.{Temperature, Entry, TdEntry, Size, Count, Tolerance}
 use Rattle.mixture.specs.Lists.{padded}
 use Rattle.mixture.specs.Holdings.{held}
 use Rattle.models.specs.Model.{ModelData, byModel, modelOf, isModel, sizeOf}
@@ -36,6 +36,7 @@ module _ (e d : ModelData) (alike : Alike (held e) (held d)) (starts : d .model 
   place-same (TdEntry i j p) = rw (alike .model, alike .n) (at-unifac (d .model) _ _ _ (λ q. rw (alike .groups q .ng)))
   place-same (Size i w v) = rw (alike .model, alike .n) (at-unifac (d .model) _ _ _ (λ q. rw (alike .groups q .ng)))
   place-same (Count i j v) = rw (alike .model) (at-unifac (d .model) _ _ _ (λ q. rw (alike .groups q .ng, starts q i)))
+  place-same (Tolerance ε) = refl
 
   module _ (same : (p : ℕ) → p < sizeOf d → at (e .values) p ≡ at (d .values) p) (eroom : sizeOf e ≤ length (e .values)) (droom : sizeOf d ≤ length (d .values)) where
     here : (s : Setting) → place d s + 1 ≤ sizeOf d → at (e .values) (place e s) ≡ at (d .values) (place d s)

@@ -17,7 +17,7 @@ use Rattle.arithmetic.specs.declared.parameters.TdParam.{TdParam}
 use Rattle.arithmetic.proofs.Tests.{either}
 use Rattle.models.specs.Values.{fiveAt, countsAt, start, lists}
 use Rattle.mixture.specs.declared.setting.Setting.{Setting}
-use Rattle.mixture.specs.declared.setting.Setting.the-variants.{Temperature, Entry, TdEntry, Size, Count}
+use Rattle.mixture.specs.declared.setting.Setting.the-variants.{Temperature, Entry, TdEntry, Size, Count, Tolerance}
 use Rattle.mixture.specs.Holdings.{held, entries, tdEntries, sizes}
 use Rattle.models.specs.Model.{ModelData, modelData, sizeOf}
 use Rattle.mixture.specs.Faults.{hasEntry, hasTdEntry, hasSize, hasCount, caseFault}
@@ -82,6 +82,7 @@ module _ (d : ModelData) (room : sizeOf d ≤ length (d .values)) where
       let g = had (hasSize (held d) r w) 0 f in
       entry-kept (Size r w a) i j h (inl (entry-size d (d .model) i j r w nan a h g))
   entry-after (Count r s a) f i j h = entry-count d (d .model) i j r s h (had (hasCount (held d) r s) _ f)
+  entry-after (Tolerance ε) f i j h = refl
 
   td-stored : (r s : ℕ) (p : TdParam) → hasTdEntry (held d) r s ≡ true → (i j : ℕ) → hasTdEntry (held d) i j ≡ true
       → (eqb i r ≡ true) × (eqb j s ≡ true) → tdEntries (stored d (TdEntry r s p)) i j ≡ p
@@ -110,6 +111,7 @@ module _ (d : ModelData) (room : sizeOf d ≤ length (d .values)) where
   td-after (Count r s a) f i j h =
       let g = had (hasCount (held d) r s) _ f in
       td-kept (Count r s a) i j h (inl (td-count d (d .model) i j r s (fiveAt [] 0) a h g))
+  td-after (Tolerance ε) f i j h = refl
 
   pub size-after : (s : Setting) → caseFault (held d) s ≡ 0 → (i w : ℕ) → hasSize (held d) i w ≡ true
       → sizes (stored d s) i w ≡ setIn s (held d) .size i w
@@ -129,6 +131,7 @@ module _ (d : ModelData) (room : sizeOf d ≤ length (d .values)) where
   size-after (Count r s a) f i w h =
       let g = had (hasCount (held d) r s) _ f in
       size-kept (Count r s a) i w h (inl (size-count d (d .model) i w r s nan a h g))
+  size-after (Tolerance ε) f i w h = refl
 
   pub count-after : (s : Setting) → caseFault (held d) s ≡ 0 → (i j : ℕ) → hasCount (held d) i j ≡ true
       → countIn (stored d s) i j ≡ setIn s (held d) .lists .count i j
@@ -146,3 +149,4 @@ module _ (d : ModelData) (room : sizeOf d ≤ length (d .values)) where
       count-reads (stored d (Count r s a)) (d .model) i j a h (roomy (Count r s a))
       ∙ at-set (d .values) (place d (Count r s a)) (place d (Count i j a)) a (omega (arith, count-in d (d .model) r s a g))
       ∙ rw (count-places d (d .model) i j r s a a h g, count-reads d (d .model) i j a h room)
+  count-after (Tolerance ε) f i j h = refl

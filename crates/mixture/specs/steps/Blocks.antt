@@ -12,7 +12,7 @@ use Rattle.models.specs.Values.{start}
 use Rattle.mixture.specs.declared.head.Head.{Head}
 use Rattle.models.specs.declared.model.Model.{Model}
 use Rattle.mixture.specs.declared.setting.Setting.{Setting}
-use Rattle.mixture.specs.declared.setting.Setting.the-variants.{Temperature, Entry, TdEntry, Size, Count}
+use Rattle.mixture.specs.declared.setting.Setting.the-variants.{Temperature, Entry, TdEntry, Size, Count, Tolerance}
 use Rattle.mixture.specs.declared.stale.Block.{Block}
 use Rattle.mixture.specs.declared.answers.Reply.{Reply}
 use Rattle.mixture.specs.declared.answers.Answer.the-variants.{Done}
@@ -61,6 +61,7 @@ blockOf model w (Entry i j v) = entryBlock model w i j
 blockOf model w (TdEntry i j p) = block i 1 j 1
 blockOf model w (Size i which v) = block 0 0 0 0
 blockOf model w (Count i j v) = block 0 0 0 0
+blockOf model w (Tolerance ε) = block 0 0 0 0
 
 -- what a head tells without memory
 abbrev pub headOnly : Head → ModelData

@@ -1,6 +1,6 @@
 -- What a setting is declined for, case by case: each by its limits in the model.
 use borrow.Author.Needs.{needs}
-use Rattle.mixture.proofs.SetLaws.{temperature-case, entry-case, td-case, size-case, count-case}
+use Rattle.mixture.proofs.SetLaws.{temperature-case, tolerance-case, entry-case, td-case, size-case, count-case}
 use Rattle.mixture.specs.declared.head.Head.{Head}
 use Rattle.mixture.proofs.faults.case_fault.Statement.{statement}
 use Rattle.mixture.proofs.faults.case_fault.Tie as tie
@@ -23,6 +23,9 @@ returns-4 c m = let top = c .before .before .before .before .before in size-case
 returns-5 : tie.Need-returns-5
 returns-5 c m = let top = c .before .before .before .before .before in count-case m (head top) (top .before .model-of .ensures) (top .table-width .ensures) (c .before .before .before .s4 .given .1) (c .list-fault .ensures)
 
+returns-6 : tie.Need-returns-6
+returns-6 c m = let top = c .before .before .before .before in tolerance-case m (head top) (top .before .model-of .ensures) (top .table-width .ensures) (c .before .before .s5 .given .1) (c .tolerance-fault .ensures)
+
 pub case-fault-spec : {M : Type 1} → statement M
 case-fault-spec =
     tie.close
@@ -41,8 +44,11 @@ case-fault-spec =
     (λ c κs. tt)
     (λ c. search needs)
     (λ c κs. search needs)
+    (λ c. search needs)
+    (λ c κs. tt)
     returns
     returns-2
     returns-3
     returns-4
-    returns-5)
+    returns-5
+    returns-6)

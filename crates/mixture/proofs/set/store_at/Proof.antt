@@ -1,6 +1,6 @@
 -- Where a setting's numbers stand, case by case: the model has what the setting names, so its place is within the model's tables.
 use borrow.Author.Needs.{needs}
-use Rattle.mixture.proofs.SetLaws.{entry-within, entry-place, td-within, td-place, size-within, size-place, count-within, count-place, temperature-place}
+use Rattle.mixture.proofs.SetLaws.{entry-within, entry-place, td-within, td-place, size-within, size-place, count-within, count-place, temperature-place, tolerance-place}
 use Rattle.mixture.proofs.set.store_at.Statement.{statement}
 use Rattle.mixture.proofs.set.store_at.Tie as tie
 
@@ -34,6 +34,9 @@ returns-4 c = let top = c .before .before .before .before in size-place (entry t
 returns-5 : tie.Need-returns-5
 returns-5 c = let top = c .before .before .before .before .before in count-place (entry top .args .head) (entry top .pre) (c .before .before .before .s4 .given .1) (c .count-at .ensures)
 
+returns-6 : tie.Need-returns-6
+returns-6 c = tolerance-place (entry (c .before .before) .args .head) (c .enum-told2 .given .1)
+
 pub store-at-spec : {M : Type 1} → statement M
 store-at-spec =
     tie.close
@@ -49,8 +52,10 @@ store-at-spec =
     size-at-requires
     (λ c. search needs)
     count-at-requires
+    (λ c. search needs)
     returns
     returns-2
     returns-3
     returns-4
-    returns-5)
+    returns-5
+    returns-6)
