@@ -1,11 +1,13 @@
 //! Document 01's book: told the calls alone, it holds a model's numbers by name, and asks the original afresh for
-//! every query. It knows no memory, no cells and no marks: the cells of a count are those of which an input was
-//! loaded or set since the last answered query.
+//! every query. Where the original refuses the fractions, the port's plain call is asked, with the tolerance under
+//! which they were accepted. It knows no memory, no cells and no marks: the cells of a count are those of which an
+//! input was loaded or set since the last answered query.
 
 use crate::calls::{Call, Load, Name};
 use crate::case::{Answer, Case, Quantity, NRTL, UNIFAC, UNIQUAC, WILSON};
+use crate::models::rattle;
 use crate::rust;
-use crate::tolerance::USUAL;
+use crate::tolerance::{self, by_source, is_off, naive, tolerance_fault, USUAL};
 use std::collections::{BTreeMap, BTreeSet};
 
 /// What the book answers: a number, nothing, or the bits of a value with the count.
@@ -24,7 +26,9 @@ struct Held {
 pub struct Book {
     held: Option<Held>,
     t: Option<f64>,
-    x: Option<Vec<f64>>,
+    /// Fractions, and the tolerance under which they were accepted.
+    x: Option<(Vec<f64>, f64)>,
+    tolerance: f64,
     /// The names loaded or set since the last answered query.
     touched: BTreeSet<Name>,
 }
@@ -98,12 +102,11 @@ pub fn load_fault(load: &Load) -> u32 {
     0
 }
 
-/// Fractions: 5 and 6 by the original's own check; 7, length not n.
-pub fn composition_fault(x: &[f64], n: usize) -> u32 {
-    match original::check_composition(x) {
-        Err(error) => rust::number(error),
-        Ok(()) if x.len() != n => 7,
-        Ok(()) => 0,
+/// Fractions: 5 and 6 with the tolerance, which may be any float; 7, length not n.
+pub fn composition_fault(tolerance: f64, x: &[f64], n: usize) -> u32 {
+    match tolerance::composition_fault(tolerance, x) {
+        0 if x.len() != n => 7,
+        number => number,
     }
 }
 
@@ -114,6 +117,32 @@ impl Held {
         Self {
             load: load.clone(),
             numbers: names(load).into_iter().map(&mut take).collect(),
+        }
+    }
+
+    /// The plain call with what is held.
+    fn plain(&self, t: f64, tolerance: f64, x: &[f64], quantity: Quantity) -> Case {
+        let Load {
+            model,
+            n,
+            ng,
+            lens,
+            groups,
+            ..
+        } = self.load.clone();
+        let names = names(&self.load).into_iter();
+        let values = names.flat_map(|name| self.numbers[&name].clone());
+        Case {
+            model,
+            n,
+            ng,
+            lens,
+            groups,
+            values: values.collect::<Vec<f64>>().into(),
+            t,
+            tolerance,
+            x: x.to_vec().into(),
+            quantity,
         }
     }
 
@@ -146,6 +175,7 @@ impl Book {
                 *self = Self {
                     held: Some(held),
                     touched: std::mem::take(&mut self.touched),
+                    tolerance: USUAL,
                     ..Self::default()
                 };
                 Told::Done
@@ -160,6 +190,11 @@ impl Book {
         };
         if name == Name::Temperature {
             self.t = Some(numbers[0]);
+        } else if name == Name::Tolerance {
+            match tolerance_fault(numbers[0]) {
+                0 => self.tolerance = numbers[0],
+                number => return Told::Refused(number),
+            }
         } else {
             let Some(old) = held.numbers.get_mut(&name) else {
                 return Told::Refused(10);
@@ -177,9 +212,9 @@ impl Book {
         let Some(held) = &self.held else {
             return Told::Refused(8);
         };
-        match composition_fault(x, held.load.n) {
+        match composition_fault(self.tolerance, x, held.load.n) {
             0 => {
-                self.x = Some(x.to_vec());
+                self.x = Some((x.to_vec(), self.tolerance));
                 Told::Done
             }
             number => Told::Refused(number),
@@ -190,33 +225,15 @@ impl Book {
         let Some(held) = &self.held else {
             return Told::Refused(8);
         };
-        let (Some(t), Some(x)) = (self.t, &self.x) else {
+        let (Some(t), Some((x, under))) = (self.t, &self.x) else {
             return Told::Refused(9);
         };
-        let Load {
-            model,
-            n,
-            ng,
-            lens,
-            groups,
-            ..
-        } = held.load.clone();
-        let values = names(&held.load)
-            .into_iter()
-            .flat_map(|name| held.numbers[&name].clone());
-        let plain = Case {
-            model,
-            n,
-            ng,
-            lens,
-            groups,
-            values: values.collect::<Vec<f64>>().into(),
-            t,
-            tolerance: USUAL,
-            x: x.clone().into(),
-            quantity,
+        let plain = held.plain(t, *under, x, quantity);
+        let answer = match by_source(x) {
+            0 => rust::asked(&plain),
+            _ => rattle(&plain, 0).0,
         };
-        match rust::asked(&plain) {
+        match answer {
             Answer::Refused(number) => Told::Refused(number),
             Answer::Value(bits) => {
                 let is_touched =
@@ -226,6 +243,15 @@ impl Book {
                 Told::Value(bits, count)
             }
         }
+    }
+
+    /// Whether it holds fractions that the original refuses, and not just at its edge; and whether the present
+    /// tolerance refuses them too.
+    pub fn has_off(&self) -> (bool, bool) {
+        let x = self.x.as_ref().map(|(x, _)| x);
+        let off = x.filter(|x| is_off(x));
+        let refused = off.filter(|x| naive(self.tolerance, x) != 0);
+        (off.is_some(), refused.is_some())
     }
 
     /// Tells the book of a call whose slices aren't short.

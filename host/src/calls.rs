@@ -36,6 +36,7 @@ impl Lent {
 #[derive(Clone, Copy, Debug, PartialEq, Eq, PartialOrd, Ord)]
 pub enum Name {
     Temperature,
+    Tolerance,
     Entry(usize, usize),
     TdEntry(usize, usize),
     Size(usize, usize),
@@ -88,6 +89,7 @@ pub struct Head {
     pub x: [f64; 12],
     pub has_t: bool,
     pub has_x: bool,
+    pub tolerance: f64,
 }
 
 impl Head {
@@ -103,6 +105,7 @@ impl Head {
             x: [0.0; 12],
             has_t: false,
             has_x: false,
+            tolerance: 0.0,
         }
     }
 }
@@ -173,6 +176,7 @@ fn put_call(script: &mut Vec<u8>, lent: Lent, call: &Call) {
                 Name::TdEntry(i, j) => [2, i, j],
                 Name::Size(i, which) => [3, i, which],
                 Name::Count(i, j) => [4, i, j],
+                Name::Tolerance => [5, 0, 0],
             };
             put(script, kind, lent, abc, none, numbers);
         }
@@ -200,7 +204,7 @@ impl Step {
                 let mut lens = head.lens.to_vec();
                 lens.extend([head.has_t, head.has_x].map(u8::from));
                 let mut floats = head.x.to_vec();
-                floats.push(head.t);
+                floats.extend([head.t, head.tolerance]);
                 let abc = [head.model.into(), head.n, head.ng];
                 put(script, 1, WHOLE, abc, [&lens, &head.groups], &floats);
             }
@@ -245,12 +249,17 @@ impl fmt::Display for Head {
             x,
             has_t,
             has_x,
+            tolerance,
         } = self;
         write!(
             f,
             "head of model {model}, n {n}, ng {ng}, lens {lens:?}, groups {groups:?}, "
         )?;
-        write!(f, "T {t:e} (set: {has_t}), fractions {x:?} (set: {has_x})")
+        write!(
+            f,
+            "T {t:e} (set: {has_t}), fractions {x:?} (set: {has_x}), "
+        )?;
+        write!(f, "tolerance {tolerance:e}")
     }
 }
 

@@ -9,7 +9,7 @@ impl Steps {
     /// The head with another number in one field.
     fn altered(&mut self, mut head: Head) -> Head {
         let (i, k) = (self.below(head.n.clamp(1, 12)), self.below(144));
-        match self.below(10) {
+        match self.below(11) {
             0 => head.model = self.any(&[0, 1, 2, 3, 4, 5, 255]),
             1 => head.n = self.any(&[0, 1, 2, 11, 12, 13, 256, usize::MAX]),
             2 => head.ng = self.any(&[0, 1, 2, 31, 32, 33, 256, usize::MAX]),
@@ -18,6 +18,7 @@ impl Steps {
             6 => head.t = self.number(220.0, 650.0),
             7 => head.x[i] = self.float(),
             8 => head.has_t = !head.has_t,
+            9 => head.tolerance = self.float(),
             _ => {
                 let x = self.fractions(head.n);
                 let n = x.len().min(12);
@@ -37,6 +38,7 @@ impl Steps {
         head.t = self.float();
         head.x.fill_with(|| self.float());
         (head.has_t, head.has_x) = (self.one_in(2), self.one_in(2));
+        head.tolerance = self.float();
         head
     }
 

@@ -1,9 +1,10 @@
 //! Random histories of calls, run by the program `histories` and held line by line against the book and the model
 //! of the memory: every answer, and a digest of the whole memory and the head after every step.
 
-use crate::calls::{Step, CALLS};
+use crate::calls::{Call, Name, Step, CALLS};
 use crate::case::NAMES;
 use crate::history::{Expected, History, Reference, Turn};
+use crate::tolerance::{by_source, is_off, naive, tolerance_fault, WIDEST};
 use std::io::{self, Write};
 use std::path::Path;
 use std::process::{Command, Stdio};
@@ -11,11 +12,25 @@ use std::process::{Command, Stdio};
 /// How many steps a history has.
 const STEPS: usize = 400;
 
-/// What came up: answers by call and number (0 where it was accepted), values by model, and kinds of values.
+/// What comes up of tolerances.
+const TOLERANCES: [&str; 9] = [
+    "fractions accepted that are off by 2e-6 to 1e-3",
+    "values on these",
+    "values on these after the tolerance was narrowed",
+    "fractions refused 6 that are off by as much",
+    "fractions refused 6 that the Rust accepts",
+    "fractions off by more than 1e-3 accepted by a tolerance that no call sets",
+    "fractions refused 6 by one that the Rust accepts",
+    "tolerances refused 1 that are 14 too",
+    "tolerances refused 8 that are 14 too",
+];
+
+/// What came up: answers by call and number (0 where it was accepted), values by model, kinds of values, and
+/// `TOLERANCES` by place.
 #[derive(Default)]
 struct Tally {
     calls: usize,
-    answers: [[usize; 11]; 5],
+    answers: [[usize; 15]; 5],
     values: [usize; 4],
     worked: usize,
     infinite: usize,
@@ -23,9 +38,36 @@ struct Tally {
     put_in_place: usize,
     on_other_heads: usize,
     unknown: usize,
+    tolerances: [usize; 9],
 }
 
 impl Tally {
+    /// Adds a call that answers with the number, 0 where it was accepted, to `tolerances`.
+    fn add_tolerance(&mut self, turn: &Turn, call: &Call, number: u32) {
+        let (accepted, off) = (number == 0, number == 6);
+        let unset = tolerance_fault(turn.tolerance) != 0;
+        let classes = match call {
+            Call::Fractions(x) => vec![
+                (0, accepted && turn.by_book && is_off(x)),
+                (3, off && turn.by_book && is_off(x)),
+                (4, off && turn.by_book && by_source(x) == 0),
+                (5, accepted && unset && naive(WIDEST, x) != 0),
+                (6, off && unset && by_source(x) == 0),
+            ],
+            Call::Query(_) => vec![
+                (1, accepted && turn.has_off.0),
+                (2, accepted && turn.has_off.1),
+            ],
+            Call::Set(Name::Tolerance, v) if tolerance_fault(v[0]) != 0 => {
+                vec![(7, number == 1), (8, number == 8)]
+            }
+            _ => Vec::new(),
+        };
+        for (class, is) in classes {
+            self.tolerances[class] += usize::from(is);
+        }
+    }
+
     fn add_value(&mut self, turn: &Turn, value: Option<u64>, count: usize) {
         self.values[turn.model - 1] += 1;
         self.worked += count;
@@ -53,14 +95,15 @@ impl Tally {
             }
         };
         self.answers[call.kind()][number as usize] += 1;
+        self.add_tolerance(turn, call, number);
     }
 
-    /// The calls and numbers of document 01, "What each call declines", that never came up.
+    /// The calls and numbers of document 01, "What each call declines", and of document 02 that never came up.
     fn missing(&self) -> Vec<String> {
         let declined: [&[usize]; 5] = [
             &[0, 1],
             &[0, 1, 2, 3, 4],
-            &[0, 1, 8, 10, 4],
+            &[0, 1, 8, 10, 14, 4],
             &[0, 1, 8, 5, 6, 7],
             &[0, 1, 8, 9, 7],
         ];
@@ -69,6 +112,12 @@ impl Tally {
             let absent = numbers.iter().filter(|number| answers[**number] == 0);
             missing.extend(absent.map(|number| format!("{name} {number}")));
         }
+        let absent = TOLERANCES.iter().zip(self.tolerances);
+        missing.extend(
+            absent
+                .filter(|class| class.1 == 0)
+                .map(|class| class.0.to_string()),
+        );
         missing
     }
 
@@ -111,6 +160,9 @@ impl Tally {
         println!(
             "  of these, {unknown} that no call of the original gives: held by count and memory"
         );
+        for (class, count) in TOLERANCES.iter().zip(self.tolerances) {
+            println!("  {count} {class}");
+        }
     }
 }
 
@@ -187,13 +239,15 @@ pub fn compare_all(program: &Path, calls: usize, seed: u64) -> io::Result<bool> 
     Ok(differ == 0 && missing.is_empty())
 }
 
-/// Whether every number from 1 to 10 comes up.
+/// Whether every number of the mixture's calls comes up, and a value on fractions that the tolerance, narrowed,
+/// refuses.
 fn has_all(history: &History) -> bool {
     let refused = |number| {
         let is = |turn: &Turn| matches!(turn.expected, Expected::Refused(k) if k == number);
         history.turns.iter().any(is)
     };
-    (1..=10).all(refused)
+    let narrowed = |turn: &Turn| matches!(turn.expected, Expected::Value(..)) && turn.has_off.1;
+    (1..=10).chain([14]).all(refused) && history.turns.iter().any(narrowed)
 }
 
 /// Writes a short history as the script `stdin`, and as `stdout` what the program has to write for it.

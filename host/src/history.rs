@@ -2,7 +2,7 @@
 //! memory where the book has no say.
 
 use crate::book::{Book, Told};
-use crate::calls::{Call, Lent, Step};
+use crate::calls::{Call, Head, Lent, Step};
 use crate::case::Answer;
 use crate::memory::{Memory, Outcome};
 use crate::rust;
@@ -140,9 +140,12 @@ pub struct Turn {
     pub step: Step,
     pub expected: Expected,
     pub digest: u64,
-    /// The head's model before it, and whether a book told the answer.
+    /// The head's model and tolerance before it, and whether a book told the answer.
     pub model: usize,
+    pub tolerance: f64,
     pub by_book: bool,
+    /// Of the book after it: see `Book::has_off`.
+    pub has_off: (bool, bool),
 }
 
 pub struct History {
@@ -152,14 +155,19 @@ pub struct History {
 
 impl History {
     fn push(&mut self, step: Step) {
-        let model = self.reference.memory.head.model.into();
+        let Head {
+            model, tolerance, ..
+        } = self.reference.memory.head;
         let expected = self.reference.step(&step);
+        let book = self.reference.book.as_ref();
         self.turns.push(Turn {
             step,
             expected,
             digest: self.reference.memory.digest(),
-            model,
-            by_book: self.reference.book.is_some(),
+            model: model.into(),
+            tolerance,
+            by_book: book.is_some(),
+            has_off: book.map_or((false, false), Book::has_off),
         });
     }
 

@@ -5,7 +5,7 @@ use crate::book::{composition_fault, load_fault};
 use crate::calls::{Call, Head, Lent, Load, Name, WHOLE};
 use crate::case::{Case, Quantity, NRTL, UNIFAC, UNIQUAC, WILSON};
 use crate::compare::bits;
-use crate::tolerance::USUAL;
+use crate::tolerance::{tolerance_fault, USUAL};
 use original::parameters::TdParam;
 use tpt_thermo_core::quantities::Temperature;
 
@@ -56,6 +56,7 @@ impl Memory {
             .chain(lists)
             .chain(numbers)
             .chain([head.has_t.into(), head.has_x.into()])
+            .chain([bits(head.tolerance)])
             .fold(0, word)
     }
 
@@ -162,7 +163,7 @@ impl Memory {
             (_, Name::Temperature) => all.collect(),
             (WILSON | UNIQUAC, Name::Entry(i, j)) if i == j => all.filter(|c| c.0 == i).collect(),
             (_, Name::Entry(i, j) | Name::TdEntry(i, j)) => all.filter(|c| *c == (i, j)).collect(),
-            (_, Name::Size(..) | Name::Count(..)) => Vec::new(),
+            (_, Name::Size(..) | Name::Count(..) | Name::Tolerance) => Vec::new(),
         }
     }
 
@@ -189,7 +190,7 @@ impl Memory {
         })
     }
 
-    /// The plain call with the values, T and fractions that the head says.
+    /// The plain call with the values, T and fractions that the head says, and the original's tolerance.
     fn plain(&self, quantity: Quantity) -> Case {
         let Head {
             n,
@@ -221,6 +222,7 @@ impl Memory {
     fn load(&mut self, load: &Load) {
         self.values[..load.values.len()].copy_from_slice(&load.values);
         self.head = Head::fresh(load.model as u8, load.n);
+        self.head.tolerance = USUAL;
         if load.model == UNIFAC {
             self.head.ng = load.ng;
             self.head.lens[..load.lens.len()].copy_from_slice(&load.lens);
@@ -229,10 +231,11 @@ impl Memory {
         self.write_stale(&self.all_cells());
     }
 
-    /// 10, and 4 for a count.
+    /// 10, and 4 for a count; 14 for a tolerance.
     fn setting_fault(&self, name: Name, numbers: &[f64]) -> u32 {
         match name {
             Name::Temperature => 0,
+            Name::Tolerance => tolerance_fault(numbers[0]),
             _ if self.place(name).is_none() => 10,
             Name::Count(..) if numbers[0] < 0.0 => 4,
             _ => 0,
@@ -240,9 +243,10 @@ impl Memory {
     }
 
     fn set(&mut self, name: Name, numbers: &[f64]) {
-        match self.place(name) {
-            Some(place) => self.values[place..place + numbers.len()].copy_from_slice(numbers),
-            None => (self.head.t, self.head.has_t) = (numbers[0], true),
+        match (name, self.place(name)) {
+            (_, Some(place)) => self.values[place..place + numbers.len()].copy_from_slice(numbers),
+            (Name::Tolerance, _) => self.head.tolerance = numbers[0],
+            _ => (self.head.t, self.head.has_t) = (numbers[0], true),
         }
         self.write_stale(&self.staled_by(name));
     }
@@ -282,7 +286,7 @@ impl Memory {
             Call::Open => 0,
             Call::Load(load) => load_fault(load),
             Call::Set(name, numbers) => self.setting_fault(*name, numbers),
-            Call::Fractions(x) => composition_fault(x, self.head.n),
+            Call::Fractions(x) => composition_fault(self.head.tolerance, x, self.head.n),
             Call::Query(quantity) => self.query_fault(*quantity),
         }
     }

@@ -7,6 +7,7 @@ use crate::cases::{Draw, Sizes};
 use crate::inputs::special;
 use crate::memory::Memory;
 use crate::random::Random;
+use crate::tolerance::{is_usual, USUAL};
 
 pub struct Steps {
     random: Random,
@@ -159,6 +160,15 @@ impl Steps {
         Call::Set(Name::Temperature, vec![t])
     }
 
+    /// A tolerance of any kind, or a narrow one, which refuses most fractions that a wider one accepts.
+    fn tolerance(&mut self) -> Call {
+        let tolerance = match self.one_in(3) {
+            true => self.any(&[0.0, -0.0, 1e-9, USUAL]),
+            false => Draw::new(&mut self.random, Sizes::Small).tolerance(),
+        };
+        Call::Set(Name::Tolerance, vec![tolerance])
+    }
+
     /// A name, usually of a case that the head's model has.
     fn name(&mut self, memory: &Memory) -> Name {
         let Head { n, ng, lens, .. } = memory.head;
@@ -217,7 +227,8 @@ impl Steps {
             ],
             (WILSON, Name::Size(..)) => [(2e-5, 3e-4); 5],
             (_, Name::Size(..)) => [(0.2, 5.0); 5],
-            (_, Name::Count(..)) => [(-1.0, 5.0); 5],
+            // a count
+            _ => [(-1.0, 5.0); 5],
         };
         ranges[..count]
             .iter()
@@ -245,6 +256,15 @@ impl Steps {
         }
     }
 
+    /// Fractions that are off by about the head's tolerance.
+    fn off(&mut self, head: &Head) -> Call {
+        let mut x = self.fractions(head.n);
+        if !x.is_empty() {
+            x = Draw::new(&mut self.random, Sizes::Small).off(x, head.tolerance);
+        }
+        Call::Fractions(x)
+    }
+
     fn query(&mut self, n: usize) -> Call {
         let i = self.index(n);
         Call::Query(match self.below(3) {
@@ -254,7 +274,8 @@ impl Steps {
         })
     }
 
-    /// The next call. It goes by the head, so that most histories come to queries.
+    /// The next call. It goes by the head, so that most histories come to queries, and those that set a tolerance to
+    /// fractions about it.
     pub fn call(&mut self, memory: &Memory) -> Call {
         let head = &memory.head;
         let usable = (1..=4).contains(&head.model) && (1..=12).contains(&head.n);
@@ -262,6 +283,12 @@ impl Steps {
         self.held = self.held.saturating_sub(1);
         if !held && !usable && !self.one_in(3) {
             return Call::Load(self.load());
+        }
+        if !is_usual(head.tolerance) && self.one_in(8) {
+            return match self.one_in(2) {
+                true => self.off(head),
+                false => self.tolerance(),
+            };
         }
         if !head.has_t && self.one_in(2) {
             return self.temperature(head);
@@ -275,6 +302,7 @@ impl Steps {
             8..=13 => self.temperature(head),
             14..=20 => Call::Fractions(self.fractions(head.n)),
             21..=56 => self.setting(memory),
+            57..=60 => self.tolerance(),
             _ => self.query(head.n),
         }
     }

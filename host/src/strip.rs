@@ -154,13 +154,14 @@ fn put_load(strip: &mut Vec<u8>, load: &Load) {
     }
 }
 
-/// A call's record; an index above 255 is written as 255. An opening has none.
+/// A call's record; an index above 255 is written as 255. An opening and a tolerance have none.
 pub fn put(strip: &mut Vec<u8>, call: &Call) {
     match call {
         Call::Open => {}
         Call::Load(load) => put_load(strip, load),
         Call::Set(name, numbers) => {
             let (kind, i, j) = match *name {
+                Name::Tolerance => return,
                 Name::Temperature => (5, 0, 0),
                 Name::Entry(i, j) => (7, i, j),
                 Name::TdEntry(i, j) => (8, i, j),

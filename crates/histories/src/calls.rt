@@ -16,9 +16,11 @@ use models::limits::COMPONENTS;
 use models::limits::PLACES;
 use models::model::model_numbered;
 
-// A head's record: where T stands among the floats, behind the fractions, and in the first row, behind the
-// lengths, whether T and whether the fractions are set.
+// A head's record: where T and the tolerance stand among the floats, behind the fractions, and in the first
+// row, behind the lengths, whether T and whether the fractions are set.
 const T_AT: usize = COMPONENTS;
+
+const TOLERANCE_AT: usize = COMPONENTS + 1;
 
 const HAS_T_AT: usize = COMPONENTS;
 
@@ -59,7 +61,8 @@ fn setting_of(r: Record, s: &[f64]) -> Setting {
             },
         ),
         3 => Setting::Size(r.b, r.c, v),
-        _ => Setting::Count(r.b, r.c, v),
+        4 => Setting::Count(r.b, r.c, v),
+        _ => Setting::Tolerance(v),
     }
 }
 
@@ -77,7 +80,8 @@ fn put_floats(a: &mut [f64], s: &[f64]) {
     }
 }
 
-// Any head: the lengths, and whether T and the fractions are set; the groups; the fractions and T.
+// Any head: the lengths, and whether T and the fractions are set; the groups; the fractions, T and the
+// tolerance.
 fn head_of(r: Record, first: &[u8], second: &[u8], floats: &[f64]) -> Head {
     let mut lens = [0u8; COMPONENTS];
     put_bytes(&mut lens[..], first);
@@ -95,7 +99,7 @@ fn head_of(r: Record, first: &[u8], second: &[u8], floats: &[f64]) -> Head {
         x: x,
         has_t: byte(first, HAS_T_AT) == 1,
         has_x: byte(first, HAS_X_AT) == 1,
-        tolerance: 1e-6,
+        tolerance: float(floats, TOLERANCE_AT),
     }
 }
 

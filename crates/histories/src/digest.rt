@@ -54,7 +54,8 @@ pub fn head(h: u64, head: Head) -> u64 {
     let a = byte(h, head.model);
     let b = word(word(a, head.n as u64), head.ng as u64);
     let c = numbers(lists(b, lens, groups), head.t, x);
-    flag(flag(c, head.has_t), head.has_x)
+    let d = flag(flag(c, head.has_t), head.has_x);
+    word(d, bits_of(head.tolerance))
 }
 
 // The whole memory and the head.
