@@ -4,6 +4,7 @@ use crate::case::{Answer, Case, Quantity, WILSON};
 use crate::cases::{Draw, Sizes};
 use crate::compare::SHOWN;
 use crate::exports;
+use crate::inputs::{around, special};
 use crate::models::rattle;
 use crate::random::Random;
 use crate::tolerance::{by_source, check_fault, is_off, is_usual, naive, off, USUAL, WIDEST};
@@ -38,6 +39,25 @@ fn draw_check(draw: &mut Draw) -> (f64, Vec<f64>) {
         true => (tolerance, x),
         false => (tolerance, draw.off(x, tolerance)),
     }
+}
+
+/// The checks for the stored list: every special number as a tolerance and as a fraction, the edges of a tolerance and
+/// some that a sum meets exactly, and random ones.
+pub fn stored(random: &mut Random, count: usize) -> Vec<(f64, Vec<f64>)> {
+    let mut draw = Draw::new(random, Sizes::UpTo(12));
+    let edges = [USUAL, WIDEST, 0.5f64.powi(10), 0.5f64.powi(20)];
+    let edges = edges.into_iter().flat_map(|v| around(v, 1));
+    let mut checks = Vec::new();
+    for tolerance in special().into_iter().chain(edges) {
+        let x = vec![0.25, 0.75];
+        checks.push((tolerance, draw.off(x.clone(), tolerance)));
+        checks.push((tolerance, x));
+    }
+    checks.extend(special().into_iter().map(|v| (USUAL, vec![v])));
+    while checks.len() < count {
+        checks.push(draw_check(&mut draw));
+    }
+    checks
 }
 
 /// What has to come up: the numbers, and what shows that the tolerance is read, and how.

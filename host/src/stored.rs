@@ -6,6 +6,7 @@
 use crate::case::{Answer, Case, Quantity, NAMES, NRTL, UNIFAC};
 use crate::cases::{Draw, Sizes};
 use crate::compare::bits;
+use crate::compositions;
 use crate::inputs;
 use crate::millionths::shown;
 use crate::random::Random;
@@ -14,6 +15,7 @@ use crate::strip;
 use crate::strips::Strips;
 use crate::suppliers::{answer, number_of};
 use crate::texts::{self, Asked};
+use crate::tolerance::check_fault;
 use std::io;
 use std::path::Path;
 
@@ -116,6 +118,18 @@ fn of_model(model: u32, random: &mut Random) -> Vec<Vec<u64>> {
     lines
 }
 
+/// A line for each check of a composition: the tolerance, the fractions after their length, and the number that is
+/// given, 0 for none.
+fn of_checks(checks: &[(f64, Vec<f64>)]) -> Vec<Vec<u64>> {
+    let line = |(tolerance, x): &(f64, Vec<f64>)| {
+        let mut line = vec![tolerance.to_bits(), x.len() as u64];
+        line.extend(x.iter().map(|v| v.to_bits()));
+        line.push(u64::from(check_fault(*tolerance, x)));
+        line
+    };
+    checks.iter().map(line).collect()
+}
+
 /// Strips with their texts: for each a line with the two lengths, then the bytes of both.
 fn of_strips(strips: &[Vec<u8>]) -> Vec<u8> {
     let mut list = Vec::new();
@@ -169,6 +183,8 @@ pub fn write_all(folder: &Path) -> io::Result<()> {
     }
     let shown = inputs::millionths_stored(&mut Random::new(1), 1000);
     write(&folder.join("millionths.txt"), &of_shown(&shown))?;
+    let checks = compositions::stored(&mut Random::new(1), 500);
+    write(&folder.join("checks.txt"), &of_checks(&checks))?;
     let lists = texts::stored(&mut Random::new(1), 400);
     write_bytes(
         &folder.join("suppliers.bin"),

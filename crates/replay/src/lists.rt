@@ -1,5 +1,6 @@
 // The lists, and how a line of each is replayed.
 use crate::calls;
+use crate::checks;
 use crate::panel;
 use crate::strips;
 use crate::suppliers;
@@ -16,6 +17,7 @@ pub enum List {
     Log,
     Plain(Model),
     Millionths,
+    Checks,
     Suppliers,
     Strips,
 }
@@ -50,14 +52,15 @@ fn held(got: f64, stored: Word) -> Line {
     }
 }
 
-// The rest of a line of a list, whose first word is the input, what is asked of a model, a supplier's n, or a
-// strip's length.
+// The rest of a line of a list, whose first word is the input, what is asked of a model, a check's tolerance,
+// a supplier's n, or a strip's length.
 fn rest_of(fd: i32, list: List, b: u64) -> Line {
     match list {
         List::Exp => held(arithmetic::exp(float_of(b)), words::next(fd, b'\n')),
         List::Log => held(arithmetic::log(float_of(b)), words::next(fd, b'\n')),
         List::Plain(model) => calls::line(fd, model, b),
         List::Millionths => panel::line(fd, float_of(b)),
+        List::Checks => checks::line(fd, float_of(b)),
         List::Suppliers => suppliers::line(fd, b as usize),
         List::Strips => strips::line(fd, b as usize),
     }

@@ -1,6 +1,7 @@
 // Replays the stored answers of the Rust, list by list, and writes how many there are and how many
 // differ. The lists are files in the folder that it runs in.
 mod calls;
+mod checks;
 mod lists;
 mod panel;
 mod strips;
@@ -47,6 +48,7 @@ fn main() {
     replay(b"nrtl", b"nrtl.txt", List::Plain(Model::Nrtl));
     replay(b"unifac", b"unifac.txt", List::Plain(Model::Unifac));
     replay(b"millionths", b"millionths.txt", List::Millionths);
+    replay(b"checks", b"checks.txt", List::Checks);
     replay(b"suppliers", b"suppliers.bin", List::Suppliers);
     replay(b"strips", b"strips.bin", List::Strips);
 }
