@@ -11,7 +11,7 @@
 #include <stdio.h>
 #include <string.h>
 
-enum { CHECKS = 13479, N = 4, NG = 5, LISTED = 10 };
+enum { CHECKS = 14614, N = 4, NG = 5, LISTED = 10 };
 
 static unsigned long checks, wrong;
 static void must(int held, const char *what) {
@@ -24,7 +24,7 @@ static int same(const void *a, const void *b, size_t n) { return memcmp(a, b, n)
 static kiltgrit_mixture m, before;
 static kiltgrit_model model;
 static size_t len;
-static double given[6000], kelvin, x[N], last[3][N];
+static double given[6000], kelvin, x[N], last[3][N], within = 1e-6; /* the tolerance under which x was accepted */
 static const uint8_t lens[N] = {3, 1, 4, 2};
 static uint8_t groups[LISTED] = {0, 3, 1, 2, 4, 0, 2, 3, 1, 4};
 
@@ -32,7 +32,15 @@ static kiltgrit_refusal load(size_t values) {
     return model == KILTGRIT_UNIFAC ? kiltgrit_load_unifac(&m, N, NG, lens, groups, LISTED, given, values)
                                     : kiltgrit_load(&m, model, N, given, values);
 }
+/* The plain call; the header's own has the usual tolerance alone. */
+static kiltgrit_refusal plain_within(kiltgrit_asked asked, size_t i, double *value) {
+    const kiltgrit_value v = kiltgrit_plain((uint32_t)model, 0, N, NG, lens, N, groups, LISTED, given, len, kelvin,
+                                            within, x, N, (uint32_t)asked, i);
+    if (v.refused == 0) *value = v.value;
+    return (kiltgrit_refusal)v.refused;
+}
 static kiltgrit_refusal plain(kiltgrit_asked asked, size_t i, double *value) {
+    if (within != 1e-6) return plain_within(asked, i, value);
     return model == KILTGRIT_UNIFAC
                ? kiltgrit_unifac_value_at(N, NG, lens, groups, LISTED, given, len, kelvin, x, asked, i, value)
                : kiltgrit_value_at(model, N, given, len, kelvin, x, asked, i, value);
@@ -162,6 +170,8 @@ static void unopened(void) {
     must(kiltgrit_open(&m) == KILTGRIT_OK, "open");
     before = m;
     refused(kiltgrit_set(&m, kiltgrit_temperature(300.0)), KILTGRIT_NO_MODEL);
+    refused(kiltgrit_set(&m, kiltgrit_tolerance(1e-4)), KILTGRIT_NO_MODEL);
+    refused(kiltgrit_set(&m, kiltgrit_tolerance(NAN)), KILTGRIT_NO_MODEL);
     refused(kiltgrit_fractions(&m, x, N), KILTGRIT_NO_MODEL);
     no_value(KILTGRIT_EXCESS_GIBBS, 0, KILTGRIT_NO_MODEL);
 }
@@ -179,7 +189,33 @@ static void refusals(kiltgrit_setting lacks) {
     x[0] += 1.0, no_plain(KILTGRIT_EXCESS_GIBBS, 0, KILTGRIT_BAD_SUM), row(x, N, 0.1, 0.1);
     len++, no_plain(KILTGRIT_GAMMA, 0, KILTGRIT_BAD_SHAPE), len--;
 }
-/* The excess energy takes any i, counts may be NULL, and a copy answers as its original, whatever became of that. */
+/* A tolerance works out nothing again. Fractions that one accepted stay so under a narrower one, and their plain call
+ * has the one that accepted them. A load brings the usual one back. */
+static void tolerances(void) {
+    const double bad[] = {NAN, -5e-324, -HUGE_VAL, HUGE_VAL, nextafter(1e-3, 1.0)}, good[] = {0.0, 1e-3, 1e-4};
+    double off[N];
+    memcpy(off, x, sizeof off), off[0] += 1e-5;
+    before = m;
+    for (size_t k = 0; k < 5; k++) refused(kiltgrit_set(&m, kiltgrit_tolerance(bad[k])), KILTGRIT_BAD_TOLERANCE);
+    refused(kiltgrit_fractions(&m, off, N), KILTGRIT_BAD_SUM);
+    for (size_t k = 0; k < 3; k++) {
+        set("tolerance", kiltgrit_tolerance(good[k]), 0, 0);
+        must(same(&m.head.tolerance, &good[k], sizeof good[k]), "the head's tolerance");
+    }
+    must(kiltgrit_fractions(&m, off, N) == KILTGRIT_OK, "fractions off by 1e-5");
+    memcpy(x, off, sizeof off), no_plain(KILTGRIT_GAMMA, 0, KILTGRIT_BAD_SUM), within = 1e-4;
+    answers("fractions off by 1e-5", 0, 1);
+    set("a narrower tolerance", kiltgrit_tolerance(-0.0), 0, 0);
+    before = m, refused(kiltgrit_fractions(&m, x, N), KILTGRIT_BAD_SUM);
+    row(x, N, 0.1, 0.1), within = 1e-6;
+    must(load(len) == KILTGRIT_OK && m.head.tolerance == KILTGRIT_USUAL_TOLERANCE, "the tolerance after a load");
+    before = m, refused(kiltgrit_fractions(&m, off, N), KILTGRIT_BAD_SUM);
+    must(kiltgrit_set(&m, kiltgrit_temperature(kelvin)) == KILTGRIT_OK, "temperature");
+    must(kiltgrit_fractions(&m, x, N) == KILTGRIT_OK, "fractions");
+    answers("load", model == KILTGRIT_UNIFAC ? NG * NG : N * (N - 1), 1);
+}
+/* The excess energy takes any i, counts may be NULL, a copy answers as its original, whatever became of that, and a
+ * tolerance leaves what was answered. */
 static void odds(void) {
     double value = 7.25, at_once = 7.5;
     must(kiltgrit_query(&m, KILTGRIT_EXCESS_GIBBS, (size_t)-1, &value, NULL) == KILTGRIT_OK, "any i");
@@ -189,6 +225,7 @@ static void odds(void) {
     must(kiltgrit_set(&m, kiltgrit_temperature(400.0)) == KILTGRIT_OK, "temperature");
     m = before;
     answers("a copy", 0, 0);
+    tolerances();
 }
 /* A load unsets both T and fractions. No call makes a head out of range: one is damaged here. */
 static void unset(void) {
@@ -256,7 +293,8 @@ static void words(void) {
     word(KILTGRIT_NOT_SHOWN, 11, "not a number, infinite, or 2048 or more in size");
     word(KILTGRIT_BAD_FIELD, 12, "list: a field of another form, or not as many fields or rows");
     word(KILTGRIT_TOO_MANY_DIGITS, 13, "list: a field of more than 15 digits");
-    word(14, 14, "unknown"), word(99, 99, "unknown");
+    word(KILTGRIT_BAD_TOLERANCE, 14, "tolerance not a number, below 0 or above 0.001");
+    word(15, 15, "unknown"), word(99, 99, "unknown");
 }
 
 /* ---- the panel: a call without lent memory, which has no inline function over it */
@@ -271,6 +309,19 @@ static void panel(void) {
     shows(nextafter(2048.0, 0.0), 2048000000, KILTGRIT_OK), shows(nextafter(-2048.0, 0.0), -2048000000, KILTGRIT_OK);
     shows(2048.0, 0, KILTGRIT_NOT_SHOWN), shows(-2048.0, 0, KILTGRIT_NOT_SHOWN);
     shows(HUGE_VAL, 0, KILTGRIT_NOT_SHOWN), shows(-HUGE_VAL, 0, KILTGRIT_NOT_SHOWN), shows(NAN, 0, KILTGRIT_NOT_SHOWN);
+}
+
+/* ---- the check of fractions alone: nor has it one */
+static void checked(double tolerance, const double *fractions, size_t n, kiltgrit_refusal refused) {
+    must(kiltgrit_check_composition(tolerance, fractions, n) == (uint32_t)refused, "the check of fractions alone");
+}
+static void check(void) {
+    const double edge = 1.0 / 1024.0, one[] = {0.25, 0.75}, off[] = {0.25, 0.75 + edge};
+    checked(0.0, one, 2, KILTGRIT_OK), checked(-0.0, one, 2, KILTGRIT_OK), checked(1e-3, off, 2, KILTGRIT_OK);
+    checked(edge, off, 2, KILTGRIT_OK), checked(nextafter(edge, 0.0), off, 2, KILTGRIT_BAD_SUM);
+    checked(1e-6, off, 2, KILTGRIT_BAD_SUM), checked(1e-6, one, 0, KILTGRIT_NO_FRACTIONS);
+    checked(NAN, one, 2, KILTGRIT_BAD_TOLERANCE), checked(-1e-9, one, 0, KILTGRIT_BAD_TOLERANCE);
+    checked(nextafter(1e-3, 1.0), off, 1, KILTGRIT_BAD_TOLERANCE);
 }
 
 /* ---- a supplier's list: nor has it one. Whatever is refused leaves the entries */
@@ -296,7 +347,7 @@ static void lists(void) {
 
 int main(void) {
     must(kiltgrit_floats_ok() == 1, "floats");
-    words(), panel(), lists(), limits(), unopened();
+    words(), panel(), check(), lists(), limits(), unopened();
     wilson(), odds(), refusals(kiltgrit_size(0, 1, 1.0)), refusals(kiltgrit_td(0, 1, 1.0, 1.0, 1.0, 1.0, 1.0)), unset();
     uniquac(), odds(), refusals(kiltgrit_count(0, 0, 1.0)), refusals(kiltgrit_entry(0, N, 1.0)), unset();
     nrtl(), odds(), refusals(kiltgrit_size(0, 0, 1.0)), refusals(kiltgrit_td(N, 0, 1.0, 1.0, 1.0, 1.0, 1.0)), unset();
