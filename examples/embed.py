@@ -15,7 +15,7 @@ from ctypes import POINTER, Structure, c_double, c_int64, c_size_t, c_uint8, c_u
 VALUES, CELLS, MARKS = 5328, 1408, 1036
 LN_GAMMA, GAMMA, EXCESS_GIBBS = range(3)
 WILSON = 1
-TEMPERATURE, ENTRY, TD_ENTRY, SIZE, COUNT = 5, 7, 8, 9, 10
+TEMPERATURE, ENTRY, TD_ENTRY, SIZE, COUNT, TOLERANCE = 5, 7, 8, 9, 10, 14
 VERSION = 1 << 16 | 3 << 8
 
 
@@ -62,6 +62,15 @@ def floats_ok(library):
 
 class Refused(Exception):
     """A call was refused, with the documents' number; it has changed nothing."""
+
+
+def refusal(call, *arguments):
+    """The number of a call's refusal, 0 where it is taken."""
+    try:
+        call(*arguments)
+    except Refused as refused:
+        return refused.args[0]
+    return 0
 
 
 def millionths(library, v):
@@ -123,7 +132,7 @@ class Mixture:
         self._call("load", model, 0, n, ng, *as_bytes(lens), *as_bytes(groups), (c_double * len(given))(*given), len(given))
 
     def set(self, kind, *v, i=0, j=0):
-        """A temperature; an entry, td entry (five numbers) or size at i, j; a count of component i at place j."""
+        """A temperature or tolerance; an entry, td entry (five numbers) or size at i, j; a count of i at place j."""
         self._call("set", Setting((c_double * 5)(*v), i, j, kind, 0))
 
     def fractions(self, x):
@@ -136,11 +145,8 @@ class Mixture:
 
 
 def say(call, *arguments):
-    try:
-        call(*arguments)
-        print("ok")
-    except Refused as refused:
-        print("refused", refused)
+    number = refusal(call, *arguments)
+    print(f"refused {number}" if number else "ok")
 
 
 def ask(library, still, asked, i=0):
@@ -150,6 +156,14 @@ def ask(library, still, asked, i=0):
         size = millionths(library, value)
         assert f"{size // 1000000}.{size % 1000000:06}" == f"{value:.6f}"
     print("nan" if value != value else struct.pack(">d", value).hex(), cells)
+
+
+def by_hand(still):
+    """Fractions weighed by hand, off 1 by 1e-5: a tolerance of 0.01 is refused, one of 1e-4 takes them."""
+    x = [0.78001, 0.22]
+    assert refusal(still.set, TOLERANCE, 0.01) == 14 and refusal(still.fractions, x) == 6
+    still.set(TOLERANCE, 1e-4)
+    still.fractions(x)
 
 
 def main():
@@ -165,6 +179,7 @@ def main():
             ask(library, still, LN_GAMMA, i)
             ask(library, still, GAMMA, i)
         ask(library, still, EXCESS_GIBBS)
+    by_hand(still)
 
 
 if __name__ == "__main__":

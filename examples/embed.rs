@@ -8,7 +8,8 @@
 mod kiltgrit;
 
 use kiltgrit::{
-    floats_ok, import, millionths, plain, run, Asked, Data, Mixture, Model, Refused, Setting,
+    check_composition, floats_ok, import, millionths, plain, plain_within, run, Asked, Data,
+    Mixture, Model, Refused, Setting,
 };
 
 fn said(done: Result<(), Refused>) -> String {
@@ -55,6 +56,24 @@ fn ask(still: &mut Mixture, data: &Data, x: &[f64], what: Asked) -> String {
     asked(answer)
 }
 
+/// Fractions weighed by hand, off 1 by 1e-5. A tolerance of 0.01 is refused and changes nothing; one of 1e-4 takes
+/// them, and the answer is that of the plain call with this tolerance.
+fn by_hand(still: &mut Mixture, data: &Data) -> Result<(), Refused> {
+    let (x, within) = ([0.78001, 0.22], 1e-4);
+    assert!(matches!(
+        still.set(Setting::Tolerance(0.01)),
+        Err(Refused(14))
+    ));
+    assert!(matches!(still.fractions(&x), Err(Refused(6))));
+    still.set(Setting::Tolerance(within))?;
+    check_composition(within, &x)?;
+    still.fractions(&x)?;
+    let (value, _) = still.query(Asked::LnGamma(0))?;
+    let at_once = plain_within(data, KELVIN, within, &x, Asked::LnGamma(0))?;
+    assert_eq!(value.to_bits(), at_once.to_bits(), "with its tolerance");
+    Ok(())
+}
+
 const KELVIN: f64 = 328.7;
 
 /// A supplier's list, in cal/mol.
@@ -92,6 +111,7 @@ fn main() {
         }
         text += &ask(&mut still, &data, &x, Asked::ExcessGibbs);
     }
+    by_hand(&mut still, &data).expect("fractions weighed by hand are taken");
     print!("{text}");
     assert_eq!(text, run(&strip), "the strip run whole says the same");
 }

@@ -1,5 +1,5 @@
 /* Activity coefficients in C, to read: three solvents by UNIQUAC, one of their parameters changed, a refusal in words, and
- * two solvents by UNIFAC; ln gamma with the digits of a panel. The numbers are those of
+ * two solvents by UNIFAC, weighed by hand; ln gamma with the digits of a panel. The numbers are those of
  * examples/acetone-toluene-mek.table and examples/ethanol-hexane.table.
  *
  *     rt staticlib kiltgrit
@@ -91,6 +91,12 @@ static void unifac(kiltgrit_mixture *m) {
     must(kiltgrit_set(m, kiltgrit_temperature(331.8)));
     must(kiltgrit_fractions(m, x, 2));
     puts("UNIFAC at 331.8 K");
+    show(m, names, 2);
+    static const double by_hand[] = {0.33001, 0.67};
+    printf("weighed by hand, off 1 by 1e-5: %s\n", kiltgrit_words(kiltgrit_fractions(m, by_hand, 2)));
+    must(kiltgrit_set(m, kiltgrit_tolerance(1e-4)));
+    must(kiltgrit_fractions(m, by_hand, 2));
+    puts("with a tolerance of 1e-4 they are taken");
     show(m, names, 2);
 }
 
