@@ -3,7 +3,7 @@
 
 use crate::case::{Answer, Case};
 use crate::compare::bits;
-use crate::documented::{refusals, values, Refusal, Value, TEXTS};
+use crate::documented::{refusals, taken, values, Refusal, Taken, Value, TEXTS};
 use crate::models::rattle;
 use crate::rust;
 use original::unifac::UnifacVariant::{Dortmund, Original};
@@ -78,6 +78,30 @@ fn refusal_faults(refusal: &Refusal, entry: &str, text: &str) -> Vec<String> {
     faults
 }
 
+/// The same of an input that the port alone takes.
+fn taken_faults(taken: &Taken, text: &str) -> Vec<String> {
+    let (said, words) = (taken.said, taken.text);
+    let mut faults = Vec::new();
+    if said != Err(ThermoError::InvalidInput(words)) {
+        faults.push(format!("Rust: {said:?} for {words:?}"));
+    }
+    if bits(taken.paper) != bits(taken.given) {
+        faults.push(format!(
+            "paper: {} for {}",
+            written(taken.paper),
+            written(taken.given)
+        ));
+    }
+    faults.extend(port_fault(&taken.case, Answer::Value(bits(taken.port))));
+    let said = [
+        format!("\"{words}\""),
+        written(taken.given),
+        written(taken.port),
+    ];
+    faults.extend(unsaid(text, &said));
+    faults
+}
+
 /// The document's entries by title: their words, without the marks around them, each between blanks.
 fn entries() -> BTreeMap<&'static str, String> {
     let compared = DOCUMENT.split("\n## Not compared").next().unwrap();
@@ -96,6 +120,10 @@ fn inputs(entries: &BTreeMap<&str, String>) -> Vec<(&'static str, Vec<String>)> 
     let mut all = Vec::new();
     for (entry, values) in values() {
         let faults = values.iter().map(|value| value_faults(value, text(entry)));
+        all.extend(faults.map(|faults| (entry, faults)));
+    }
+    for (entry, inputs) in taken() {
+        let faults = inputs.iter().map(|taken| taken_faults(taken, text(entry)));
         all.extend(faults.map(|faults| (entry, faults)));
     }
     for (entry, refusals) in refusals() {

@@ -2,7 +2,7 @@
 
 use crate::case::{Answer, Case, Quantity, NRTL, UNIFAC, UNIQUAC, WILSON};
 use crate::compare::bits;
-use crate::tolerance::USUAL;
+use crate::tolerance::{USUAL, WIDEST};
 use crate::{papers, rust};
 use original::nrtl::Nrtl;
 use original::parameters::{InteractionMatrix, TdMatrix, TdParam, Volumes};
@@ -27,6 +27,17 @@ pub struct Refusal {
     pub text: &'static str,
     pub case: Case,
     pub number: u32,
+}
+
+/// An input that the source refuses and the port takes: what the source says, the text that is given, the paper's
+/// value as worked out and as given, and the port's.
+pub struct Taken {
+    pub said: Result<(), ThermoError>,
+    pub text: &'static str,
+    pub case: Case,
+    pub paper: f64,
+    pub given: f64,
+    pub port: f64,
 }
 
 /// An entry's title, and its inputs.
@@ -269,6 +280,14 @@ fn sized<T>(made: Result<T, ThermoError>, text: &'static str, case: Case) -> Ref
     }
 }
 
+const OFF_ONE: &str = "composition does not sum to 1";
+
+/// UNIFAC of one component and one group, with a sum that is off 1 by 2^-10.
+fn off_by_a_thousandth(tolerance: f64) -> Case {
+    let case = unifac(&[1.0], &[&[(0, 1.0)]], &[1.0009765625]);
+    Case { tolerance, ..case }
+}
+
 fn of_calls() -> Vec<Refusal> {
     let alone = |x: &[f64], quantity| {
         let case = call(WILSON, vec![0.0, 1.0], x, quantity);
@@ -280,7 +299,7 @@ fn of_calls() -> Vec<Refusal> {
         asked("UNIFAC group index out of range", 3, pure((1, 1.0))),
         asked("UNIFAC negative group count", 4, pure((0, -1.0))),
         asked("empty composition", 5, alone(none, LnGamma(0))),
-        asked("composition does not sum to 1", 6, alone(half, LnGamma(0))),
+        asked(OFF_ONE, 6, alone(half, LnGamma(0))),
         asked("composition/ index mismatch", 7, alone(&[1.0], LnGamma(1))),
         asked("composition length mismatch", 7, alone(both, ExcessGibbs)),
     ]
@@ -352,5 +371,27 @@ pub const TEXTS: &str = "One number where the source has texts";
 pub fn refusals() -> Vec<Entry<Refusal>> {
     let texts = [of_calls(), of_sizes(), of_unifac_sizes()];
     let texts = texts.into_iter().flatten().collect();
-    vec![("A narrower range", of_nothing()), (TEXTS, texts)]
+    let wider = vec![
+        asked(OFF_ONE, 6, off_by_a_thousandth(USUAL)),
+        asked(OFF_ONE, 14, off_by_a_thousandth(0.01)),
+    ];
+    vec![
+        ("A narrower range", of_nothing()),
+        (TEXTS, texts),
+        ("A tolerance", wider),
+    ]
+}
+
+pub fn taken() -> Vec<Entry<Taken>> {
+    let case = off_by_a_thousandth(WIDEST);
+    let said = rust::ask_model(&case, UnifacVariant::Original).map(drop);
+    let group = Taken {
+        said,
+        text: OFF_ONE,
+        paper: papers::value(&case),
+        case,
+        given: -0.0009760859730554598,
+        port: -4.7621695789795e-7,
+    };
+    vec![("A tolerance", vec![group])]
 }
