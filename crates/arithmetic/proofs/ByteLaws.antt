@@ -7,11 +7,11 @@ use Rattle.arithmetic.specs.Bytes.{word_at, float_at, floats_at}
 use Rattle.arithmetic.specs.Tables.{at}
 use Rattle.arithmetic.proofs.Tests.{failed, le-or}
 
-is_nan : (v : Float) → is_nan v ≡ true → v ≡ nan
+nan_is : (v : Float) → is_nan v ≡ true → v ≡ nan
 unfolding is_nan
-is_nan nan e = refl
-is_nan (inf s) e = absurd (true≢false (sym e))
-is_nan (fin s m x) e = absurd (true≢false (sym e))
+nan_is nan e = refl
+nan_is (inf s) e = absurd (true≢false (sym e))
+nan_is (fin s m x) e = absurd (true≢false (sym e))
 
 -- a float that equals itself
 pub no_nan : (v : Float) → ne v v ≡ false → is_nan v ≡ false
@@ -25,7 +25,7 @@ has_bits v e = failed (no_nan v e)
 
 -- 9218868437227405312 is the pattern of infinity, and 9223372036854775808 that of the sign
 pub pattern_nan : (b : ℕ) → 9218868437227405312 < b % 9223372036854775808 → of_bits binary64 b ≡ nan
-pattern_nan b h = is_nan (of_bits binary64 b) (sym (nan_bits_is binary64 b) ∙ (nan_bits_above binary64 b ∙ lt-ltb 9218868437227405312 (b % 9223372036854775808) h))
+pattern_nan b h = nan_is (of_bits binary64 b) (sym (nan_bits_is binary64 b) ∙ (nan_bits_above binary64 b ∙ lt-ltb 9218868437227405312 (b % 9223372036854775808) h))
 
 pub pattern_no_nan : (b : ℕ) → b % 9223372036854775808 ≤ 9218868437227405312 → T (not (nan_bits binary64 b))
 pattern_no_nan b h = failed (nan_bits_above binary64 b ∙ le-ltb 9218868437227405312 (b % 9223372036854775808) h)

@@ -1,7 +1,7 @@
 -- Slices as functions of an index, tables by full rows, and the part of a slice that starts at a place.
 use Rattle.std.specs.Prelude.{◌≡◌, ℕ, ◌+◌, ◌-◌, ◌*◌, ◌/◌, ◌%◌, ◌<◌, cond, List, length, take, drop, nat_lt, slice_index_or, slice_range, Float}
 use Rattle.std.specs.Float.{nan}
-use Rattle.std.specs.Borrow.{Bor}
+use Rattle.std.specs.Borrow.{MutBor}
 use denote.Triple.Both.{Both}
 
 -- numbers by one index, and by two
@@ -36,7 +36,7 @@ unfoldable pub up_to : ℕ → Vector → Vector → ℕ → Float
 up_to n new old k = cond (nat_lt k n) (new k) (old k)
 
 -- each of the first n places of a slice has taken its f
-abbrev pub Taken : (Float → Float) → ℕ → Both (Bor (List Float)) (Bor (List Float)) → Type 0
+abbrev pub Taken : (Float → Float) → ℕ → Both (MutBor (List Float)) (MutBor (List Float)) → Type 0
 Taken f n a =
     Filled (up_to n (λ k. f (at a.entry.now k)) (at a.entry.now)) (length a.entry.now) a.exit.now
 

@@ -7,16 +7,16 @@ use Rattle.arithmetic.proofs.ByteLaws.{no_nan, has_bits}
 use Rattle.arithmetic.proofs.bytes.bits_of.Statement.{statement}
 use Rattle.arithmetic.proofs.bytes.bits_of.Tie as tie
 
-returns : tie.Need-returns
+returns-then-v : tie.Need-returns-then-v
 unfolding bits_of is_nan
-returns c = rw (differs_from_itself c.before.args.v (passed c.if1.true))
+returns-then-v c = rw (differs_from_itself c.before.args.v (passed c.if-v.true))
 
-float-to-bits-result : tie.Need-float-to-bits-result
-float-to-bits-result c = has_bits c.before.args.v c.if1.false
+float_to_bits-result : tie.Need-float_to_bits-result
+float_to_bits-result c = has_bits c.before.args.v c.if-v.false
 
-returns-2 : tie.Need-returns-2
+returns : tie.Need-returns
 unfolding bits_of
-returns-2 c = rw (no_nan c.before.args.v c.if1.false)
+returns c = rw (no_nan c.before.args.v c.if-v.false)
 
 pub bits_of_spec : {M : Type 1} → statement M
-bits_of_spec = tie.close (tie.spec returns float-to-bits-result returns-2)
+bits_of_spec = tie.close (tie.spec returns-then-v float_to_bits-result returns)

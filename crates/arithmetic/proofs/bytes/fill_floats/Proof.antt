@@ -5,31 +5,31 @@ use Rattle.arithmetic.specs.Bytes.{floats_at}
 use Rattle.arithmetic.proofs.bytes.fill_floats.Statement.{statement}
 use Rattle.arithmetic.proofs.bytes.fill_floats.Tie as tie
 
-abbrev invariant_loop : tie.invariant_loop
-invariant_loop n s at a₀ k₀ a k = (k ≤ n) × (length a ≡ length a₀) × (take k a ≡ floats_at s at k)
+abbrev invariant-loop-k : tie.invariant-loop-k
+invariant-loop-k n s at a₀ k₀ a k = (k ≤ n) × (length a ≡ length a₀) × (take k a ≡ floats_at s at k)
 
-abbrev decreases_loop : tie.decreases_loop
-decreases_loop n s at a₀ k₀ a k = n - k
+abbrev decreases-loop-k : tie.decreases-loop-k
+decreases-loop-k n s at a₀ k₀ a k = n - k
 
-loop-holds : tie.Need-loop-init invariant_loop decreases_loop
+loop-k-init : tie.Need-loop-k-init invariant-loop-k decreases-loop-k
 unfolding floats_at
-loop-holds c = (omega arith, refl, refl)
+loop-k-init c = (omega arith, refl, refl)
 
-loop-again : tie.Need-loop-preserved invariant_loop decreases_loop
-loop-again c =
-    let l = c.before.before.loop in
-    (omega arith, simp length-set l.invariant.1, floats-more _ _ l.a l.k _ (omega arith) l.invariant.2 c.Float-at.ensures)
+loop-k-preserved : tie.Need-loop-k-preserved invariant-loop-k decreases-loop-k
+loop-k-preserved c =
+    let l = c.before.before.loop-k in
+    (omega arith, simp length-set l.invariant.1, floats-more _ _ l.a l.k _ (omega arith) l.invariant.2 c.float_at.ensures)
 
-returns : tie.Need-returns invariant_loop decreases_loop
-returns c = let l = c.before.loop in floats-done _ _ _ l.k l.a (omega arith) l.invariant.2
+returns : tie.Need-returns invariant-loop-k decreases-loop-k
+returns c = let l = c.before.loop-k in floats-done _ _ _ l.k l.a (omega arith) l.invariant.2
 
 pub fill_floats_spec : {M : Type 1} → statement M
 fill_floats_spec =
     tie.close
     (tie.spec
-    invariant_loop
-    decreases_loop
-    loop-holds
+    invariant-loop-k
+    decreases-loop-k
+    loop-k-init
     (λ c. omega arith)
     (λ c. omega arith)
     (λ c κs. search rules)
@@ -37,6 +37,6 @@ fill_floats_spec =
     (λ c. omega arith)
     (λ c. omega arith)
     (λ c. omega arith)
-    loop-again
+    loop-k-preserved
     (λ c. search rules)
     returns)

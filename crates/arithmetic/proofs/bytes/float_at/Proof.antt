@@ -5,7 +5,7 @@ use Rattle.arithmetic.proofs.bytes.float_at.Statement.{statement}
 use Rattle.arithmetic.proofs.bytes.float_at.Tie as tie
 
 returns : tie.Need-returns
-returns c = float_is _ _ _ _ _ c.before.before.word_at.ensures.0 c.before.word-at2.ensures.0 c.float_of.ensures
+returns c = float_is _ _ _ _ _ c.before.before.word_at-low.ensures.0 c.before.word_at-high.ensures.0 c.float_of.ensures
 
 pub float_at_spec : {M : Type 1} → statement M
 float_at_spec =

@@ -5,12 +5,12 @@ use Rattle.std.proofs.Common.{sym, rules}
 use Rattle.arithmetic.proofs.bytes.float_of.Statement.{statement}
 use Rattle.arithmetic.proofs.bytes.float_of.Tie as tie
 
-returns : tie.Need-returns
+returns-then-b-gt9218868437227405312 : tie.Need-returns-then-b-gt9218868437227405312
 unfolding div of_bits
-returns c = sym (pattern_nan c.before.args.b c.if1.true)
+returns-then-b-gt9218868437227405312 c = sym (pattern_nan c.before.args.b c.if-b-gt9218868437227405312.true)
 
-float-from-bits-result : tie.Need-float-from-bits-result
-float-from-bits-result c = pattern_no_nan c.before.args.b c.if1.false
+float_from_bits-result : tie.Need-float_from_bits-result
+float_from_bits-result c = pattern_no_nan c.before.args.b c.if-b-gt9218868437227405312.false
 
 pub float_of_spec : {M : Type 1} → statement M
-float_of_spec = tie.close (tie.spec returns float-from-bits-result (λ c. search rules))
+float_of_spec = tie.close (tie.spec returns-then-b-gt9218868437227405312 float_from_bits-result (λ c. search rules))

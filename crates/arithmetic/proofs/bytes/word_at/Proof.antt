@@ -8,8 +8,8 @@ returns : tie.Need-returns
 unfolding word_at
 returns c = search rules
 
-pub word-at_spec : {M : Type 1} → statement M
-word-at_spec =
+pub word_at_spec : {M : Type 1} → statement M
+word_at_spec =
     tie.close
     (tie.spec
     (λ c. search rules)

@@ -4,18 +4,18 @@ use Rattle.arithmetic.proofs.decimals.Cases.{pointed-none, pointed-other, pointe
 use Rattle.arithmetic.proofs.decimals.pointed.Statement.{statement}
 use Rattle.arithmetic.proofs.decimals.pointed.Tie as tie
 
-returns : tie.Need-returns
-returns c = let a = c.before.before.before.before.args in pointed-none a.minus a.a.now a.b.now (omega arith)
+returns-then-f-eq0 : tie.Need-returns-then-f-eq0
+returns-then-f-eq0 c = let a = c.before.before.before.before.args in pointed-none a.minus a.a.now a.b.now (omega arith)
 
-returns-2 : tie.Need-returns-2
-returns-2 c =
+returns-then-f-b : tie.Need-returns-then-f-b
+returns-then-f-b c =
     let a = c.before.before.before.before.before.args in
     pointed-other a.minus a.a.now a.b.now (omega arith) (omega (arith, leading_le a.b.now))
 
-returns-3 : tie.Need-returns-3
-returns-3 c =
+returns : tie.Need-returns
+returns c =
     let a = c.before.before.before.before.before.before.args in
     c.digits.ensures ∙ pointed-digits a.minus a.a.now a.b.now (omega arith) (omega arith)
 
 pub pointed_spec : {M : Type 1} → statement M
-pointed_spec = tie.close (tie.spec (λ c κs. search rules) returns returns-2 (λ c κs. search rules) returns-3)
+pointed_spec = tie.close (tie.spec (λ c κs. search rules) returns-then-f-eq0 returns-then-f-b (λ c κs. search rules) returns)

@@ -3,25 +3,25 @@ use Rattle.arithmetic.proofs.decimals.Cases.{read_none, read_minus, read_plain}
 use Rattle.arithmetic.proofs.decimals.read.Statement.{statement}
 use Rattle.arithmetic.proofs.decimals.read.Tie as tie
 
+returns-then-field-eq0 : tie.Need-returns-then-field-eq0
+returns-then-field-eq0 c = read_none c.before.before.args.field.now (omega arith)
+
+returns-then-field-eq45 : tie.Need-returns-then-field-eq45
+returns-then-field-eq45 c = c.unsigned.ensures ∙ read_minus c.before.before.before.before.before.before.args.field.now c.before.before.if-field-eq45.true
+
 returns : tie.Need-returns
-returns c = read_none c.before.before.args.field.now (omega arith)
-
-returns-2 : tie.Need-returns-2
-returns-2 c = c.unsigned.ensures ∙ read_minus c.before.before.before.before.before.before.args.field.now c.before.before.if2.true
-
-returns-3 : tie.Need-returns-3
-returns-3 c = c.unsigned2.ensures ∙ read_plain c.before.before.before.before.before.args.field.now c.before.if2.false
+returns c = c.unsigned-2.ensures ∙ read_plain c.before.before.before.before.before.args.field.now c.before.if-field-eq45.false
 
 pub read_spec : {M : Type 1} → statement M
 read_spec =
     tie.close
     (tie.spec
-    returns
+    returns-then-field-eq0
     (λ c. search rules)
     (λ c. search rules)
     (λ c. search rules)
     (λ c. search rules)
     (λ c κs. search rules)
-    returns-2
+    returns-then-field-eq45
     (λ c κs. search rules)
-    returns-3)
+    returns)

@@ -6,23 +6,23 @@ use Rattle.arithmetic.proofs.TableLaws.{Rewriting, rewriting_none, rewriting_nex
 use Rattle.arithmetic.proofs.exponential.each_careful.Statement.{statement}
 use Rattle.arithmetic.proofs.exponential.each_careful.Tie as tie
 
-abbrev invariant_loop : tie.invariant_loop
-invariant_loop a₀ n k₀ a k = Rewriting (λ j. exp_of (at a₀ j)) n a₀ k a
+abbrev invariant-loop-k : tie.invariant-loop-k
+invariant-loop-k a₀ n k₀ a k = Rewriting (λ j. exp_of (at a₀ j)) n a₀ k a
 
-abbrev decreases_loop : tie.decreases_loop
-decreases_loop a₀ n k₀ a k = n - k
+abbrev decreases-loop-k : tie.decreases-loop-k
+decreases-loop-k a₀ n k₀ a k = n - k
 
-loop-again : tie.Need-loop-preserved invariant_loop decreases_loop
-loop-again c =
-    let inv = c.before.before.before.loop.invariant in
+loop-k-preserved : tie.Need-loop-k-preserved invariant-loop-k decreases-loop-k
+loop-k-preserved c =
+    let inv = c.before.before.before.loop-k.invariant in
     rewriting_more (omega arith) (c.exp.ensures ∙ ap exp_of (rewriting_next (omega arith) inv)) inv
 
 pub each_careful_spec : {M : Type 1} → statement M
 each_careful_spec =
     tie.close
     (tie.spec
-    invariant_loop
-    decreases_loop
+    invariant-loop-k
+    decreases-loop-k
     (λ c. rewriting_none (omega arith))
     (λ c. omega arith)
     (λ c. omega arith)
@@ -31,6 +31,6 @@ each_careful_spec =
     (λ c. omega arith)
     (λ c. omega arith)
     (λ c. omega arith)
-    loop-again
-    (λ c. c.before.loop.invariant.long)
-    (λ c. rewriting_done c.loop-test.false c.before.loop.invariant))
+    loop-k-preserved
+    (λ c. c.before.loop-k.invariant.long)
+    (λ c. rewriting_done c.loop-k-test.false c.before.loop-k.invariant))

@@ -13,18 +13,18 @@ use Rattle.arithmetic.proofs.exponential.easy_exp.Tie as tie
 
 -- ---- n is k
 
-n-is : (c : tie.After-nearest) → c.nearest.result ≡ nearest (reciprocal ⊗ c.before.args.v)
+n-is : (c : tie.After-nearest-n) → c.nearest-n.result ≡ nearest (reciprocal ⊗ c.before.args.v)
 unfolding reciprocal dec round of_bits
-n-is c = c.nearest.ensures
+n-is c = c.nearest-n.ensures
 
-float-to-int-power : tie.Need-float-to-int-power
-float-to-int-power c = let n = c.before.before in as_whole n.before.args.v (found _ n.before.requires) n.nearest.result (n-is n)
+float_to_int-n : tie.Need-float_to_int-n
+float_to_int-n c = let n = c.before.before in as_whole n.before.args.v (found _ n.before.requires) n.nearest-n.result (n-is n)
 
-cast-power : tie.Need-overflow-cast-power
-cast-power c = let n = c.before.before in wide_fits n.before.args.v (found _ n.before.requires) n.nearest.result (n-is n)
+overflow_cast-n : tie.Need-overflow_cast-n
+overflow_cast-n c = let n = c.before.before in wide_fits n.before.args.v (found _ n.before.requires) n.nearest-n.result (n-is n)
 
 power-requires : tie.Need-power-requires
-power-requires c κs = let n = c.before.before in rw (wide_is n.before.args.v (found _ n.before.requires) n.nearest.result (n-is n)) (found _ n.before.requires).small
+power-requires c κs = let n = c.before.before in rw (wide_is n.before.args.v (found _ n.before.requires) n.nearest-n.result (n-is n)) (found _ n.before.requires).small
 
 -- ---- y·2^k
 
@@ -36,32 +36,32 @@ product_is c =
     let f = found v n.before.requires in
     let u = unscaled (exponent v) f.small in
     rw (r.reduced.ensures (exponent v) (n-is n ∙ f.is))
-    (scaled-within (reduced v (exponent v)) c.power.result (exponent v) u.0 u.1 (c.power.ensures ∙ ap two^ (wide_is v f n.nearest.result (n-is n))))
+    (scaled-within (reduced v (exponent v)) c.power.result (exponent v) u.0 u.1 (c.power.ensures ∙ ap two^ (wide_is v f n.nearest-n.result (n-is n))))
 
-returns : tie.Need-returns
+returns-then-v-2 : tie.Need-returns-then-v-2
 unfolding one dec round of_bits neg
-returns c =
+returns-then-v-2 c =
     let s = c.before.before.before.before.before.before in
     let e = easy_plain s.args.v s.requires in
-    exp_tiny s.args.v e.0 e.1 e.2 c.before.if1.true c.if2.true
+    exp_tiny s.args.v e.0 e.1 e.2 c.before.if-v.true c.if-v-2.true
 
-tiny-left : (c : tie.Else2) → le (fin true 1 (negsuc 27)) c.before.before.before.before.before.before.args.v && le c.before.before.before.before.before.before.args.v (fin false 1 (negsuc 27)) ≡ false
+tiny-left : (c : tie.Else-v-2) → le (fin true 1 (negsuc 27)) c.before.before.before.before.before.before.args.v && le c.before.before.before.before.before.before.args.v (fin false 1 (negsuc 27)) ≡ false
 unfolding of_bits neg
-tiny-left c = second_fails c.before.if1.true c.if2.false
+tiny-left c = second_fails c.before.if-v.true c.if-v-2.false
 
-below-tiny : (c : tie.Else1) → le (fin true 1 (negsuc 27)) c.before.before.before.before.before.args.v && le c.before.before.before.before.before.args.v (fin false 1 (negsuc 27)) ≡ false
+below-tiny : (c : tie.Else-v) → le (fin true 1 (negsuc 27)) c.before.before.before.before.before.args.v && le c.before.before.before.before.before.args.v (fin false 1 (negsuc 27)) ≡ false
 unfolding of_bits neg
-below-tiny c = first_fails _ c.if1.false
+below-tiny c = first_fails _ c.if-v.false
 
-returns-2 : tie.Need-returns-2
-returns-2 c =
+returns-else-v-2 : tie.Need-returns-else-v-2
+returns-else-v-2 c =
     let p = c.before.before in
     let s = p.before.before.before.before in
     let e = easy_plain s.args.v s.requires in
     product_is p ∙ exp_rest s.args.v e.0 e.1 e.2 (tiny-left c)
 
-returns-3 : tie.Need-returns-3
-returns-3 c =
+returns-else-v : tie.Need-returns-else-v
+returns-else-v c =
     let p = c.before in
     let s = p.before.before.before.before in
     let e = easy_plain s.args.v s.requires in
@@ -73,9 +73,9 @@ easy_exp_spec =
     (tie.spec
     (λ c κs. tt)
     (λ c κs. tt)
-    float-to-int-power
-    cast-power
+    float_to_int-n
+    overflow_cast-n
     power-requires
-    returns
-    returns-2
-    returns-3)
+    returns-then-v-2
+    returns-else-v-2
+    returns-else-v)

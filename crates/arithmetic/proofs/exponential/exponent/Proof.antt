@@ -9,22 +9,22 @@ use Rattle.arithmetic.proofs.exponential.Cutting.{cut_within}
 use Rattle.arithmetic.proofs.exponential.exponent.Statement.{statement}
 use Rattle.arithmetic.proofs.exponential.exponent.Tie as tie
 
-h-is : (c : tie.Joined1) → c.if1.h ≡ rounding c.before.args.v
+h-is : (c : tie.Joined-v) → c.if-v.h ≡ rounding c.before.args.v
 unfolding rounding half dec round of_bits neg
-h-is c = ⊎_elim (λ w. w.1 ∙ sym (ap (λ (t : Bool). cond t (neg half) half) w.0.taken)) (λ w. w.1 ∙ sym (ap (λ (t : Bool). cond t (neg half) half) w.0.left)) c.if1.branch
+h-is c = ⊎_elim (λ w. w.1 ∙ sym (ap (λ (t : Bool). cond t (neg half) half) w.0.taken)) (λ w. w.1 ∙ sym (ap (λ (t : Bool). cond t (neg half) half) w.0.left)) c.if-v.branch
 
-cut_is : (c : tie.Joined1) → add binary64 (mul binary64 (of_bits binary64 4609176140021203710) c.before.args.v) c.if1.h ≡ reciprocal ⊗ c.before.args.v ⊕ rounding c.before.args.v
+cut_is : (c : tie.Joined-v) → add binary64 (mul binary64 (of_bits binary64 4609176140021203710) c.before.args.v) c.if-v.h ≡ reciprocal ⊗ c.before.args.v ⊕ rounding c.before.args.v
 unfolding reciprocal dec round of_bits
 cut_is c = rw (h-is c)
 
-truncating-f64-to-i64-requires : tie.Need-truncating-f64-to-i64-requires
-truncating-f64-to-i64-requires c κs =
+truncating_f64_to_i64-requires : tie.Need-truncating_f64_to_i64-requires
+truncating_f64_to_i64-requires c κs =
     let w = cut_within c.before.args.v c.before.requires in
     (subst (λ (x : Float). T (le (fin true 1 (pos 63)) x)) (sym (cut_is c)) (above-least _ w), subst (λ (x : Float). T (lt x (fin false 1 (pos 63)))) (sym (cut_is c)) (below-most _ w))
 
 returns : tie.Need-returns
 unfolding exponent
-returns c = to_z-of_z w64 c.truncating-f64-to-i64.result (record { sfits = c.truncating-f64-to-i64.type-inv }) ∙ c.truncating-f64-to-i64.ensures ∙ ap (to_signed 63) (cut_is c.before)
+returns c = to_z-of_z w64 c.truncating_f64_to_i64.result (record { sfits = c.truncating_f64_to_i64.type_inv }) ∙ c.truncating_f64_to_i64.ensures ∙ ap (to_signed 63) (cut_is c.before)
 
 pub exponent_spec : {M : Type 1} → statement M
-exponent_spec = tie.close (tie.spec truncating-f64-to-i64-requires returns)
+exponent_spec = tie.close (tie.spec truncating_f64_to_i64-requires returns)

@@ -8,19 +8,19 @@ use Rattle.arithmetic.proofs.Tests.{passed}
 use Rattle.arithmetic.proofs.exponential.hard.Statement.{statement}
 use Rattle.arithmetic.proofs.exponential.hard.Tie as tie
 
-returns : tie.Need-returns
+returns-then-apart-2 : tie.Need-returns-then-apart-2
 unfolding reciprocal dec round of_bits neg
-returns c =
+returns-then-apart-2 c =
     let t3 = c.before in
     let t2 = t3.before in
     let t1 = t2.before in
     let n = t1.before in (
       omega arith,
       λ e. record {
-        least = passed t1.if1.true;
-        most = passed t2.if2.true;
-        above = subst (λ (z : Float). T (lt (neg margin) (reciprocal ⊗ n.before.args.v ⊖ z))) n.nearest.ensures (passed t3.if3.true);
-        below = subst (λ (z : Float). T (lt (reciprocal ⊗ n.before.args.v ⊖ z) margin)) n.nearest.ensures (passed c.if4.true);
+        least = passed t1.if-v.true;
+        most = passed t2.if-v-2.true;
+        above = subst (λ (z : Float). T (lt (neg margin) (reciprocal ⊗ n.before.args.v ⊖ z))) n.nearest.ensures (passed t3.if-apart.true);
+        below = subst (λ (z : Float). T (lt (reciprocal ⊗ n.before.args.v ⊖ z) margin)) n.nearest.ensures (passed c.if-apart-2.true);
       },
     )
 
@@ -29,7 +29,7 @@ hard_spec =
     tie.close
     (tie.spec
     (λ c κs. tt)
-    returns
+    returns-then-apart-2
     (λ c. (omega arith, λ e. absurd (omega arith)))
     (λ c. (omega arith, λ e. absurd (omega arith)))
     (λ c. (omega arith, λ e. absurd (omega arith)))

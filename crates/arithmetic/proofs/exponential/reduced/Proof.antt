@@ -8,7 +8,7 @@ use Rattle.arithmetic.proofs.exponential.reduced.Tie as tie
 
 returns : tie.Need-returns
 unfolding reduced L1 L2 one two dec round of_bits
-returns c k e = rw (c.correction.ensures, e) refl
+returns c k e = rw (c.correction-c.ensures, e) refl
 
 pub reduced_spec : {M : Type 1} → statement M
 reduced_spec = tie.close (tie.spec (λ c κs. tt) returns)

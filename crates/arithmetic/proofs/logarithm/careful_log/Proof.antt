@@ -12,73 +12,73 @@ use Rattle.arithmetic.proofs.logarithm.careful_log.Statement.{statement}
 use Rattle.arithmetic.proofs.logarithm.careful_log.Tie as tie
 
 -- ---- the tests, in the words of `log_of`
-is_no_nan : (c : tie.Else1) → is_nan c.before.args.v ≡ false
-is_no_nan c = no_nan c.before.args.v c.if1.false
+is_no_nan : (c : tie.Else-v) → is_nan c.before.args.v ≡ false
+is_no_nan c = no_nan c.before.args.v c.if-v.false
 
-not_negative : (c : tie.Else2) → lt c.before.before.args.v (fin false 0 (pos 0)) ≡ false
+not_negative : (c : tie.Else-v-2) → lt c.before.before.args.v (fin false 0 (pos 0)) ≡ false
 unfolding of_bits
-not_negative c = c.if2.false
+not_negative c = c.if-v-2.false
 
-not_zero : (c : tie.Else3) → eq c.before.before.before.args.v (fin false 0 (pos 0)) ≡ false
+not_zero : (c : tie.Else-v-3) → eq c.before.before.before.args.v (fin false 0 (pos 0)) ≡ false
 unfolding of_bits
-not_zero c = c.if3.false
+not_zero c = c.if-v-3.false
 
-not_inf : (c : tie.Else4) → eq c.before.before.before.before.args.v (inf false) ≡ false
+not_inf : (c : tie.Else-v-4) → eq c.before.before.before.before.args.v (inf false) ≡ false
 unfolding of_bits
-not_inf c = c.if4.false
+not_inf c = c.if-v-4.false
 
-positive : (c : tie.Else4) → Positive c.before.before.before.before.args.v
+positive : (c : tie.Else-v-4) → Positive c.before.before.before.before.args.v
 positive c = (is_no_nan c.before.before.before, not_negative c.before.before, not_zero c.before, not_inf c)
 
-not_one : (c : tie.Else5) → eq c.before.before.before.before.before.args.v one ≡ false
+not_one : (c : tie.Else-v-5) → eq c.before.before.before.before.before.args.v one ≡ false
 unfolding of_bits one dec round
-not_one c = c.if5.false
+not_one c = c.if-v-5.false
 
-abbrev arg : tie.Else5 → Float
+abbrev arg : tie.Else-v-5 → Float
 arg c = c.before.before.before.before.before.args.v
 
-parts : (c : tie.Else5) → Parts (arg c)
-parts c = parts_of (arg c) (positive c.before) (passed c.before.before.before.before.before.well-formed.0.1)
+parts : (c : tie.Else-v-5) → Parts (arg c)
+parts c = parts_of (arg c) (positive c.before) (passed c.before.before.before.before.before.well_formed.0.1)
 
 -- ---- the special values
-returns : tie.Need-returns
-returns c = rw (a_nan c.before.args.v c.if1.true) log_nan
+returns-then-v : tie.Need-returns-then-v
+returns-then-v c = rw (a_nan c.before.args.v c.if-v.true) log_nan
 
-returns-2 : tie.Need-returns-2
+returns-then-v-2 : tie.Need-returns-then-v-2
 unfolding of_bits div
-returns-2 c = log_negative c.before.before.args.v (is_no_nan c.before) c.if2.true
+returns-then-v-2 c = log_negative c.before.before.args.v (is_no_nan c.before) c.if-v-2.true
 
-float-from-bits-result : tie.Need-float-from-bits-result
+float_from_bits-result : tie.Need-float_from_bits-result
 unfolding nan_bits
-float-from-bits-result c = tt
+float_from_bits-result c = tt
 
-returns-3 : tie.Need-returns-3
+returns-then-v-3 : tie.Need-returns-then-v-3
 unfolding of_bits
-returns-3 c = log_zero c.before.before.before.args.v (is_no_nan c.before.before) (not_negative c.before) c.if3.true
+returns-then-v-3 c = log_zero c.before.before.before.args.v (is_no_nan c.before.before) (not_negative c.before) c.if-v-3.true
 
-float-from-bits-if4 : tie.Need-float-from-bits-if4
+float_from_bits-t-5 : tie.Need-float_from_bits-t-5
 unfolding nan_bits
-float-from-bits-if4 c = tt
+float_from_bits-t-5 c = tt
 
-returns-4 : tie.Need-returns-4
+returns-then-v-4 : tie.Need-returns-then-v-4
 unfolding of_bits
-returns-4 c =
+returns-then-v-4 c =
     let v = c.before.before.before.before.args.v in
-    is_inf v c.if4.true ∙ log_inf v (is_no_nan c.before.before.before) (not_negative c.before.before) (not_zero c.before) c.if4.true
+    is_inf v c.if-v-4.true ∙ log_inf v (is_no_nan c.before.before.before) (not_negative c.before.before) (not_zero c.before) c.if-v-4.true
 
-returns-5 : tie.Need-returns-5
+returns-then-v-5 : tie.Need-returns-then-v-5
 unfolding of_bits one dec round
-returns-5 c = log_one c.before.before.before.before.before.args.v (positive c.before) c.if5.true
+returns-then-v-5 c = log_one c.before.before.before.before.before.args.v (positive c.before) c.if-v-5.true
 
-float-to-bits-b : tie.Need-float-to-bits-b
-float-to-bits-b c = failed (is_no_nan c.before.before.before.before)
+float_to_bits-b : tie.Need-float_to_bits-b
+float_to_bits-b c = failed (is_no_nan c.before.before.before.before)
 
 -- ---- from 2 ^ -1022 up
-easy-log-requires : tie.Need-easy-log-requires
-easy-log-requires c κs = let e = c.before in normal_of (arg e) (positive e.before) c.if6.true
+easy_log-requires : tie.Need-easy_log-requires
+easy_log-requires c κs = let e = c.before in normal_of (arg e) (positive e.before) c.if-b-ne0.true
 
 -- ---- below 2 ^ -1022
-module _ (c : tie.Else6) where
+module _ (c : tie.Else-b-ne0) where
   p : Parts (arg c.before)
   p = parts c.before
 
@@ -87,62 +87,62 @@ module _ (c : tie.Else6) where
 
   zeros : (count_leading_zeros 64 b ≡ 63 - (p.z + p.E)) × (p.z + p.E < 52)
   unfolding b
-  zeros = small-zeros p c.if6.false
+  zeros = small-zeros p c.if-b-ne0.false
 
   q-is : b * 2 ^ (count_leading_zeros 64 b - 11) % 18446744073709551616 ≡ p.m * 2 ^ (52 - p.z)
   unfolding b
-  q-is = small-q p c.if6.false
+  q-is = small-q p c.if-b-ne0.false
 
   x-is : 64 - count_leading_zeros 64 b ≡ suc (p.z + p.E)
   unfolding b
-  x-is = small-x p c.if6.false
+  x-is = small-x p c.if-b-ne0.false
 
-cast-z : tie.Need-overflow-cast-z
-cast-z c = let h = leading_le 64 (to_bits binary64 (arg c.before)) in record { fits = omega arith }
+overflow_cast-z : tie.Need-overflow_cast-z
+overflow_cast-z c = let h = leading_le 64 (to_bits binary64 (arg c.before)) in record { fits = omega arith }
 
-sub-from-digits : tie.Need-overflow-sub-from-digits
+overflow_sub-z : tie.Need-overflow_sub-z
 unfolding b
-sub-from-digits c = let a = (zeros c).0 in let h = (zeros c).1 in omega arith
+overflow_sub-z c = let a = (zeros c).0 in let h = (zeros c).1 in omega arith
 
-shl-from-digits : tie.Need-overflow-shl-from-digits
+overflow_shl-b : tie.Need-overflow_shl-b
 unfolding b
-shl-from-digits c = let h = leading_le 64 (to_bits binary64 (arg c.before)) in omega arith
+overflow_shl-b c = let h = leading_le 64 (to_bits binary64 (arg c.before)) in omega arith
 
-sub-from-digits-2 : tie.Need-overflow-sub-from-digits-2
+overflow_sub-z-2 : tie.Need-overflow_sub-z-2
 unfolding b
-sub-from-digits-2 c = let a = (zeros c).0 in omega arith
+overflow_sub-z-2 c = let a = (zeros c).0 in omega arith
 
-from-digits-requires : tie.Need-from-digits-requires
+from_digits-requires : tie.Need-from_digits-requires
 unfolding b
-from-digits-requires c κs =
+from_digits-requires c κs =
     let h = leading_le 64 (to_bits binary64 (arg c.before)) in
     let range = q-range (p c) in
     rw (q-is c) (range.0, range.1, omega arith)
 
-returns-7 : tie.Need-returns-7
+returns : tie.Need-returns
 unfolding b
-returns-7 c =
+returns c =
     let t = c.before in
     let e = t.before in
-    c.from-digits.ensures ∙ rest-is (p t) _ _ (q-is t) (x-is t) ∙ log_rest (arg e) (positive e.before) (not_one e)
+    c.from_digits.ensures ∙ rest-is (p t) _ _ (q-is t) (x-is t) ∙ log_rest (arg e) (positive e.before) (not_one e)
 
 pub careful_log_spec : {M : Type 1} → statement M
 careful_log_spec =
     tie.close
     (tie.spec
-    returns
-    returns-2
-    float-from-bits-result
-    returns-3
-    float-from-bits-if4
-    returns-4
-    returns-5
-    float-to-bits-b
-    easy-log-requires
-    (λ c. c.easy-log.ensures)
-    cast-z
-    sub-from-digits
-    shl-from-digits
-    sub-from-digits-2
-    from-digits-requires
-    returns-7)
+    returns-then-v
+    returns-then-v-2
+    float_from_bits-result
+    returns-then-v-3
+    float_from_bits-t-5
+    returns-then-v-4
+    returns-then-v-5
+    float_to_bits-b
+    easy_log-requires
+    (λ c. c.easy_log.ensures)
+    overflow_cast-z
+    overflow_sub-z
+    overflow_shl-b
+    overflow_sub-z-2
+    from_digits-requires
+    returns)

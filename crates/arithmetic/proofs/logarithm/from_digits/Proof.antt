@@ -47,21 +47,21 @@ bias_at c = c.bias.ensures ∙ bias_is (test c.before.args.q)
 
 -- the shortfall as the machine has it
 shortfall_at : (c : tie.After-shortfall) → to_z w32 (of_z w32 c.shortfall.result) ≡ pos (suc (short (test c.before.before.args.q)))
-shortfall_at c = to_z-of_z w32 c.shortfall.result (record { sfits = c.shortfall.type-inv }) ∙ c.shortfall.ensures ∙ shortfall_is (test c.before.before.args.q)
+shortfall_at c = to_z-of_z w32 c.shortfall.result (record { sfits = c.shortfall.type_inv }) ∙ c.shortfall.ensures ∙ shortfall_is (test c.before.before.args.q)
 
-add-log-by : tie.Need-overflow-add-log-by
-add-log-by c =
+overflow_add-q : tie.Need-overflow_add-q
+overflow_add-q c =
     let b = bias_at c in
     let l = field_lt (test c.before.args.q) in
     record { fits = omega arith }
 
-float-from-bits-log-by : tie.Need-float-from-bits-log-by
-float-from-bits-log-by c =
+float_from_bits-q : tie.Need-float_from_bits-q
+float_from_bits-q c =
     let a = c.before in
     rw (bias_at c) (digits_no_nan a.args.q (field (test a.args.q)) a.requires.0 a.requires.1 (field_lt (test a.args.q)))
 
-sub-log-by : tie.Need-overflow-sub-log-by
-sub-log-by c = let a = c.before.before in rw (shortfall_at c) (diff_fits a.args.x (short (test a.args.q)) a.requires.2 (short-lt (test a.args.q)))
+overflow_sub-x : tie.Need-overflow_sub-x
+overflow_sub-x c = let a = c.before.before in rw (shortfall_at c) (diff_fits a.args.x (short (test a.args.q)) a.requires.2 (short-lt (test a.args.q)))
 
 returns : tie.Need-returns
 returns c =
@@ -69,19 +69,19 @@ returns c =
     let b = p.before in
     let a = b.before in
     let t = test a.args.q in
-    c.log-by.ensures
+    c.log_by.ensures
     ∙ rw (shortfall_at p, bias_at b, digits_bits a.args.q (field t) a.requires.0 a.requires.1 (field_lt t), diff_back a.args.x (short t) a.requires.2 (short-lt t)) refl
     ∙ digits-is t a.args.q a.args.x refl
 
-pub from-digits_spec : {M : Type 1} → statement M
-from-digits_spec =
+pub from_digits_spec : {M : Type 1} → statement M
+from_digits_spec =
     tie.close
     (tie.spec
     (λ c κs. tt)
-    add-log-by
-    float-from-bits-log-by
+    overflow_add-q
+    float_from_bits-q
     (λ c. search rules)
     (λ c κs. tt)
-    sub-log-by
+    overflow_sub-x
     (λ c κs. tt)
     returns)

@@ -11,25 +11,25 @@ above_no_nan nan h = absurd h
 above_no_nan (inf s) h = tt
 above_no_nan (fin s m e) h = tt
 
-float-from-bits-if2 : tie.Need-float-from-bits-if2
+float_from_bits-t-3 : tie.Need-float_from_bits-t-3
 unfolding nan_bits
-float-from-bits-if2 c = tt
+float_from_bits-t-3 c = tt
 
-float-to-bits-if3 : tie.Need-float-to-bits-if3
+float_to_bits-v : tie.Need-float_to_bits-v
 unfolding of_bits
-float-to-bits-if3 c = above_no_nan _ (passed c.before.if1.true)
+float_to_bits-v c = above_no_nan _ (passed c.before.if-v.true)
 
-returns : tie.Need-returns
+returns-then-v-ne0 : tie.Need-returns-then-v-ne0
 unfolding of_bits
-returns c = (omega arith, λ e. record { above = passed c.before.before.if1.true; below = passed c.before.if2.true; field = c.if3.true })
+returns-then-v-ne0 c = (omega arith, λ e. record { above = passed c.before.before.if-v.true; below = passed c.before.if-v-2.true; field = c.if-v-ne0.true })
 
 pub hard_spec : {M : Type 1} → statement M
 hard_spec =
     tie.close
     (tie.spec
-    float-from-bits-if2
-    float-to-bits-if3
-    returns
+    float_from_bits-t-3
+    float_to_bits-v
+    returns-then-v-ne0
     (λ c. (omega arith, λ e. absurd (omega arith)))
     (λ c. (omega arith, λ e. absurd (omega arith)))
     (λ c. (omega arith, λ e. absurd (omega arith))))

@@ -4,15 +4,15 @@ use Rattle.arithmetic.proofs.millionths.Steps.{no_rest, a-rest}
 use Rattle.arithmetic.proofs.millionths.in_millionths.Statement.{statement}
 use Rattle.arithmetic.proofs.millionths.in_millionths.Tie as tie
 
+returns-then-low-eq0 : tie.Need-returns-then-low-eq0
+returns-then-low-eq0 c =
+    let a = c.before.before in
+    (c.rounded.ensures.0 ∙ no_rest a.args.q a.args.d a.requires.1 c.before.if-low-eq0.true, c.rounded.ensures.1)
+
 returns : tie.Need-returns
 returns c =
     let a = c.before.before in
-    (c.rounded.ensures.0 ∙ no_rest a.args.q a.args.d a.requires.1 c.before.if1.true, c.rounded.ensures.1)
-
-returns-2 : tie.Need-returns-2
-returns-2 c =
-    let a = c.before.before in
-    (c.rounded2.ensures.0 ∙ a-rest a.args.q a.args.d a.requires.1 c.before.if1.false, c.rounded2.ensures.1)
+    (c.rounded-2.ensures.0 ∙ a-rest a.args.q a.args.d a.requires.1 c.before.if-low-eq0.false, c.rounded-2.ensures.1)
 
 pub in_millionths_spec : {M : Type 1} → statement M
 in_millionths_spec =
@@ -24,9 +24,9 @@ in_millionths_spec =
     (λ c. search rules)
     (λ c. search rules)
     (λ c κs. search rules)
-    returns
+    returns-then-low-eq0
     (λ c. search rules)
     (λ c. search rules)
     (λ c. search rules)
     (λ c κs. search rules)
-    returns-2)
+    returns)

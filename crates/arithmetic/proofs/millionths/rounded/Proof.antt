@@ -10,30 +10,30 @@ use Rattle.arithmetic.proofs.millionths.rounded.Tie as tie
 abbrev p : tie.Start → ℕ
 p c = 1 * 2 ^ c.args.s % 18446744073709551616
 
-div-w : tie.Need-nonzero-div-w
-div-w c = power_pos c.args.s c.requires.1
+nonzero_div-w : tie.Need-nonzero_div-w
+nonzero_div-w c = power_pos c.args.s c.requires.1
 
-mul-r : tie.Need-overflow-mul-r
-mul-r c = omega (arith, mod-le c.args.n (p c))
+overflow_mul-r : tie.Need-overflow_mul-r
+overflow_mul-r c = omega (arith, mod-le c.args.n (p c))
+
+returns-then-r-p : tie.Need-returns-then-r-p
+returns-then-r-p c = let a = c.before in rounds Ordering.lt a.args.n a.args.s a.requires.0 a.requires.1 c.if-r-p.true
+
+overflow_add-result : tie.Need-overflow_add-result
+overflow_add-result c = let a = c.before.before in omega (arith, div-le_self a.args.n (p a))
+
+returns-then-p-r : tie.Need-returns-then-p-r
+returns-then-p-r c = let a = c.before.before in rw (add-one (a.args.n / p a)) (rounds Ordering.gt a.args.n a.args.s a.requires.0 a.requires.1 c.if-p-r.true)
+
+overflow_add-result-2 : tie.Need-overflow_add-result-2
+overflow_add-result-2 c = let a = c.before.before in omega (arith, div-le_self a.args.n (p a))
 
 returns : tie.Need-returns
-returns c = let a = c.before in rounds Ordering.lt a.args.n a.args.s a.requires.0 a.requires.1 c.if1.true
-
-add-result : tie.Need-overflow-add-result
-add-result c = let a = c.before.before in omega (arith, div-le_self a.args.n (p a))
-
-returns-2 : tie.Need-returns-2
-returns-2 c = let a = c.before.before in rw (add-one (a.args.n / p a)) (rounds Ordering.gt a.args.n a.args.s a.requires.0 a.requires.1 c.if2.true)
-
-add-result-2 : tie.Need-overflow-add-result-2
-add-result-2 c = let a = c.before.before in omega (arith, div-le_self a.args.n (p a))
-
-returns-3 : tie.Need-returns-3
-returns-3 c =
+returns c =
     let a = c.before.before in
-    rounds Ordering.eq a.args.n a.args.s a.requires.0 a.requires.1 (le_antisymm c.if2.false c.before.if1.false)
+    rounds Ordering.eq a.args.n a.args.s a.requires.0 a.requires.1 (le_antisymm c.if-p-r.false c.before.if-r-p.false)
 
 pub rounded_spec : {M : Type 1} → statement M
 rounded_spec =
     tie.close
-    (tie.spec (λ c. search rules) div-w div-w mul-r returns add-result returns-2 add-result-2 returns-3)
+    (tie.spec (λ c. search rules) nonzero_div-w nonzero_div-w overflow_mul-r returns-then-r-p overflow_add-result returns-then-p-r overflow_add-result-2 returns)

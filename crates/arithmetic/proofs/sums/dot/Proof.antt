@@ -7,33 +7,33 @@ use Rattle.std.proofs.Common.{◌≡◌, ◌-◌, ◌≤◌, refl, arith, rules}
 use Rattle.arithmetic.proofs.sums.dot.Statement.{statement}
 use Rattle.arithmetic.proofs.sums.dot.Tie as tie
 
-abbrev invariant_loop : tie.invariant_loop
-invariant_loop n x y s₀ k₀ s k = (k ≤ n) × (s ≡ sum k (λ i. at x i ⊗ at y i))
+abbrev invariant-loop-k : tie.invariant-loop-k
+invariant-loop-k n x y s₀ k₀ s k = (k ≤ n) × (s ≡ sum k (λ i. at x i ⊗ at y i))
 
-abbrev decreases_loop : tie.decreases_loop
-decreases_loop n x y s₀ k₀ s k = n - k
+abbrev decreases-loop-k : tie.decreases-loop-k
+decreases-loop-k n x y s₀ k₀ s k = n - k
 
-loop-holds : tie.Need-loop-init invariant_loop decreases_loop
-loop-holds c = (omega arith, sum-none _)
+loop-k-init : tie.Need-loop-k-init invariant-loop-k decreases-loop-k
+loop-k-init c = (omega arith, sum-none _)
 
-loop-again : tie.Need-loop-preserved invariant_loop decreases_loop
-loop-again c = (omega arith, sum_more _ _ c.before.before.before.loop.invariant.1 refl)
+loop-k-preserved : tie.Need-loop-k-preserved invariant-loop-k decreases-loop-k
+loop-k-preserved c = (omega arith, sum_more _ _ c.before.before.before.loop-k.invariant.1 refl)
 
-returns : tie.Need-returns invariant_loop decreases_loop
+returns : tie.Need-returns invariant-loop-k decreases-loop-k
 returns c = search (sum_done, rules)
 
 pub dot_spec : {M : Type 1} → statement M
 dot_spec =
     tie.close
     (tie.spec
-    invariant_loop
-    decreases_loop
-    loop-holds
+    invariant-loop-k
+    decreases-loop-k
+    loop-k-init
     (λ c. omega arith)
     (λ c. omega arith)
     (λ c. omega arith)
     (λ c. omega arith)
     (λ c. omega arith)
     (λ c. omega arith)
-    loop-again
+    loop-k-preserved
     returns)

@@ -6,19 +6,19 @@ use Rattle.std.proofs.Common.{◌≡◌, ◌-◌, ◌≤◌, length, refl, arith
 use Rattle.arithmetic.proofs.sums.sum.Statement.{statement}
 use Rattle.arithmetic.proofs.sums.sum.Tie as tie
 
-abbrev invariant_loop : tie.invariant_loop
-invariant_loop xs s₀ k₀ k-end s k = (k ≤ length xs) × (s ≡ sum k (at xs))
+abbrev invariant-loop-k : tie.invariant-loop-k
+invariant-loop-k xs s₀ k₀ k-end s k = (k ≤ length xs) × (s ≡ sum k (at xs))
 
-abbrev decreases_loop : tie.decreases_loop
-decreases_loop xs s₀ k₀ k-end s k = length xs - k
+abbrev decreases-loop-k : tie.decreases-loop-k
+decreases-loop-k xs s₀ k₀ k-end s k = length xs - k
 
-loop-holds : tie.Need-loop-init invariant_loop decreases_loop
-loop-holds c = (omega arith, sum-none _)
+loop-k-init : tie.Need-loop-k-init invariant-loop-k decreases-loop-k
+loop-k-init c = (omega arith, sum-none _)
 
-loop-again : tie.Need-loop-preserved invariant_loop decreases_loop
-loop-again c = (omega arith, sum_more _ _ c.before.before.loop.invariant.1 refl)
+loop-k-preserved : tie.Need-loop-k-preserved invariant-loop-k decreases-loop-k
+loop-k-preserved c = (omega arith, sum_more _ _ c.before.before.loop-k.invariant.1 refl)
 
-returns : tie.Need-returns invariant_loop decreases_loop
+returns : tie.Need-returns invariant-loop-k decreases-loop-k
 unfolding total
 returns c = search (sum_done, rules)
 
@@ -26,12 +26,12 @@ pub sum_spec : {M : Type 1} → statement M
 sum_spec =
     tie.close
     (tie.spec
-    invariant_loop
-    decreases_loop
-    loop-holds
+    invariant-loop-k
+    decreases-loop-k
+    loop-k-init
     (λ c. omega arith)
     (λ c. omega arith)
     (λ c. omega arith)
     (λ c. omega arith)
-    loop-again
+    loop-k-preserved
     returns)

@@ -6,7 +6,7 @@ use Rattle.arithmetic.proofs.parameters.TdParam.value.Tie as tie
 
 returns : tie.Need-returns
 unfolding td_at
-returns c = c.value-by.ensures ∙ ap (td_by _ _) c.before.log.ensures
+returns c = c.value_by.ensures ∙ ap (td_by _ _) c.before.log.ensures
 
 pub value_spec : {M : Type 1} → statement M
 value_spec = tie.close (tie.spec (λ c κs. search rules) (λ c κs. search rules) returns)
