@@ -3,7 +3,6 @@ use Rattle.std.proofs.Common.{◌≡◌, ℕ, zero, suc, ◌+◌, ◌<◌, ◌�
 use lib.Ieee.{Float, binary64, of_bits}
 use Rattle.arithmetic.specs.Floats.{◌⊕◌, +0}
 use Rattle.arithmetic.specs.Sums.{fold, sum}
-use Rattle.arithmetic.specs.Tables.{at}
 
 pub fold_more : (s : Float) (f : ℕ → Float → Float) (j : ℕ) {a v : Float} → a ≡ fold j s f → v ≡ f j a → v ≡ fold (j + 1) s f
 unfolding fold

@@ -1,6 +1,8 @@
 // f64 arithmetic for the layers above: exp, log, the temperature-dependent parameter, left folds, floats in
 // bytes (document 01, "Arithmetic"), an f64 in millionths and a decimal field as an f64 (document 02, Changes
 // 1 and 2); and copies of slices.
+#![tactic(auto)]
+
 pub mod bytes;
 pub mod decimals;
 pub mod exponential;

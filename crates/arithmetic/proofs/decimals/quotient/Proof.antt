@@ -5,9 +5,9 @@ use Rattle.arithmetic.proofs.decimals.Tens.{plus_quotient, minus_quotient}
 use Rattle.arithmetic.proofs.decimals.quotient.Statement.{statement}
 use Rattle.arithmetic.proofs.decimals.quotient.Tie as tie
 
-in_float : (n : ℕ) → n < 10 ^ 15 → T (in_float binary64 (pos n))
+whole_in_float : (n : ℕ) → n < 10 ^ 15 → T (in_float binary64 (pos n))
 unfolding in_float
-in_float n h = le→leb n 9007199254740992 (omega arith)
+whole_in_float n h = le→leb n 9007199254740992 (omega arith)
 
 returns-then-minus : tie.Need-returns-then-minus
 returns-then-minus c =
@@ -24,4 +24,4 @@ returns c =
 pub quotient_spec : {M : Type 1} → statement M
 quotient_spec =
     tie.close
-    (tie.spec (λ c. in_float c.before.args.n c.before.requires.0) (λ c κs. search rules) returns-then-minus returns)
+    (tie.spec (λ c. whole_in_float c.before.args.n c.before.requires.0) (λ c κs. search rules) returns-then-minus returns)

@@ -35,31 +35,31 @@ overflow_add-at c = omega (arith, inside c.before.before.before.before c.before.
 
 slice_bounds-pointed-end : tie.Need-slice_bounds-pointed-end
 slice_bounds-pointed-end c =
-    let k = c.before.before.before.before.before in
-    sym (length-take-le k.leading-i.result k.before.before.args.s.now (omega (arith, inside k c.before.before.before.if-i-s.false)))
+    let k = c.before.before.before.before in
+    sym (length-take-le k.leading-i.result k.before.before.args.s.now (omega (arith, inside k c.before.before.if-i-s.false)))
 
 slice_bounds-pointed-count : tie.Need-slice_bounds-pointed-count
-slice_bounds-pointed-count c = omega (arith, inside c.before.before.before.before.before c.before.before.before.if-i-s.false)
+slice_bounds-pointed-count c = omega (arith, inside c.before.before.before.before c.before.before.if-i-s.false)
 
 slice_bounds-pointed-start : tie.Need-slice_bounds-pointed-start
-slice_bounds-pointed-start c = omega (arith, inside c.before.before.before.before.before c.before.before.before.if-i-s.false)
+slice_bounds-pointed-start c = omega (arith, inside c.before.before.before.before c.before.before.if-i-s.false)
 
 pointed-requires : tie.Need-pointed-requires
 pointed-requires c κs =
-    let k = c.before.before.before.before.before.before in
-    let l = inside k c.before.before.before.before.if-i-s.false in
+    let k = c.before.before.before.before.before in
+    let l = inside k c.before.before.before.if-i-s.false in
     omega (arith, length-take-le k.leading-i.result k.before.before.args.s.now (omega arith))
 
 returns : tie.Need-returns
 returns c =
-    let i = c.before.before.before.before.before in
+    let i = c.before.before.before.before in
     let k = i.before.before in
     let a = k.before.before.args in
     let e = ap (λ (i : ℕ). get_or a.s.now i 0) k.leading-i.ensures in
     c.pointed.ensures
     ∙ ap (pointed_field a.minus (take k.leading-i.result a.s.now)) (from_is a.s.now (k.leading-i.result + 1))
     ∙ ap (λ (i : ℕ). pointed_field a.minus (take i a.s.now) (drop (i + 1) a.s.now)) k.leading-i.ensures
-    ∙ unsigned_point a.minus a.s.now (omega arith) (omega (arith, inside k i.if-i-s.false)) (sym e ∙ c.before.before.before.if-s-i-ne46.false)
+    ∙ unsigned_point a.minus a.s.now (omega arith) (omega (arith, inside k i.if-i-s.false)) (sym e ∙ c.before.before.if-s-i-ne46.false)
 
 pub unsigned_spec : {M : Type 1} → statement M
 unsigned_spec =

@@ -1,9 +1,9 @@
 -- Each return is the line of `exp_of` that the tests on the way pick.
-use Rattle.std.proofs.Common.{◌≡◌, true, false, ◌&&◌, negsuc, refl, ap, ◌∙◌, ⊎_elim, w64, to_z, of_z}
+use Rattle.std.proofs.Common.{◌≡◌, true, false, ◌&&◌, negsuc, refl, ap, ◌∙◌, w64, to_z, of_z}
 use lib.Ieee.{fin, binary64, of_bits, neg, round, lt, le, is_nan, nan_bits, of_int}
 use mir.ValLaws.{to_z-of_z}
 use Rattle.arithmetic.specs.Floats.{dec, one}
-use Rattle.arithmetic.specs.Exponential.{highest, lowest, scaled, reduced, exponent}
+use Rattle.arithmetic.specs.Exponential.{highest, lowest, exponent}
 use Rattle.arithmetic.proofs.Within.{near}
 use Rattle.arithmetic.proofs.exponential.Cutting.{cut_within, Inside}
 use Rattle.arithmetic.proofs.Powers.{Near}
@@ -11,6 +11,7 @@ use Rattle.arithmetic.proofs.Tests.{failed, first_fails, second_fails}
 use Rattle.arithmetic.proofs.ByteLaws.{no_nan}
 use Rattle.arithmetic.proofs.ExpBranches.{a_nan, exp_nan, exp_high, exp_low, exp_tiny, exp_rest}
 use Rattle.arithmetic.proofs.exponential.careful_exp.Statement.{statement}
+use Rattle.arithmetic.proofs.exponential.careful_exp.Lts.{then-v-4+else-v-5, else-v-4}
 use Rattle.arithmetic.proofs.exponential.careful_exp.Tie as tie
 
 -- ---- the tests, in the words of `exp_of`
@@ -27,7 +28,11 @@ not_low c = c.if-v-3.false
 
 not_tiny : (c : tie.Joined-v-4) → le (fin true 1 (negsuc 27)) c.before.before.before.before.args.v && le c.before.before.before.before.args.v (fin false 1 (negsuc 27)) ≡ false
 unfolding of_bits neg
-not_tiny c = ⊎_elim (λ w. second_fails w.0.taken w.1.left) (λ w. first_fails _ w.left) c.if-v-4.branch
+not_tiny c =
+    elim c.if-v-4.branch [
+      | then-v-4+else-v-5 w ↦ second_fails w.if-v-4.true w.if-v-5.false
+      | else-v-4 w ↦ first_fails _ w.if-v-4.false
+    ]
 
 inside : (c : tie.Joined-v-4) → Inside c.before.before.before.before.args.v
 inside c = (failed (is_no_nan c.before.before.before), failed (not_high c.before.before), failed (not_low c.before))

@@ -4,7 +4,7 @@ use Rattle.arithmetic.proofs.exponential.exp_each.Statement.{statement}
 use Rattle.arithmetic.proofs.exponential.exp_each.Tie as tie
 
 each_easy-requires : tie.Need-each_easy-requires
-each_easy-requires c κs = (c.before.before.before.before.before.requires, c.before.before.count_hard.ensures c.before.if-count_hard-eq0.true)
+each_easy-requires c κs = (c.before.before.before.before.requires, c.before.before.count_hard.ensures c.before.if-count_hard-eq0.true)
 
 pub exp_each_spec : {M : Type 1} → statement M
 exp_each_spec =

@@ -1,5 +1,5 @@
 -- What is cut is below 1,493 in size, so it fits an i64.
-use Rattle.std.proofs.Common.{◌≡◌, Bool, true, false, cond, T, pos, sym, ap, ◌∙◌, subst, ⊎_elim, w64}
+use Rattle.std.proofs.Common.{◌≡◌, Bool, true, false, cond, T, pos, sym, ap, ◌∙◌, subst, w64}
 use lib.Ieee.{Float, fin, binary64, add, mul, of_bits, neg, round, to_signed, lt, le}
 use mir.ValLaws.{to_z-of_z}
 use Rattle.arithmetic.specs.Floats.{◌⊕◌, ◌⊗◌, dec, half}
@@ -7,11 +7,16 @@ use Rattle.arithmetic.specs.Exponential.{exponent, reciprocal, rounding}
 use Rattle.arithmetic.proofs.Within.{above-least, below-most}
 use Rattle.arithmetic.proofs.exponential.Cutting.{cut_within}
 use Rattle.arithmetic.proofs.exponential.exponent.Statement.{statement}
+use Rattle.arithmetic.proofs.exponential.exponent.Lts.{then-v, else-v}
 use Rattle.arithmetic.proofs.exponential.exponent.Tie as tie
 
 h-is : (c : tie.Joined-v) → c.if-v.h ≡ rounding c.before.args.v
 unfolding rounding half dec round of_bits neg
-h-is c = ⊎_elim (λ w. w.1 ∙ sym (ap (λ (t : Bool). cond t (neg half) half) w.0.taken)) (λ w. w.1 ∙ sym (ap (λ (t : Bool). cond t (neg half) half) w.0.left)) c.if-v.branch
+h-is c =
+    elim c.if-v.branch [
+      | then-v w ↦ w.h-is ∙ sym (ap (λ (t : Bool). cond t (neg half) half) w.if-v.true)
+      | else-v w ↦ w.h-is ∙ sym (ap (λ (t : Bool). cond t (neg half) half) w.if-v.false)
+    ]
 
 cut_is : (c : tie.Joined-v) → add binary64 (mul binary64 (of_bits binary64 4609176140021203710) c.before.args.v) c.if-v.h ≡ reciprocal ⊗ c.before.args.v ⊕ rounding c.before.args.v
 unfolding reciprocal dec round of_bits

@@ -1,7 +1,7 @@
 -- Each return is the line of `log_of` that the tests on the way pick.
 use Rattle.std.proofs.Common.{◌≡◌, ℕ, suc, ◌+◌, ◌-◌, ◌*◌, ◌%◌, ◌^◌, ◌<◌, false, pos, ◌∙◌, arith}
 use lib.Count.{count_leading_zeros, leading_le}
-use lib.Ieee.{Float, fin, inf, binary64, of_bits, to_bits, lt, eq, is_nan, nan_bits, div, fits, round}
+use lib.Ieee.{Float, fin, inf, binary64, of_bits, to_bits, lt, eq, is_nan, nan_bits, div, round}
 use Rattle.arithmetic.specs.Floats.{dec, one}
 use Rattle.arithmetic.proofs.Tests.{passed, failed}
 use Rattle.arithmetic.proofs.ExpBranches.{a_nan}
