@@ -3,7 +3,7 @@ ghost use Rattle.std.specs.Prelude.{◌≡◌};
 ghost use Rattle.models.specs.Answers.{quantity_of};
 
 // ln γ of component i, γ of component i, or the reduced excess Gibbs energy.
-#[derive(Drop)]
+#[derive(Clone, Copy)]
 pub enum Quantity {
     LnGamma(usize),
     Gamma(usize),
@@ -22,7 +22,7 @@ pub fn quantity_of(k: usize, i: usize) -> Quantity
 }
 
 // The value asked for, or document 01's number of the refusal.
-#[derive(Drop)]
+#[derive(Clone, Copy)]
 pub enum Answer {
     Value(f64),
     Refused(u8),

@@ -13,7 +13,7 @@ use crate::answers::{Answer, Quantity};
 use crate::limits::NAMED;
 use crate::{faults, nrtl, unifac, uniquac, wilson};
 
-#[derive(Drop)]
+#[derive(Clone, Copy)]
 pub enum Model {
     Wilson,
     Uniquac,

@@ -14,7 +14,7 @@ ghost use Rattle.models.specs.Values.{five_at, nrtl_size, taus, alphas};
 ghost use Rattle.models.specs.Steps.Model.{ValueFits};
 ghost use Rattle.models.specs.Steps.Columns.{Added};
 ghost use Rattle.models.specs.Steps.Nrtl.{NrtlFits, NrtlSums, NrtlZeros};
-ghost use Rattle.models.specs.Nrtl.{tau};
+ghost use Rattle.models.specs.Nrtl.{tau as tau_table};
 ghost use Rattle.arithmetic.specs.Sums.{sum};
 
 use crate::answers::{Answer, Quantity};
@@ -150,7 +150,7 @@ fn second(n: usize, tau: &[f64], g: &[f64], u: &[f64], d: &[f64], x: &[f64], i: 
 fn ln_gamma(n: usize, tau: &[f64], g: &[f64], u: &[f64], d: &[f64], x: &[f64], i: usize) -> f64
     requires { NrtlFits n tau.now g.now x.now × NrtlSums n u.now d.now × (i < n) }
     ensures { let G = unit_diagonal (grid n g.now) in
-        let τ = tau (grid n tau.now) in
+        let τ = tau_table (grid n tau.now) in
         let U = at u.now in
         let D = at d.now in
         result ≡ U i ⊘ D i

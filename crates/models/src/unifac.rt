@@ -265,7 +265,7 @@ fn combinatorial(q: f64, v: f64, f: f64) -> f64
 }
 
 // What the components share: their sizes r and q, and the sums of these over the fractions.
-#[derive(Drop)]
+#[derive(Clone, Copy)]
 pub struct Shared {
     pub r: [f64; COMPONENTS],
     pub q: [f64; COMPONENTS],
@@ -467,7 +467,7 @@ pub fn value_over(
 }
 
 // The components from first to below last.
-#[derive(Drop)]
+#[derive(Clone, Copy)]
 pub struct Span {
     pub first: usize,
     pub last: usize,

@@ -11,7 +11,7 @@ ghost use Rattle.models.specs.Steps.Model.{ValueFits};
 ghost use Rattle.models.specs.Steps.Uniquac.{UniquacFits, UniquacShared};
 ghost use Rattle.models.specs.Steps.Uniquac.{combinatorial_by, combinatorial_of};
 ghost use Rattle.models.specs.Uniquac.{tau, share, ln_gamma, excess, uniquac, uniquac_at};
-ghost use Rattle.models.specs.Uniquac.{Z as U-as-Z, l};
+ghost use Rattle.models.specs.Uniquac.{Z as coordination, l};
 ghost use Rattle.models.specs.Values.{uniquac_size, energies, rs, qs};
 
 use crate::answers::{Answer, Quantity};
@@ -35,7 +35,7 @@ fn shares(n: usize, s: &[f64], x: &[f64], shares: &mut [f64])
 
 // l of r and q.
 fn l(r: f64, q: f64) -> f64
-    ensures { result ≡ half ⊗ U-as-Z ⊗ (r ⊖ q) ⊖ (r ⊖ one) }
+    ensures { result ≡ half ⊗ coordination ⊗ (r ⊖ q) ⊖ (r ⊖ one) }
 {
     0.5 * Z * (r - q) - (r - 1.0)
 }
