@@ -1,13 +1,11 @@
 -- The lent memory and the head: document 01, "Mixture".
 use Rattle.std.specs.Prelude.{◌≡◌, Bool, ◌||◌, List, ℕ, ltb, length, Float}
-use Rattle.std.specs.Borrow.{Bor}
-use denote.Triple.Both.{Both}
 use Rattle.models.specs.Limits.{most_values, table_size}
 use Rattle.mixture.specs.declared.head.Head.{Head}
 use Rattle.mixture.specs.declared.answers.Answer.{Answer}
 use Rattle.mixture.specs.declared.answers.Reply.{Reply}
 
--- a mark of 1 is fresh, any other stale
+-- the three lent slices; a mark of 1 is fresh, any other stale
 pub record Memory : Type 0 where
   pub values : List Float
   pub cells : List Float
@@ -15,13 +13,6 @@ pub record Memory : Type 0 where
 
 abbrev pub memory : List Float → List Float → List ℕ → Memory
 memory v c k = record { values = v; cells = c; marks = k }
-
--- the three lent slices, before a call and after it
-abbrev pub before : {A B C : Type 0} → Both (Bor (List Float)) A → Both (Bor (List Float)) B → Both (Bor (List ℕ)) C → Memory
-before v c k = memory v.entry.now c.entry.now k.entry.now
-
-abbrev pub later : {A B C : Type 0} → Both A (Bor (List Float)) → Both B (Bor (List Float)) → Both C (Bor (List ℕ)) → Memory
-later v c k = memory v.exit.now c.exit.now k.exit.now
 
 -- memory whose slices have these lengths
 abbrev pub OfLengths : ℕ → ℕ → ℕ → Memory → Type 0

@@ -5,14 +5,14 @@ ghost use Rattle.mixture.specs.Answers.{value_of};
 use crate::head::Head;
 
 // Document 01's number of the refusal, the call was done, or a value with the number of cells worked.
-#[derive(Drop)]
+#[derive(Clone, Copy)]
 pub enum Answer {
     Refused(u8),
     Done,
     Value(f64, usize),
 }
 
-#[derive(Drop)]
+#[derive(Clone, Copy)]
 pub struct Reply {
     pub head: Head,
     pub answer: Answer,

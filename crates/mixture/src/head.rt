@@ -11,7 +11,7 @@ use models::faults::usual_tolerance;
 use models::limits::{COMPONENTS, PLACES};
 
 // The model's number is 0 for none, 1 Wilson, 2 UNIQUAC, 3 NRTL, 4 UNIFAC. Groups stand list after list.
-#[derive(Drop)]
+#[derive(Clone, Copy)]
 pub struct Head {
     pub model: u8,
     pub n: usize,

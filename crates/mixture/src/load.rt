@@ -6,7 +6,7 @@ ghost use Rattle.mixture.specs.Holdings.{held};
 ghost use Rattle.models.specs.Limits.{most_components, most_groups, most_places};
 ghost use Rattle.models.specs.Model.{table_width, ModelData, model_data};
 ghost use Rattle.models.specs.Model.{given as data_given};
-ghost use Rattle.mixture.specs.Memory.{before, later, left, least_marks};
+ghost use Rattle.mixture.specs.Memory.{memory, left, least_marks};
 ghost use Rattle.mixture.specs.Layout.{cell_at};
 ghost use Rattle.mixture.specs.Calls.{loaded_head, after_load};
 
@@ -64,7 +64,7 @@ pub fn load(
     groups: &[u8],
     given: &[f64],
 ) -> Reply
-    ensures { left (later values cells marks) result ≡ after_load (before values cells marks) head
+    ensures { left (memory values.new cells.now marks.new) result ≡ after_load (memory values.old cells.now marks.old) head
         (data_given model n ng lens groups given) }
 {
     let short = memory_fault(values.len(), cells.len(), marks.len());

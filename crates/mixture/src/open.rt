@@ -1,6 +1,6 @@
 // Opening: document 01, "Mixture".
 ghost use Rattle.std.specs.Prelude.{◌≡◌};
-ghost use Rattle.mixture.specs.Memory.{before, left};
+ghost use Rattle.mixture.specs.Memory.{memory, left};
 ghost use Rattle.mixture.specs.Calls.{after_open};
 
 use crate::answers::{Answer, Reply};
@@ -9,8 +9,8 @@ use crate::head::{Head, no_head};
 
 // Writes no lent place and leaves no model.
 pub fn open(values: &[f64], cells: &[f64], marks: &[u8], head: Head) -> Reply
-    ensures { left (before values cells marks) result
-        ≡ after_open (before values cells marks) head }
+    ensures { left (memory values.now cells.now marks.now) result
+        ≡ after_open (memory values.now cells.now marks.now) head }
 {
     let fault = memory_fault(values.len(), cells.len(), marks.len());
     if fault != 0 {

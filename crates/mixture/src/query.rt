@@ -8,7 +8,7 @@ ghost use Rattle.models.specs.Wilson.{wilson};
 ghost use Rattle.models.specs.Uniquac.{uniquac};
 ghost use Rattle.models.specs.Nrtl.{nrtl};
 ghost use Rattle.models.specs.Unifac.{unifac};
-ghost use Rattle.mixture.specs.Memory.{memory, after, before, later, left};
+ghost use Rattle.mixture.specs.Memory.{memory, after, left};
 ghost use Rattle.mixture.specs.Calls.{after_query};
 ghost use Rattle.mixture.specs.Faults.{query_fault};
 ghost use Rattle.mixture.specs.Steps.Refills.{taus_at, groups_at, Asked, Ranged, Solves, Answered};
@@ -23,7 +23,7 @@ use models::model::model_of;
 use models::{Model, Quantity};
 
 // A value and the number of cells worked.
-#[derive(Drop)]
+#[derive(Clone, Copy)]
 pub struct Worked {
     pub value: f64,
     pub count: usize,
@@ -195,7 +195,7 @@ fn unifac(
 // Refills and answers by the head's model.
 fn solve(values: &[f64], cells: &mut [f64], marks: &mut [u8], head: Head, q: Quantity) -> Worked
     requires { query_fault (memory values.now cells.old marks.old) head q ≡ 0 }
-    ensures { Answered (before values cells marks) head q
+    ensures { Answered (memory values.now cells.old marks.old) head q
         cells.new marks.new result }
 {
     let n = head.n;
@@ -216,7 +216,7 @@ fn solve(values: &[f64], cells: &mut [f64], marks: &mut [u8], head: Head, q: Qua
 
 // What a query does to cells and marks, and its answer.
 fn answered(values: &[f64], cells: &mut [f64], marks: &mut [u8], head: Head, q: Quantity) -> Answer
-    ensures { after (later values cells marks) head result ≡ after_query (before values cells marks) head q }
+    ensures { after (memory values.now cells.new marks.new) head result ≡ after_query (memory values.now cells.old marks.old) head q }
 {
     let fault = query_fault(values.len(), cells.len(), marks.len(), head, q);
     if fault != 0 {
@@ -231,8 +231,8 @@ fn answered(values: &[f64], cells: &mut [f64], marks: &mut [u8], head: Head, q: 
 // puts this function into its callers. It is handed the head itself and a copy goes back, so that a caller
 // that asks again and again needn't put the head together in memory for each query.
 pub fn query(values: &[f64], cells: &mut [f64], marks: &mut [u8], head: Head, q: Quantity) -> Reply
-    ensures { left (later values cells marks) result
-        ≡ after_query (before values cells marks) head q }
+    ensures { left (memory values.now cells.new marks.new) result
+        ≡ after_query (memory values.now cells.old marks.old) head q }
 {
     let back = head;
     if head.has_t {

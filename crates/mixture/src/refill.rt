@@ -16,7 +16,7 @@ use models::model::has_groups;
 
 // What goes with every row of a table: the model, the number w of rows, how far apart they start in the
 // inputs, T, and log(T), which only UNIFAC reads.
-#[derive(Drop)]
+#[derive(Clone, Copy)]
 pub struct Rows {
     pub model: Model,
     pub w: usize,

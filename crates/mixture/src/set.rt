@@ -7,7 +7,7 @@ ghost use Rattle.mixture.specs.declared.answers.Answer.TheVariants.{Done};
 ghost use Rattle.mixture.specs.Answers.{unless};
 ghost use Rattle.mixture.specs.Holdings.{held};
 ghost use Rattle.models.specs.Model.{by_model};
-ghost use Rattle.mixture.specs.Memory.{before, later, left, least_marks};
+ghost use Rattle.mixture.specs.Memory.{memory, left, least_marks};
 ghost use Rattle.mixture.specs.Layout.{numbers, place};
 ghost use Rattle.mixture.specs.Calls.{stales_at, set_head, after_setting};
 ghost use Rattle.mixture.specs.Steps.Blocks.{Staled, entry_block, block_of};
@@ -239,8 +239,8 @@ fn answer_by(fault: u8) -> Answer
 // What a setting does to values and marks; 0, or the number of what it is declined for, in which case it does
 // nothing.
 fn change(values: &mut [f64], cells: &[f64], marks: &mut [u8], head: Head, s: Setting) -> u8
-    ensures { left (later values cells marks) (set_reply result head s)
-        ≡ after_setting (before values cells marks) head s }
+    ensures { left (memory values.new cells.now marks.new) (set_reply result head s)
+        ≡ after_setting (memory values.old cells.now marks.old) head s }
 {
     let fault = setting_fault(values.len(), cells.len(), marks.len(), head, s);
     if fault != 0 {
@@ -270,8 +270,8 @@ fn reply_by(head: Head, fault: u8, s: Setting) -> Reply
 // same on purpose, as in `query`; `change` is handed a copy of the head, so that the head itself needn't be
 // put together in memory before it goes back.
 pub fn set(values: &mut [f64], cells: &[f64], marks: &mut [u8], head: Head, s: Setting) -> Reply
-    ensures { left (later values cells marks) result
-        ≡ after_setting (before values cells marks) head s }
+    ensures { left (memory values.new cells.now marks.new) result
+        ≡ after_setting (memory values.old cells.now marks.old) head s }
 {
     let copy = head;
     if head.has_t {

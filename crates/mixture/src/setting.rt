@@ -1,7 +1,7 @@
 // A setting: one of six cases, each with its own f64.
 use arithmetic::TdParam;
 
-#[derive(Drop)]
+#[derive(Clone, Copy)]
 pub enum Setting {
     Temperature(f64),
     // i, j: energy, or α in NRTL

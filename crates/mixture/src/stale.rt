@@ -3,7 +3,7 @@ ghost use Rattle.std.specs.Prelude.{◌≡◌, cond, ◌+◌, ◌≤◌, length}
 ghost use Rattle.mixture.specs.Steps.Blocks.{Staled, in_row, in_block, BlockFits};
 
 // So many rows from top on, and so many columns from left on.
-#[derive(Drop)]
+#[derive(Clone, Copy)]
 pub struct Block {
     pub top: usize,
     pub rows: usize,

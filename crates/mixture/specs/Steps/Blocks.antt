@@ -1,7 +1,7 @@
 -- What the inner functions of a load and a setting say: the head read alone, cells by a block of rows and columns, and a
 -- setting's reply by its number. No call's own contract speaks of it.
 use Rattle.std.specs.Prelude.{◌≡◌, Bool, true, not, ◌&&◌, ◌||◌, cond, List, [], ℕ, ◌+◌, ◌*◌, ◌/◌, ◌%◌, ◌≤◌, leb, ltb, eqb}
-use Rattle.std.specs.Borrow.{Bor}
+use Rattle.std.specs.Borrow.{MutBor}
 use denote.Triple.Both.{Both}
 use Rattle.models.specs.Limits.{most_components, most_groups, most_listed, most_places}
 use Rattle.models.specs.Values.{start}
@@ -22,7 +22,7 @@ use Rattle.mixture.specs.Answers.{unless}
 use Rattle.mixture.specs.Calls.{set_head}
 
 -- of the marks those that pass are made 0
-abbrev pub Staled : (ℕ → Bool) → Both (Bor (List ℕ)) (Bor (List ℕ)) → Type 0
+abbrev pub Staled : (ℕ → Bool) → Both (MutBor (List ℕ)) (MutBor (List ℕ)) → Type 0
 Staled p marks = marks.exit.now ≡ written p (λ c. 0) marks.entry.now
 
 -- the place c is within left and right of the row that begins at start, and isn't skip's

@@ -4,7 +4,7 @@ use Rattle.std.specs.Float.Ieee.{neg}
 use Rattle.arithmetic.specs.Exponential.{exp_of}
 use Rattle.arithmetic.specs.Floats.{◌⊖◌, ◌⊗◌, ◌⊘◌}
 use Rattle.arithmetic.specs.Parameters.{td_at, td_by}
-use Rattle.std.specs.Borrow.{Bor}
+use Rattle.std.specs.Borrow.{Bor, MutBor}
 use denote.Triple.Both.{Both}
 use Rattle.arithmetic.specs.Tables.{Table, Vector, at, from, grid}
 use Rattle.models.specs.declared.answers.Quantity.{Quantity}
@@ -150,10 +150,10 @@ abbrev Lent : Type 0 → Type 0
 Lent A = Both (Bor (List Float)) A
 
 abbrev Floats : Type 0
-Floats = Both (Bor (List Float)) (Bor (List Float))
+Floats = Both (MutBor (List Float)) (MutBor (List Float))
 
 abbrev Marks : Type 0
-Marks = Both (Bor (List ℕ)) (Bor (List ℕ))
+Marks = Both (MutBor (List ℕ)) (MutBor (List ℕ))
 
 abbrev pub Refills : ℕ → (ℕ → Bool) → Vector → Floats → Marks → ℕ → Type 0
 Refills n p f cells marks r = Refilled n p f cells.entry.now marks.entry.now cells.exit.now marks.exit.now r
@@ -175,7 +175,7 @@ abbrev pub TableTaken : Model → ℕ → Vector → Floats → Marks → Type 0
 TableTaken k w f cells marks =
     Refills (w * w) (stale_of k w marks.entry.now) f cells marks (table_count k w marks.entry.now)
 
-abbrev pub RowGathered : {A B C D : Type 0} → Rows → Lent A → Lent B → Both (Bor (List ℕ)) C → ℕ → Both D (Bor (List Float)) → ℕ → Type 0
+abbrev pub RowGathered : {A B C D : Type 0} → Rows → Lent A → Lent B → Both (Bor (List ℕ)) C → ℕ → Both D (MutBor (List Float)) → ℕ → Type 0
 RowGathered g row tau marks i out r =
     Gathered g.w (stale_in g.model marks.entry.now i) (argument_in g row.entry.now tau.entry.now i) out.exit.now r
 
