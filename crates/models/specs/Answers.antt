@@ -1,5 +1,5 @@
 -- What is asked of a model, and what a plain call answers: document 01, "Models" and "What each call declines".
-use Rattle.std.specs.Prelude.{Bool, true, cond, List, [], ◌∷◌, ℕ, zero, suc, eqb, ltb, Float}
+use Rattle.std.specs.Prelude.{Bool, true, cond, List, [], ◌∷◌, ℕ, zero, suc, eqb, Float}
 use Rattle.arithmetic.specs.Tables.{Vector}
 use Rattle.arithmetic.specs.Exponential.{exp_of}
 use Rattle.models.specs.declared.answers.Quantity.{Quantity}

@@ -1,5 +1,5 @@
 -- A model's values in the strip's order (document 01, "Strip and program"), read by their names.
-use Rattle.std.specs.Prelude.{List, ℕ, zero, suc, ◌+◌, ◌*◌, length, get_or, Float}
+use Rattle.std.specs.Prelude.{List, ℕ, zero, suc, ◌+◌, ◌*◌, get_or, Float}
 use Rattle.arithmetic.specs.Tables.{at, grid}
 use Rattle.arithmetic.specs.declared.parameters.TdParam.{TdParam}
 use Rattle.models.specs.Unifac.{Groups}

@@ -1,5 +1,7 @@
 // Four activity-coefficient models: Wilson, UNIQUAC, NRTL and UNIFAC (document 01, "Models"); and for two of
 // them a supplier's list of energies (document 02, Change 2).
+#![tactic(auto)]
+
 pub mod answers;
 pub mod columns;
 pub mod exponentials;

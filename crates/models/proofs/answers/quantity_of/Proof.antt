@@ -9,6 +9,6 @@ unfolding quantity_of
 quantity_of_spec =
     tie.close
     (tie.spec
-    (λ c. rw c.match.keys1)
-    (λ c. rw c.match.keys2)
-    (λ c. let r = c.match.rest in simp (ne_eqb _ _ r.0.1, ne_eqb _ _ r.1)))
+    (λ c. rw c.in-0.is)
+    (λ c. rw c.in-1.is)
+    (λ c. let r = c.in_default.in_default-own.rest in simp (ne_eqb _ _ r.0.1, ne_eqb _ _ r.1)))

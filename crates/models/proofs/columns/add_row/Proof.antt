@@ -7,21 +7,21 @@ use Rattle.arithmetic.proofs.TableLaws.{Rewriting, rewriting_none, rewriting_nex
 use Rattle.models.proofs.columns.add_row.Statement.{statement}
 use Rattle.models.proofs.columns.add_row.Tie as tie
 
-abbrev invariant_loop : tie.invariant_loop
-invariant_loop row w n sums₀ j₀ sums j = Rewriting (λ j. at sums₀ j ⊕ w ⊗ at row j) n sums₀ j sums
+abbrev invariant-loop-j : tie.invariant-loop-j
+invariant-loop-j row w n sums₀ j₀ sums j = Rewriting (λ j. at sums₀ j ⊕ w ⊗ at row j) n sums₀ j sums
 
-abbrev decreases_loop : tie.decreases_loop
-decreases_loop row w n sums₀ j₀ sums j = n - j
+abbrev decreases-loop-j : tie.decreases-loop-j
+decreases-loop-j row w n sums₀ j₀ sums j = n - j
 
-loop-again : tie.Need-loop-preserved invariant_loop decreases_loop
-loop-again c = let inv = c.before.before.before.loop.invariant in rewriting_more (omega arith) (rw (rewriting_next (omega arith) inv)) inv
+loop-j-preserved : tie.Need-loop-j-preserved invariant-loop-j decreases-loop-j
+loop-j-preserved c = let inv = c.loop-j.invariant in rewriting_more (omega arith) (rw (rewriting_next (omega arith) inv)) inv
 
-pub add-row_spec : {M : Type 1} → statement M
-add-row_spec =
+pub add_row_spec : {M : Type 1} → statement M
+add_row_spec =
     tie.close
     (tie.spec
-    invariant_loop
-    decreases_loop
+    invariant-loop-j
+    decreases-loop-j
     (λ c. rewriting_none (omega arith))
     (λ c. omega arith)
     (λ c. omega arith)
@@ -31,6 +31,6 @@ add-row_spec =
     (λ c. omega arith)
     (λ c. omega arith)
     (λ c. omega arith)
-    loop-again
-    (λ c. c.before.loop.invariant.long)
-    (λ c. rewriting_done c.loop-test.false c.before.loop.invariant))
+    loop-j-preserved
+    (λ c. c.loop-j.invariant.long)
+    (λ c. rewriting_done c.loop-j-test.false c.loop-j.invariant))

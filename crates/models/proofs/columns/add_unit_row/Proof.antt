@@ -10,12 +10,10 @@ use Rattle.models.proofs.columns.add_unit_row.Tie as tie
 returns : tie.Need-returns
 unfolding one dec round of_bits
 returns c =
-    let s = c.before.before.before.before.before.before.before in
-    let row = c.before.before in
-    unit-added _ _ _ _ s.args.sums.now _ s.requires.1 s.requires.2 refl row.add_row.ensures row.add_row.auto.1.1.1.0
+    unit-added _ _ _ _ c.args.sums.now _ c.requires.1 c.requires.2 refl c.add_row.ensures c.add_row.auto.sums
 
-pub add-unit-row_spec : {M : Type 1} → statement M
-add-unit-row_spec =
+pub add_unit_row_spec : {M : Type 1} → statement M
+add_unit_row_spec =
     tie.close
     (tie.spec
     (λ c. search rules)

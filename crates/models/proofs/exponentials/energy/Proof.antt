@@ -7,7 +7,7 @@ use Rattle.models.proofs.exponentials.energy.Tie as tie
 
 returns : tie.Need-returns
 unfolding energy
-returns c = c.exp.ensures ∙ rw c.before.argument.ensures
+returns c = c.exp.ensures ∙ rw c.argument.ensures
 
 pub energy_spec : {M : Type 1} → statement M
 energy_spec = tie.close (tie.spec (λ c κs. search rules) (λ c κs. tt) returns)

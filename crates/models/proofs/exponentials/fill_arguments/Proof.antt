@@ -10,21 +10,21 @@ use Rattle.arithmetic.proofs.TableLaws.{Filling, filling_none, filling_more, fil
 use Rattle.models.proofs.exponentials.fill_arguments.Statement.{statement}
 use Rattle.models.proofs.exponentials.fill_arguments.Tie as tie
 
-abbrev invariant_loop : tie.invariant_loop
-invariant_loop row t n i out₀ own j₀ out j = (own ≡ at row i) × Filling (λ j. neg (at row j ⊖ at row i) ⊘ t) n (length out₀) j out
+abbrev invariant-loop-j : tie.invariant-loop-j
+invariant-loop-j row t n i out₀ own j₀ out j = (own ≡ at row i) × Filling (λ j. neg (at row j ⊖ at row i) ⊘ t) n (length out₀) j out
 
-abbrev decreases_loop : tie.decreases_loop
-decreases_loop row t n i out₀ own j₀ out j = n - j
+abbrev decreases-loop-j : tie.decreases-loop-j
+decreases-loop-j row t n i out₀ own j₀ out j = n - j
 
-loop-again : tie.Need-loop-preserved invariant_loop decreases_loop
-loop-again c = let inv = c.before.before.loop.invariant in (inv.0, filling_more (omega arith) inv.1 (rw inv.0))
+loop-j-preserved : tie.Need-loop-j-preserved invariant-loop-j decreases-loop-j
+loop-j-preserved c = let inv = c.loop-j.invariant in (inv.0, filling_more (omega arith) inv.1 (rw inv.0))
 
 pub fill_arguments_spec : {M : Type 1} → statement M
 fill_arguments_spec =
     tie.close
     (tie.spec
-    invariant_loop
-    decreases_loop
+    invariant-loop-j
+    decreases-loop-j
     (λ c. omega arith)
     (λ c. omega arith)
     (λ c. (refl, filling_none (omega arith) refl))
@@ -34,6 +34,6 @@ fill_arguments_spec =
     (λ c. omega arith)
     (λ c. omega arith)
     (λ c. omega arith)
-    loop-again
-    (λ c. c.before.loop.invariant.1.long)
-    (λ c. filling_done c.loop-test.false c.before.loop.invariant.1))
+    loop-j-preserved
+    (λ c. c.loop-j.invariant.1.long)
+    (λ c. filling_done c.loop-j-test.false c.loop-j.invariant.1))

@@ -5,13 +5,13 @@ use Rattle.models.specs.Faults.{composition_fault, sum_fault}
 use Rattle.models.proofs.faults.composition_fault.Statement.{statement}
 use Rattle.models.proofs.faults.composition_fault.Tie as tie
 
+returns-then-x-eq0 : tie.Need-returns-then-x-eq0
+unfolding composition_fault
+returns-then-x-eq0 c = simp (eq-eqb _ _ c.if-x-eq0.true)
+
 returns : tie.Need-returns
 unfolding composition_fault
-returns c = simp (eq-eqb _ _ c.if1.true)
+returns c = rw (ne_eqb _ _ c.if-x-eq0.false) (c.sum_fault.ensures ∙ ap (sum_fault _) c.sum.ensures)
 
-returns-2 : tie.Need-returns-2
-unfolding composition_fault
-returns-2 c = rw (ne_eqb _ _ c.before.before.if1.false) (c.sum-fault.ensures ∙ ap (sum_fault _) c.before.sum.ensures)
-
-pub composition-fault_spec : {M : Type 1} → statement M
-composition-fault_spec = tie.close (tie.spec returns (λ c κs. tt) (λ c κs. tt) returns-2)
+pub composition_fault_spec : {M : Type 1} → statement M
+composition_fault_spec = tie.close (tie.spec returns-then-x-eq0 (λ c κs. tt) (λ c κs. tt) returns)

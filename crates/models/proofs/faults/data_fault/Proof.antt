@@ -1,18 +1,17 @@
 -- The fault of the data: the size that the code works out is the model's where n is in range.
 use mathlib.Core.Path.{sym, ◌∙◌}
-use borrow.Author.Rules.{rules}
 use Rattle.models.proofs.AnswerLaws.{shaped}
 use Rattle.models.proofs.faults.DataLaws.{with_groups, without}
 use Rattle.models.proofs.faults.data_fault.Statement.{statement}
 use Rattle.models.proofs.faults.data_fault.Tie as tie
 
-returns : tie.Need-returns
-returns c = with_groups _ (sym c.before.if1.true ∙ c.before.before.has-groups.ensures) c.unifac-fault.ensures
+returns-then-has_groups : tie.Need-returns-then-has_groups
+returns-then-has_groups c = with_groups _ (sym c.if-has_groups.true ∙ c.has_groups.ensures) c.unifac_fault.ensures
 
-returns-2 : tie.Need-returns-2
-returns-2 c =
-    without _ (sym c.before.before.if1.false ∙ c.before.before.before.has-groups.ensures)
-    (shaped _ _ c.before.type_size.ensures c.shape-fault.ensures)
+returns : tie.Need-returns
+returns c =
+    without _ (sym c.if-has_groups.false ∙ c.has_groups.ensures)
+    (shaped _ _ c.size_of.ensures c.shape_fault.ensures)
 
 pub data_fault_spec : {M : Type 1} → statement M
 data_fault_spec =
@@ -20,7 +19,7 @@ data_fault_spec =
     (tie.spec
     (λ c κs. tt)
     (λ c κs. tt)
-    returns
+    returns-then-has_groups
     (λ c κs. tt)
     (λ c κs. tt)
-    returns-2)
+    returns)

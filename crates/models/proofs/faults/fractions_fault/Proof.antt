@@ -5,22 +5,20 @@ use Rattle.models.proofs.AnswerLaws.{first-left, first-right}
 use Rattle.models.proofs.faults.fractions_fault.Statement.{statement}
 use Rattle.models.proofs.faults.fractions_fault.Tie as tie
 
+returns-then-fault-ne0 : tie.Need-returns-then-fault-ne0
+unfolding fractions_fault
+returns-then-fault-ne0 c = (first-left _ c.tolerance_fault-fault.ensures c.if-fault-ne0.true, λ e. absurd (c.if-fault-ne0.true e))
+
+returns-then-fault-ne0-2 : tie.Need-returns-then-fault-ne0-2
+unfolding fractions_fault
+returns-then-fault-ne0-2 c =
+    (first-right c.tolerance_fault-fault.ensures c.if-fault-ne0.false (first-left _ c.mix_fault-fault.ensures.0 c.if-fault-ne0-2.true), λ e. absurd (c.if-fault-ne0-2.true e))
+
 returns : tie.Need-returns
 unfolding fractions_fault
-returns c = (first-left _ c.before.tolerance-fault.ensures c.if1.true, λ e. absurd (c.if1.true e))
+returns c =
+    let mix = c.mix_fault-fault.ensures in
+    (first-right c.tolerance_fault-fault.ensures c.if-fault-ne0.false (first-right mix.0 c.if-fault-ne0-2.false c.index_fault.ensures), λ e. (mix.1 c.if-fault-ne0-2.false, sym c.index_fault.ensures ∙ e))
 
-returns-2 : tie.Need-returns-2
-unfolding fractions_fault
-returns-2 c =
-    let judged = c.before.before in
-    (first-right judged.before.tolerance-fault.ensures judged.if1.false (first-left _ c.before.mix-fault.ensures.0 c.if2.true), λ e. absurd (c.if2.true e))
-
-returns-3 : tie.Need-returns-3
-unfolding fractions_fault
-returns-3 c =
-    let mix = c.before.before.mix-fault.ensures in
-    let judged = c.before.before.before in
-    (first-right judged.before.tolerance-fault.ensures judged.if1.false (first-right mix.0 c.before.if2.false c.index-fault.ensures), λ e. (mix.1 c.before.if2.false, sym c.index-fault.ensures ∙ e))
-
-pub fractions-fault_spec : {M : Type 1} → statement M
-fractions-fault_spec = tie.close (tie.spec (λ c κs. tt) returns (λ c κs. tt) returns-2 (λ c κs. tt) returns-3)
+pub fractions_fault_spec : {M : Type 1} → statement M
+fractions_fault_spec = tie.close (tie.spec (λ c κs. tt) returns-then-fault-ne0 (λ c κs. tt) returns-then-fault-ne0-2 (λ c κs. tt) returns)

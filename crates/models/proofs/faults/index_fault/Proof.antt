@@ -5,35 +5,35 @@ use Rattle.models.specs.Faults.{index_fault}
 use Rattle.models.proofs.faults.index_fault.Statement.{statement}
 use Rattle.models.proofs.faults.index_fault.Tie as tie
 
-returns : tie.Need-returns
+returns-then-i-n : tie.Need-returns-then-i-n
 unfolding index_fault
-returns c = rw (c.before.before.q.given.1, lt-ltb _ _ c.if1.true)
+returns-then-i-n c = rw (c.in-LnGamma.is, lt-ltb _ _ c.if-i-n.true)
 
-returns-2 : tie.Need-returns-2
+returns-else-i-n : tie.Need-returns-else-i-n
 unfolding index_fault
-returns-2 c = rw (c.before.before.q.given.1, le-ltb _ _ c.if1.false)
+returns-else-i-n c = rw (c.in-LnGamma.is, le-ltb _ _ c.if-i-n.false)
 
-returns-3 : tie.Need-returns-3
+returns-then-i-n-2 : tie.Need-returns-then-i-n-2
 unfolding index_fault
-returns-3 c = rw (c.before.before.q2.given.1, lt-ltb _ _ c.if2.true)
+returns-then-i-n-2 c = rw (c.in-Gamma.is, lt-ltb _ _ c.if-i-n-2.true)
 
-returns-4 : tie.Need-returns-4
+returns-else-i-n-2 : tie.Need-returns-else-i-n-2
 unfolding index_fault
-returns-4 c = rw (c.before.before.q2.given.1, le-ltb _ _ c.if2.false)
+returns-else-i-n-2 c = rw (c.in-Gamma.is, le-ltb _ _ c.if-i-n-2.false)
 
-returns-5 : tie.Need-returns-5
+returns-in-ExcessGibbs : tie.Need-returns-in-ExcessGibbs
 unfolding index_fault
-returns-5 c = rw c.enum_told.given.1
+returns-in-ExcessGibbs c = rw c.in-ExcessGibbs.is
 
-pub index-fault_spec : {M : Type 1} → statement M
-index-fault_spec =
+pub index_fault_spec : {M : Type 1} → statement M
+index_fault_spec =
     tie.close
     (tie.spec
     (λ c. search rules)
     (λ c. search rules)
     (λ c. search rules)
-    returns
-    returns-2
-    returns-3
-    returns-4
-    returns-5)
+    returns-then-i-n
+    returns-else-i-n
+    returns-then-i-n-2
+    returns-else-i-n-2
+    returns-in-ExcessGibbs)

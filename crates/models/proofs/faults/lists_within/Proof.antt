@@ -12,35 +12,35 @@ use Rattle.models.proofs.GroupListLaws.{all_none, all_more, all_fails}
 use Rattle.models.proofs.faults.lists_within.Statement.{statement}
 use Rattle.models.proofs.faults.lists_within.Tie as tie
 
-abbrev invariant_loop : tie.invariant_loop
-invariant_loop lens n i₀ i = (i ≤ n) × (true ≡ all_to i (λ k. leb (get_or lens k 0) 12))
+abbrev invariant-loop-i : tie.invariant-loop-i
+invariant-loop-i lens n i₀ i = (i ≤ n) × (true ≡ all_to i (λ k. leb (get_or lens k 0) 12))
 
-abbrev decreases_loop : tie.decreases_loop
-decreases_loop lens n i₀ i = n - i
+abbrev decreases-loop-i : tie.decreases-loop-i
+decreases-loop-i lens n i₀ i = n - i
 
-loop-holds : tie.Need-loop-init invariant_loop decreases_loop
-loop-holds c = (omega arith, all_none _)
+loop-i-init : tie.Need-loop-i-init invariant-loop-i decreases-loop-i
+loop-i-init c = (omega arith, all_none _)
 
-returns : tie.Need-returns invariant_loop decreases_loop
-returns c = all_fails _ _ _ c.before.before.loop-test.true (lt-leb _ _ c.if1.true)
+returns-then-lens-i-gt-LIST : tie.Need-returns-then-lens-i-gt-LIST invariant-loop-i decreases-loop-i
+returns-then-lens-i-gt-LIST c = all_fails _ _ _ c.loop-i-test.true (lt-leb _ _ c.if-lens-i-gt-LIST.true)
 
-loop-again : tie.Need-loop-preserved invariant_loop decreases_loop
-loop-again c = (omega arith, all_more _ _ c.before.before.before.loop.invariant.1 (le-leb _ _ c.if1.false))
+loop-i-preserved : tie.Need-loop-i-preserved invariant-loop-i decreases-loop-i
+loop-i-preserved c = (omega arith, all_more _ _ c.loop-i.invariant.1 (le-leb _ _ c.if-lens-i-gt-LIST.false))
 
-returns-2 : tie.Need-returns-2 invariant_loop decreases_loop
-returns-2 c = rw (← le_antisymm c.before.loop.invariant.0 c.loop-test.false) c.before.loop.invariant.1
+returns : tie.Need-returns invariant-loop-i decreases-loop-i
+returns c = rw (← le_antisymm c.loop-i.invariant.0 c.loop-i-test.false) c.loop-i.invariant.1
 
-pub lists-within_spec : {M : Type 1} → statement M
-lists-within_spec =
+pub lists_within_spec : {M : Type 1} → statement M
+lists_within_spec =
     tie.close
     (tie.spec
-    invariant_loop
-    decreases_loop
-    loop-holds
+    invariant-loop-i
+    decreases-loop-i
+    loop-i-init
     (λ c. omega arith)
-    (λ c. omega (arith, c.shared-slice-known.given c.before.before.loop.i))
-    returns
+    (λ c. omega (arith, c.shared_slice_known-1.given c.loop-i.i))
+    returns-then-lens-i-gt-LIST
     (λ c. omega arith)
     (λ c. omega arith)
-    loop-again
-    returns-2)
+    loop-i-preserved
+    returns)

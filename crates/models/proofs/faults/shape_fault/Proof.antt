@@ -5,21 +5,21 @@ use Rattle.models.specs.Faults.{shape_fault}
 use Rattle.models.proofs.faults.shape_fault.Statement.{statement}
 use Rattle.models.proofs.faults.shape_fault.Tie as tie
 
+returns-then-n-lt1 : tie.Need-returns-then-n-lt1
+unfolding shape_fault
+returns-then-n-lt1 c = (simp (lt-leb _ _ c.if-n-lt1.true), λ e. absurd (omega arith))
+
+returns-then-n-gt-COMPONENTS : tie.Need-returns-then-n-gt-COMPONENTS
+unfolding shape_fault
+returns-then-n-gt-COMPONENTS c = (simp (le-leb _ _ c.if-n-lt1.false, lt-leb _ _ c.if-n-gt-COMPONENTS.true), λ e. absurd (omega arith))
+
+returns-then-values-size : tie.Need-returns-then-values-size
+unfolding shape_fault
+returns-then-values-size c = (simp (le-leb _ _ c.if-n-lt1.false, le-leb _ _ c.if-n-gt-COMPONENTS.false, ne_eqb _ _ c.if-values-size.true), λ e. absurd (omega arith))
+
 returns : tie.Need-returns
 unfolding shape_fault
-returns c = (simp (lt-leb _ _ c.if1.true), λ e. absurd (omega arith))
+returns c = (simp (le-leb _ _ c.if-n-lt1.false, le-leb _ _ c.if-n-gt-COMPONENTS.false, eq-eqb _ _ c.if-values-size.false), λ e. (omega arith, omega arith, c.if-values-size.false))
 
-returns-2 : tie.Need-returns-2
-unfolding shape_fault
-returns-2 c = (simp (le-leb _ _ c.before.if1.false, lt-leb _ _ c.if2.true), λ e. absurd (omega arith))
-
-returns-3 : tie.Need-returns-3
-unfolding shape_fault
-returns-3 c = (simp (le-leb _ _ c.before.before.if1.false, le-leb _ _ c.before.if2.false, ne_eqb _ _ c.if3.true), λ e. absurd (omega arith))
-
-returns-4 : tie.Need-returns-4
-unfolding shape_fault
-returns-4 c = (simp (le-leb _ _ c.before.before.if1.false, le-leb _ _ c.before.if2.false, eq-eqb _ _ c.if3.false), λ e. (omega arith, omega arith, c.if3.false))
-
-pub shape-fault_spec : {M : Type 1} → statement M
-shape-fault_spec = tie.close (tie.spec returns returns-2 returns-3 returns-4)
+pub shape_fault_spec : {M : Type 1} → statement M
+shape_fault_spec = tie.close (tie.spec returns-then-n-lt1 returns-then-n-gt-COMPONENTS returns-then-values-size returns)

@@ -20,14 +20,14 @@ by_tests : (ε s : Float) → cond (lt ε (s ⊖ unit) || lt (s ⊖ unit) (neg �
 unfolding sum_fault
 by_tests ε s = rw (← unit-is, lt-abs ε (s ⊖ unit))
 
+returns-then-off-tolerance : tie.Need-returns-then-off-tolerance
+returns-then-off-tolerance c = simp c.if-off-tolerance.true at (by_tests c.args.tolerance c.args.total)
+
+returns-then-off-tolerance-2 : tie.Need-returns-then-off-tolerance-2
+returns-then-off-tolerance-2 c = simp (c.if-off-tolerance.false, c.if-off-tolerance-2.true) at (by_tests c.args.tolerance c.args.total)
+
 returns : tie.Need-returns
-returns c = simp c.if1.true at (by_tests c.before.args.tolerance c.before.args.total)
+returns c = simp (c.if-off-tolerance.false, c.if-off-tolerance-2.false) at (by_tests c.args.tolerance c.args.total)
 
-returns-2 : tie.Need-returns-2
-returns-2 c = simp (c.before.if1.false, c.if2.true) at (by_tests c.before.before.args.tolerance c.before.before.args.total)
-
-returns-3 : tie.Need-returns-3
-returns-3 c = simp (c.before.if1.false, c.if2.false) at (by_tests c.before.before.args.tolerance c.before.before.args.total)
-
-pub sum-fault_spec : {M : Type 1} → statement M
-sum-fault_spec = tie.close (tie.spec returns returns-2 returns-3)
+pub sum_fault_spec : {M : Type 1} → statement M
+sum_fault_spec = tie.close (tie.spec returns-then-off-tolerance returns-then-off-tolerance-2 returns)

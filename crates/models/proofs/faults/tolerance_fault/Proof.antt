@@ -6,20 +6,20 @@ use Rattle.models.proofs.ToleranceLaws.{tolerance_nan, tolerance-below, toleranc
 use Rattle.models.proofs.faults.tolerance_fault.Statement.{statement}
 use Rattle.models.proofs.faults.tolerance_fault.Tie as tie
 
-returns : tie.Need-returns
-returns c = tolerance_nan _ c.if1.true
+returns-then-tolerance : tie.Need-returns-then-tolerance
+returns-then-tolerance c = tolerance_nan _ c.if-tolerance.true
 
-returns-2 : tie.Need-returns-2
+returns-then-tolerance-2 : tie.Need-returns-then-tolerance-2
 unfolding of_bits
-returns-2 c = tolerance-below _ c.before.if1.false c.if2.true
+returns-then-tolerance-2 c = tolerance-below _ c.if-tolerance.false c.if-tolerance-2.true
 
-returns-3 : tie.Need-returns-3
+returns-then-tolerance-3 : tie.Need-returns-then-tolerance-3
 unfolding widest_tolerance dec round of_bits
-returns-3 c = tolerance-above _ c.before.before.if1.false c.before.if2.false c.if3.true
+returns-then-tolerance-3 c = tolerance-above _ c.if-tolerance.false c.if-tolerance-2.false c.if-tolerance-3.true
 
-returns-4 : tie.Need-returns-4
+returns : tie.Need-returns
 unfolding widest_tolerance dec round of_bits
-returns-4 c = tolerance-passes _ c.before.before.if1.false c.before.if2.false c.if3.false
+returns c = tolerance-passes _ c.if-tolerance.false c.if-tolerance-2.false c.if-tolerance-3.false
 
-pub tolerance-fault_spec : {M : Type 1} → statement M
-tolerance-fault_spec = tie.close (tie.spec returns returns-2 returns-3 returns-4)
+pub tolerance_fault_spec : {M : Type 1} → statement M
+tolerance_fault_spec = tie.close (tie.spec returns-then-tolerance returns-then-tolerance-2 returns-then-tolerance-3 returns)

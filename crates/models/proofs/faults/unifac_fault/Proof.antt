@@ -11,46 +11,43 @@ use Rattle.models.proofs.AnswerLaws.{first-left, first-right}
 use Rattle.models.proofs.faults.unifac_fault.Statement.{statement}
 use Rattle.models.proofs.faults.unifac_fault.Tie as tie
 
+returns-then-fault-ne0 : tie.Need-returns-then-fault-ne0
+unfolding unifac_fault
+returns-then-fault-ne0 c = (first-left _ c.lists_fault-fault.ensures.0 c.if-fault-ne0.true, λ e. absurd (c.if-fault-ne0.true e))
+
+counts_at-place-requires : tie.Need-counts_at-place-requires
+counts_at-place-requires c κs = (c.lists_fault-fault.ensures.1 c.if-fault-ne0.false).few_groups
+
+slice_bounds-groups_fault-count : tie.Need-slice_bounds-groups_fault-count
+slice_bounds-groups_fault-count c = let fit = c.lists_fault-fault.ensures.1 c.if-fault-ne0.false in omega (arith, fit.whole, c.counts_at-place.ensures.0)
+
+slice_bounds-groups_fault-start : tie.Need-slice_bounds-groups_fault-start
+slice_bounds-groups_fault-start c = let fit = c.lists_fault-fault.ensures.1 c.if-fault-ne0.false in omega (arith, fit.whole, c.counts_at-place.ensures.0)
+
+groups_fault-requires : tie.Need-groups_fault-requires
+groups_fault-requires c κs =
+    let fit = c.lists_fault-fault.ensures.1 c.if-fault-ne0.false in
+    omega (arith, fit.whole, fit.places, c.counts_at-place.ensures.0, from-length c.counts_at-place.result c.args.values.now)
+
 returns : tie.Need-returns
 unfolding unifac_fault
-returns c = (first-left _ c.before.lists-fault.ensures.0 c.if1.true, λ e. absurd (c.if1.true e))
-
-counts-at-requires : tie.Need-counts-at-requires
-counts-at-requires c κs = (c.before.lists-fault.ensures.1 c.if1.false).few_groups
-
-sub-groups-fault : tie.Need-overflow-sub-groups-fault
-sub-groups-fault c = let fit = c.before.before.lists-fault.ensures.1 c.before.if1.false in omega (arith, fit.whole, c.counts-at.ensures.0)
-
-part-groups-fault-start : tie.Need-slice-bounds-groups-fault-start
-part-groups-fault-start c = let fit = c.before.before.lists-fault.ensures.1 c.before.if1.false in omega (arith, fit.whole, c.counts-at.ensures.0)
-
-groups-fault-requires : tie.Need-groups-fault-requires
-groups-fault-requires c κs =
-    let start = c.before.before.before.before.before.before.before in
-    let fit = c.before.before.before.lists-fault.ensures.1 c.before.before.if1.false in
-    omega (arith, fit.whole, fit.places, c.before.counts-at.ensures.0, from-length c.before.counts-at.result start.args.values.now)
-
-returns-2 : tie.Need-returns-2
-unfolding unifac_fault
-returns-2 c =
-    let start = c.before.before.before.before.before.before.before.before in
-    let lists = c.before.before.before.before in
-    let place = c.before.before.counts-at.ensures.0 in (
-      first-right lists.lists-fault.ensures.0 c.before.before.before.if1.false
-          (c.groups-fault.ensures.0 ∙ ap (λ (s : ℕ). groups_fault start.args.ng start.args.groups.now (from s start.args.values.now)) place),
-      λ e. loaded-from (lists.lists-fault.ensures.1 c.before.before.before.if1.false) (c.groups-fault.ensures.1 e),
+returns c =
+    let place = c.counts_at-place.ensures.0 in (
+      first-right c.lists_fault-fault.ensures.0 c.if-fault-ne0.false
+          (c.groups_fault.ensures.0 ∙ ap (λ (s : ℕ). groups_fault c.args.ng c.args.groups.now (from s c.args.values.now)) place),
+      λ e. loaded-from (c.lists_fault-fault.ensures.1 c.if-fault-ne0.false) (c.groups_fault.ensures.1 e),
     )
 
-pub unifac-fault_spec : {M : Type 1} → statement M
-unifac-fault_spec =
+pub unifac_fault_spec : {M : Type 1} → statement M
+unifac_fault_spec =
     tie.close
     (tie.spec
     (λ c κs. tt)
-    returns
-    counts-at-requires
+    returns-then-fault-ne0
+    counts_at-place-requires
     (λ c. search rules)
-    sub-groups-fault
-    part-groups-fault-start
+    slice_bounds-groups_fault-count
+    slice_bounds-groups_fault-start
     (λ c. search rules)
-    groups-fault-requires
-    returns-2)
+    groups_fault-requires
+    returns)

@@ -9,32 +9,31 @@ use Rattle.models.proofs.GroupListLaws.{PairedAt, places-at, Gathering, gatherin
 use Rattle.models.proofs.groups.add_counts.Statement.{statement}
 use Rattle.models.proofs.groups.add_counts.Tie as tie
 
-abbrev invariant_loop : tie.invariant_loop
-invariant_loop groups counts x start end num₀ p₀ num p =
+abbrev invariant-loop-p : tie.invariant-loop-p
+invariant-loop-p groups counts x start end num₀ p₀ num p =
     (start ≤ p) × Gathering (λ k. get_or groups (start + k) 0) (λ k s. s ⊕ x ⊗ at counts (start + k)) (end - start) num₀ (p - start) num
 
-abbrev decreases_loop : tie.decreases_loop
-decreases_loop groups counts x start end num₀ p₀ num p = end - p
+abbrev decreases-loop-p : tie.decreases-loop-p
+decreases-loop-p groups counts x start end num₀ p₀ num p = end - p
 
-group : (c : tie.In-loop invariant_loop decreases_loop) → let a = c.before.before.args in PairedAt (length c.before.loop.num) a.groups.now a.counts.now c.before.loop.p
-group c = places-at c.before.before.requires c.loop-test.true (omega (arith, c.before.loop.invariant.1.long))
+group : (c : tie.In-loop-p invariant-loop-p decreases-loop-p) → let a = c.args in PairedAt (length c.loop-p.num) a.groups.now a.counts.now c.loop-p.p
+group c = places-at c.requires c.loop-p-test.true (omega (arith, c.loop-p.invariant.1.long))
 
-loop-again : tie.Need-loop-preserved invariant_loop decreases_loop
-loop-again c =
+loop-p-preserved : tie.Need-loop-p-preserved invariant-loop-p decreases-loop-p
+loop-p-preserved c =
     let turn = c.before.before.before in
-    let top = turn.before in
-    let a = top.before.args in
-    (omega arith, placing_more (λ k. get_or a.groups.now k 0) (λ k s. s ⊕ a.x ⊗ at a.counts.now k) top.loop.invariant.0 turn.loop-test.true refl (group turn).2 refl top.loop.invariant.1)
+    let a = turn.args in
+    (omega arith, placing_more (λ k. get_or a.groups.now k 0) (λ k s. s ⊕ a.x ⊗ at a.counts.now k) turn.loop-p.invariant.0 c.loop-p-test.true refl (group turn).2 refl turn.loop-p.invariant.1)
 
-returns : tie.Need-returns invariant_loop decreases_loop
-returns c = gathering_done (omega arith) c.before.loop.invariant.1
+returns : tie.Need-returns invariant-loop-p decreases-loop-p
+returns c = gathering_done (omega arith) c.loop-p.invariant.1
 
-pub add-counts_spec : {M : Type 1} → statement M
-add-counts_spec =
+pub add_counts_spec : {M : Type 1} → statement M
+add_counts_spec =
     tie.close
     (tie.spec
-    invariant_loop
-    decreases_loop
+    invariant-loop-p
+    decreases-loop-p
     (λ c. (omega arith, gathering_start (omega arith)))
     (λ c. omega (arith, (group c.before).0))
     (λ c. omega (arith, (group c.before).2))
@@ -46,6 +45,6 @@ add-counts_spec =
     (λ c. omega (arith, (group c.before.before.before).2))
     (λ c. omega arith)
     (λ c. omega arith)
-    loop-again
-    (λ c. c.before.loop.invariant.1.long)
+    loop-p-preserved
+    (λ c. c.loop-p.invariant.1.long)
     returns)

@@ -11,5 +11,5 @@ returns : tie.Need-returns
 unfolding counts_at
 returns c = (refl, omega (arith, mul-le-mul c.requires c.requires))
 
-pub counts-at_spec : {M : Type 1} → statement M
-counts-at_spec = tie.close (tie.spec (λ c. search rules) (λ c. omega (arith, mul-le-mul c.requires c.requires)) (λ c. omega (arith, mul-le-mul c.requires c.requires)) (λ c. omega (arith, mul-le-mul c.requires c.requires)) returns)
+pub counts_at_spec : {M : Type 1} → statement M
+counts_at_spec = tie.close (tie.spec (λ c. search rules) (λ c. omega (arith, mul-le-mul c.requires c.requires)) (λ c. omega (arith, mul-le-mul c.requires c.requires)) (λ c. omega (arith, mul-le-mul c.requires c.requires)) returns)

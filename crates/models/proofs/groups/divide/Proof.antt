@@ -9,21 +9,21 @@ use Rattle.arithmetic.proofs.TableLaws.{Filling, filling_none, filling_more, fil
 use Rattle.models.proofs.groups.divide.Statement.{statement}
 use Rattle.models.proofs.groups.divide.Tie as tie
 
-abbrev invariant_loop : tie.invariant_loop
-invariant_loop ng num d out₀ g₀ out g = Filling (λ k. at num k ⊘ d) ng (length out₀) g out
+abbrev invariant-loop-g : tie.invariant-loop-g
+invariant-loop-g ng num d out₀ g₀ out g = Filling (λ k. at num k ⊘ d) ng (length out₀) g out
 
-abbrev decreases_loop : tie.decreases_loop
-decreases_loop ng num d out₀ g₀ out g = ng - g
+abbrev decreases-loop-g : tie.decreases-loop-g
+decreases-loop-g ng num d out₀ g₀ out g = ng - g
 
-loop-again : tie.Need-loop-preserved invariant_loop decreases_loop
-loop-again c = filling_more (omega arith) c.before.before.loop.invariant refl
+loop-g-preserved : tie.Need-loop-g-preserved invariant-loop-g decreases-loop-g
+loop-g-preserved c = filling_more (omega arith) c.loop-g.invariant refl
 
 pub divide_spec : {M : Type 1} → statement M
 divide_spec =
     tie.close
     (tie.spec
-    invariant_loop
-    decreases_loop
+    invariant-loop-g
+    decreases-loop-g
     (λ c. filling_none (omega arith) refl)
     (λ c. omega arith)
     (λ c. omega arith)
@@ -31,6 +31,6 @@ divide_spec =
     (λ c. omega arith)
     (λ c. omega arith)
     (λ c. omega arith)
-    loop-again
-    (λ c. c.before.loop.invariant.long)
-    (λ c. filling_done c.loop-test.false c.before.loop.invariant))
+    loop-g-preserved
+    (λ c. c.loop-g.invariant.long)
+    (λ c. filling_done c.loop-g-test.false c.loop-g.invariant))

@@ -7,17 +7,17 @@ use Rattle.models.proofs.groups.group_fractions_pure.Tie as tie
 
 returns : tie.Need-returns
 returns c =
-    let pre = c.before.before.before.before.before.before.before.before.before.before.before.before.requires in
-    pure-over _ _ _ pre.0 c.before.before.before.before.sum.ensures pre.1 c.before.before.before.before.before.before.before.put-counts.ensures c.before.before.divide.ensures
+    let pre = c.requires in
+    pure-over _ _ _ pre.0 c.sum.ensures pre.1 c.put_counts.ensures c.divide.ensures
 
-pub group-fractions-pure_spec : {M : Type 1} → statement M
-group-fractions-pure_spec =
+pub group_fractions_pure_spec : {M : Type 1} → statement M
+group_fractions_pure_spec =
     tie.close
     (tie.spec
     (λ c. search rules)
-    (λ c κs. paired_wider 32 c.before.before.before.before.requires.1 c.before.before.before.before.requires.0)
+    (λ c κs. paired_wider 32 c.requires.1 c.requires.0)
     (λ c. search rules)
     (λ c κs. search rules)
-    (λ c κs. (omega (arith, c.before.before.before.before.before.before.before.before.before.requires.1, c.before.before.before.before.put-counts.auto.1.1.0), c.before.before.before.before.before.before.before.before.before.requires.2))
-    (λ c. c.before.before.divide.auto.1.1.1.0)
+    (λ c κs. (omega (arith, c.requires.1, c.put_counts.auto.num), c.requires.2))
+    (λ c. c.divide.auto.out)
     returns)

@@ -8,27 +8,27 @@ use Rattle.models.proofs.GroupListLaws.{PairedAt, paired_at, Gathering, gatherin
 use Rattle.models.proofs.groups.put_counts.Statement.{statement}
 use Rattle.models.proofs.groups.put_counts.Tie as tie
 
-abbrev invariant_loop : tie.invariant_loop
-invariant_loop list counts num₀ p₀ p-end num p = (p-end ≡ length list) × Gathering (λ p. get_or list p 0) (λ p s. at counts p) (length list) num₀ p num
+abbrev invariant-loop-p : tie.invariant-loop-p
+invariant-loop-p list counts num₀ p₀ p-end num p = (p-end ≡ length list) × Gathering (λ p. get_or list p 0) (λ p s. at counts p) (length list) num₀ p num
 
-abbrev decreases_loop : tie.decreases_loop
-decreases_loop list counts num₀ p₀ p-end num p = p-end - p
+abbrev decreases-loop-p : tie.decreases-loop-p
+decreases-loop-p list counts num₀ p₀ p-end num p = p-end - p
 
-group : (c : tie.In-loop invariant_loop decreases_loop) → let a = c.before.before.args in PairedAt (length c.before.loop.num) a.list.now a.counts.now c.before.loop.p
-group c = let inv = c.before.loop.invariant in paired_at c.before.before.requires (omega (arith, c.loop-test.true, inv.0)) (omega (arith, inv.1.long))
+group : (c : tie.In-loop-p invariant-loop-p decreases-loop-p) → let a = c.args in PairedAt (length c.loop-p.num) a.list.now a.counts.now c.loop-p.p
+group c = let inv = c.loop-p.invariant in paired_at c.requires (omega (arith, c.loop-p-test.true, inv.0)) (omega (arith, inv.1.long))
 
-loop-again : tie.Need-loop-preserved invariant_loop decreases_loop
-loop-again c = let inv = c.before.before.before.loop.invariant in (inv.0, gathering_more (group c.before.before).0 refl (group c.before.before).2 refl inv.1)
+loop-p-preserved : tie.Need-loop-p-preserved invariant-loop-p decreases-loop-p
+loop-p-preserved c = let inv = c.loop-p.invariant in (inv.0, gathering_more (group c.before.before).0 refl (group c.before.before).2 refl inv.1)
 
-returns : tie.Need-returns invariant_loop decreases_loop
-returns c = gathering_done (omega (arith, c.loop-test.false, c.before.loop.invariant.0)) c.before.loop.invariant.1
+returns : tie.Need-returns invariant-loop-p decreases-loop-p
+returns c = gathering_done (omega (arith, c.loop-p-test.false, c.loop-p.invariant.0)) c.loop-p.invariant.1
 
-pub put-counts_spec : {M : Type 1} → statement M
-put-counts_spec =
+pub put_counts_spec : {M : Type 1} → statement M
+put_counts_spec =
     tie.close
     (tie.spec
-    invariant_loop
-    decreases_loop
+    invariant-loop-p
+    decreases-loop-p
     (λ c. (refl, gathering_none))
     (λ c. omega (arith, group c.before))
     (λ c. omega (arith, group c.before))
@@ -38,6 +38,6 @@ put-counts_spec =
     (λ c. omega (arith, group c.before.before))
     (λ c. omega (arith, group c.before.before))
     (λ c. omega (arith, group c.before.before))
-    loop-again
-    (λ c. c.before.loop.invariant.1.long)
+    loop-p-preserved
+    (λ c. c.loop-p.invariant.1.long)
     returns)

@@ -12,28 +12,28 @@ use Rattle.models.proofs.GroupListLaws.{PairedAt, paired_at}
 use Rattle.models.proofs.groups.residual.Statement.{statement}
 use Rattle.models.proofs.groups.residual.Tie as tie
 
-abbrev invariant_loop : tie.invariant_loop
-invariant_loop list counts m p resid₀ k₀ k-end resid k = (k ≤ length list) × (k-end ≡ length list) × (resid ≡ sum k (λ k. at counts k ⊗ (at m (get_or list k 0) ⊖ at p (get_or list k 0))))
+abbrev invariant-loop-k : tie.invariant-loop-k
+invariant-loop-k list counts m p resid₀ k₀ k-end resid k = (k ≤ length list) × (k-end ≡ length list) × (resid ≡ sum k (λ k. at counts k ⊗ (at m (get_or list k 0) ⊖ at p (get_or list k 0))))
 
-abbrev decreases_loop : tie.decreases_loop
-decreases_loop list counts m p resid₀ k₀ k-end resid k = k-end - k
+abbrev decreases-loop-k : tie.decreases-loop-k
+decreases-loop-k list counts m p resid₀ k₀ k-end resid k = k-end - k
 
-group : (c : tie.In-loop invariant_loop decreases_loop) → let a = c.before.before.args in PairedAt (length a.m.now) a.list.now a.counts.now c.before.loop.k
-group c = paired_at c.before.before.requires.0 (omega (arith, c.loop-test.true, c.before.loop.invariant.1)) (omega arith)
+group : (c : tie.In-loop-k invariant-loop-k decreases-loop-k) → let a = c.args in PairedAt (length a.m.now) a.list.now a.counts.now c.loop-k.k
+group c = paired_at c.requires.0 (omega (arith, c.loop-k-test.true, c.loop-k.invariant.1)) (omega arith)
 
-loop-again : tie.Need-loop-preserved invariant_loop decreases_loop
-loop-again c = let inv = c.before.before.before.before.before.loop.invariant in (omega (arith, group c.before.before.before.before), inv.1, sum_more _ _ inv.2 refl)
+loop-k-preserved : tie.Need-loop-k-preserved invariant-loop-k decreases-loop-k
+loop-k-preserved c = let inv = c.loop-k.invariant in (omega (arith, group c.before.before.before.before), inv.1, sum_more _ _ inv.2 refl)
 
-returns : tie.Need-returns invariant_loop decreases_loop
+returns : tie.Need-returns invariant-loop-k decreases-loop-k
 unfolding Unifac.residual
-returns c = sum_done _ _ _ c.before.loop.invariant.2 c.before.loop.invariant.0 (omega (arith, c.loop-test.false, c.before.loop.invariant.1))
+returns c = sum_done _ _ _ c.loop-k.invariant.2 c.loop-k.invariant.0 (omega (arith, c.loop-k-test.false, c.loop-k.invariant.1))
 
 pub residual_spec : {M : Type 1} → statement M
 residual_spec =
     tie.close
     (tie.spec
-    invariant_loop
-    decreases_loop
+    invariant-loop-k
+    decreases-loop-k
     (λ c. (omega arith, refl, sum-none _))
     (λ c. omega (arith, group c.before))
     (λ c. omega (arith, group c.before))
@@ -45,5 +45,5 @@ residual_spec =
     (λ c. omega (arith, group c.before.before.before.before))
     (λ c. omega (arith, group c.before.before.before.before))
     (λ c. omega (arith, group c.before.before.before.before))
-    loop-again
+    loop-k-preserved
     returns)

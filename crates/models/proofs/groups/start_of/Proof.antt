@@ -9,32 +9,32 @@ use Rattle.models.proofs.GroupListLaws.{start_none, start-more}
 use Rattle.models.proofs.groups.start_of.Statement.{statement}
 use Rattle.models.proofs.groups.start_of.Tie as tie
 
-abbrev invariant_loop : tie.invariant_loop
-invariant_loop lens i s₀ k₀ s k = (k ≤ i) × (s ≤ 255 * k) × (s ≡ start lens k)
+abbrev invariant-loop-k : tie.invariant-loop-k
+invariant-loop-k lens i s₀ k₀ s k = (k ≤ i) × (s ≤ 255 * k) × (s ≡ start lens k)
 
-abbrev decreases_loop : tie.decreases_loop
-decreases_loop lens i s₀ k₀ s k = i - k
+abbrev decreases-loop-k : tie.decreases-loop-k
+decreases-loop-k lens i s₀ k₀ s k = i - k
 
-loop-holds : tie.Need-loop-init invariant_loop decreases_loop
-loop-holds c = (omega arith, omega arith, start_none _)
+loop-k-init : tie.Need-loop-k-init invariant-loop-k decreases-loop-k
+loop-k-init c = (omega arith, omega arith, start_none _)
 
-loop-again : tie.Need-loop-preserved invariant_loop decreases_loop
-loop-again c = (omega arith, omega (arith, c.shared-slice-known.given c.before.before.loop.k), start-more _ _ c.before.before.loop.invariant.2 refl)
+loop-k-preserved : tie.Need-loop-k-preserved invariant-loop-k decreases-loop-k
+loop-k-preserved c = (omega arith, omega (arith, c.shared_slice_known-1.given c.loop-k.k), start-more _ _ c.loop-k.invariant.2 refl)
 
-returns : tie.Need-returns invariant_loop decreases_loop
-returns c = rw (← le_antisymm c.before.loop.invariant.0 c.loop-test.false) c.before.loop.invariant.2
+returns : tie.Need-returns invariant-loop-k decreases-loop-k
+returns c = rw (← le_antisymm c.loop-k.invariant.0 c.loop-k-test.false) c.loop-k.invariant.2
 
 pub start_of_spec : {M : Type 1} → statement M
 start_of_spec =
     tie.close
     (tie.spec
-    invariant_loop
-    decreases_loop
-    loop-holds
+    invariant-loop-k
+    decreases-loop-k
+    loop-k-init
     (λ c. omega arith)
-    (λ c. omega (arith, c.shared-slice-known.given c.before.before.loop.k))
-    (λ c. omega (arith, c.shared-slice-known.given c.before.before.loop.k))
+    (λ c. omega (arith, c.shared_slice_known-1.given c.loop-k.k))
+    (λ c. omega (arith, c.shared_slice_known-1.given c.loop-k.k))
     (λ c. omega arith)
     (λ c. omega arith)
-    loop-again
+    loop-k-preserved
     returns)

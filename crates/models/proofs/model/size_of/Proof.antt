@@ -7,12 +7,12 @@ use Rattle.models.specs.Values.{wilson_size, uniquac_size, nrtl_size}
 use Rattle.models.proofs.model.size_of.Statement.{statement}
 use Rattle.models.proofs.model.size_of.Tie as tie
 
-pairs : (c : tie.Else1) → c.before.args.n * c.before.args.n ≤ 65025
-pairs c = omega (arith, mul-le-mul c.if1.false c.if1.false)
+pairs : (c : tie.Else-n-gt-NAMED) → c.args.n * c.args.n ≤ 65025
+pairs c = omega (arith, mul-le-mul c.if-n-gt-NAMED.false c.if-n-gt-NAMED.false)
 
-returns-2 : tie.Need-returns-2
+returns : tie.Need-returns
 unfolding wilson_size uniquac_size nrtl_size
-returns-2 c = λ _. c.by_model_lem.ensures
+returns c = λ _. c.by_model.ensures
 
 pub size_of_spec : {M : Type 1} → statement M
 size_of_spec =
@@ -26,4 +26,4 @@ size_of_spec =
     (λ c. omega (arith, pairs c))
     (λ c. omega (arith, pairs c))
     (λ c κs. tt)
-    returns-2)
+    returns)

@@ -11,47 +11,47 @@ use Rattle.models.proofs.model.value_at.Tie as tie
 fits : (d : ModelData) (m : Model) → d.model ≡ m → Ready d → Fits m d
 fits d m e ready = rw (← e) ready.fits
 
-value-at-requires : tie.Need-value-at-requires
-value-at-requires c κs = let start = c.before.before.before.before.before.before in record { few = start.requires.0.few; sized = fits _ _ c.enum_told.given.1 start.requires.0; fractions = start.requires.1; index = start.requires.2 }
+value_at-requires : tie.Need-value_at-requires
+value_at-requires c κs = record { few = c.requires.0.few; sized = fits _ _ c.in-Wilson.is c.requires.0; fractions = c.requires.1; index = c.requires.2 }
 
-value-at-requires-2 : tie.Need-value-at-requires-2
-value-at-requires-2 c κs = let start = c.before.before.before.before.before.before in record { few = start.requires.0.few; sized = fits _ _ c.enum-told2.given.1 start.requires.0; fractions = start.requires.1; index = start.requires.2 }
+value_at-requires-in-Uniquac : tie.Need-value_at-requires-in-Uniquac
+value_at-requires-in-Uniquac c κs = record { few = c.requires.0.few; sized = fits _ _ c.in-Uniquac.is c.requires.0; fractions = c.requires.1; index = c.requires.2 }
 
-value-at-requires-3 : tie.Need-value-at-requires-3
-value-at-requires-3 c κs = let start = c.before.before.before.before.before.before in record { few = start.requires.0.few; sized = fits _ _ c.enum-told3.given.1 start.requires.0; fractions = start.requires.1; index = start.requires.2 }
+value_at-requires-in-Nrtl : tie.Need-value_at-requires-in-Nrtl
+value_at-requires-in-Nrtl c κs = record { few = c.requires.0.few; sized = fits _ _ c.in-Nrtl.is c.requires.0; fractions = c.requires.1; index = c.requires.2 }
 
-value-at-requires-4 : tie.Need-value-at-requires-4
-value-at-requires-4 c κs = let start = c.before.before.before.before.before.before in record { loaded = fits _ _ c.enum-told4.given.1 start.requires.0; fractions = start.requires.1; index = start.requires.2 }
+value_at-requires-in-Unifac : tie.Need-value_at-requires-in-Unifac
+value_at-requires-in-Unifac c κs = record { loaded = fits _ _ c.in-Unifac.is c.requires.0; fractions = c.requires.1; index = c.requires.2 }
 
-returns : tie.Need-returns
+returns-in-Wilson : tie.Need-returns-in-Wilson
 unfolding value_at
-returns c = rw c.before.enum_told.given.1 c.value-at.ensures
+returns-in-Wilson c = rw c.in-Wilson.is c.value_at.ensures
 
-returns-2 : tie.Need-returns-2
+returns-in-Uniquac : tie.Need-returns-in-Uniquac
 unfolding value_at
-returns-2 c = rw c.before.enum-told2.given.1 c.value-at2.ensures
+returns-in-Uniquac c = rw c.in-Uniquac.is c.value_at-in-Uniquac.ensures
 
-returns-3 : tie.Need-returns-3
+returns-in-Nrtl : tie.Need-returns-in-Nrtl
 unfolding value_at
-returns-3 c = rw c.before.enum-told3.given.1 c.value-at3.ensures
+returns-in-Nrtl c = rw c.in-Nrtl.is c.value_at-in-Nrtl.ensures
 
-returns-4 : tie.Need-returns-4
+returns-in-Unifac : tie.Need-returns-in-Unifac
 unfolding value_at
-returns-4 c = rw c.before.enum-told4.given.1 c.value-at4.ensures
+returns-in-Unifac c = rw c.in-Unifac.is c.value_at-in-Unifac.ensures
 
-pub value-at_spec : {M : Type 1} → statement M
-value-at_spec =
+pub value_at_spec : {M : Type 1} → statement M
+value_at_spec =
     tie.close
     (tie.spec
     (λ c. search rules)
-    value-at-requires
+    value_at-requires
     (λ c. search rules)
-    value-at-requires-2
+    value_at-requires-in-Uniquac
     (λ c. search rules)
-    value-at-requires-3
+    value_at-requires-in-Nrtl
     (λ c. search rules)
-    value-at-requires-4
-    returns
-    returns-2
-    returns-3
-    returns-4)
+    value_at-requires-in-Unifac
+    returns-in-Wilson
+    returns-in-Uniquac
+    returns-in-Nrtl
+    returns-in-Unifac)

@@ -10,9 +10,7 @@ use Rattle.models.proofs.nrtl.add_terms.Tie as tie
 returns : tie.Need-returns
 unfolding one dec round of_bits
 returns c =
-    let s = c.before.before.before.before.before.before.before.before in
-    let row = c.before.before in
-    terms_added _ _ _ _ _ s.args.sums.now _ s.requires.2 s.requires.3 refl row.add-products.ensures row.add-products.auto.1.1.1.1.0
+    terms_added _ _ _ _ _ c.args.sums.now _ c.requires.2 c.requires.3 refl c.add_products.ensures c.add_products.auto.sums
 
 pub add_terms_spec : {M : Type 1} → statement M
 add_terms_spec =

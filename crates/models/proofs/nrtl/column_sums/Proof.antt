@@ -15,63 +15,63 @@ use Rattle.models.proofs.NrtlLaws.{tau-row}
 use Rattle.models.proofs.nrtl.column_sums.Statement.{statement}
 use Rattle.models.proofs.nrtl.column_sums.Tie as tie
 
-abbrev invariant_loop : tie.invariant_loop
-invariant_loop n tau g x u₀ d₀ i₀ u d i =
+abbrev invariant-loop-i : tie.invariant-loop-i
+invariant-loop-i n tau g x u₀ d₀ i₀ u d i =
     Columns (λ m j. at x m ⊗ unit_diagonal (grid n g) m j ⊗ Nrtl.tau (grid n tau) m j) n (length u₀) i u × Columns (λ m j. at x m ⊗ unit_diagonal (grid n g) m j) n (length d₀) i d
 
-abbrev decreases_loop : tie.decreases_loop
-decreases_loop n tau g x u₀ d₀ i₀ u d i = n - i
+abbrev decreases-loop-i : tie.decreases-loop-i
+decreases-loop-i n tau g x u₀ d₀ i₀ u d i = n - i
 
-abbrev entry : tie.In-loop invariant_loop decreases_loop → tie.Start invariant_loop decreases_loop
+abbrev entry : tie.In-loop-i invariant-loop-i decreases-loop-i → tie.Start invariant-loop-i decreases-loop-i
 entry c = c.before.before.before.before.before.before.before
 
 -- row i ends within both tables
-ends : (c : tie.In-loop invariant_loop decreases_loop) → (c.before.loop.i * (entry c).args.n + (entry c).args.n ≤ length (entry c).args.tau.now) × (c.before.loop.i * (entry c).args.n + (entry c).args.n ≤ length (entry c).args.g.now)
+ends : (c : tie.In-loop-i invariant-loop-i decreases-loop-i) → (c.loop-i.i * (entry c).args.n + (entry c).args.n ≤ length (entry c).args.tau.now) × (c.loop-i.i * (entry c).args.n + (entry c).args.n ≤ length (entry c).args.g.now)
 ends c =
-    let row = row-end (entry c).args.n (entry c).args.n c.before.loop.i c.loop-test.true in
+    let row = row-end (entry c).args.n (entry c).args.n c.loop-i.i c.loop-i-test.true in
     (le_trans row (entry c).requires.0.taus, le_trans row (entry c).requires.0.table)
 
-loop-holds : tie.Need-loop-init invariant_loop decreases_loop
-loop-holds c = let zeros = c.before.before.before.before.before.requires.1 in (columns-none zeros.sums.above refl zeros.none_above, columns-none zeros.sums.below refl zeros.none_below)
+loop-i-init : tie.Need-loop-i-init invariant-loop-i decreases-loop-i
+loop-i-init c = let zeros = c.requires.1 in (columns-none zeros.sums.above refl zeros.none_above, columns-none zeros.sums.below refl zeros.none_below)
 
-add-terms-requires : tie.Need-add-terms-requires invariant_loop decreases_loop
-add-terms-requires c κs =
+add_terms-requires : tie.Need-add_terms-requires invariant-loop-i decreases-loop-i
+add_terms-requires c κs =
     let turn = c.before.before.before.before in
     let a = (entry turn).args in
-    let g-row = from-room (turn.before.loop.i * a.n) _ a.g.now (ends turn).1 in
-    let tau-row = from-room (turn.before.loop.i * a.n) _ a.tau.now (ends turn).0 in
-    (g-row, tau-row, turn.loop-test.true, columns-room turn.before.loop.invariant.0)
+    let g-row = from-room (c.loop-i.i * a.n) _ a.g.now (ends turn).1 in
+    let tau-row = from-room (c.loop-i.i * a.n) _ a.tau.now (ends turn).0 in
+    (g-row, tau-row, c.loop-i-test.true, columns-room c.loop-i.invariant.0)
 
-add-unit-row-requires : tie.Need-add-unit-row-requires invariant_loop decreases_loop
-add-unit-row-requires c κs =
+add_unit_row-requires : tie.Need-add_unit_row-requires invariant-loop-i decreases-loop-i
+add_unit_row-requires c κs =
     let turn = c.before.before.before.before.before.before.before.before.before.before in
-    let row = from-room (turn.before.loop.i * (entry turn).args.n) _ (entry turn).args.g.now (ends turn).1 in
-    (row, turn.loop-test.true, columns-room turn.before.loop.invariant.1)
+    let row = from-room (c.loop-i.i * (entry turn).args.n) _ (entry turn).args.g.now (ends turn).1 in
+    (row, c.loop-i-test.true, columns-room c.loop-i.invariant.1)
 
-loop-again : tie.Need-loop-preserved invariant_loop decreases_loop
-loop-again c =
+loop-i-preserved : tie.Need-loop-i-preserved invariant-loop-i decreases-loop-i
+loop-i-preserved c =
     let turn = c.before.before.before.before.before.before.before.before.before.before.before.before.before in
     let a = (entry turn).args in
-    let i = turn.before.loop.i in
-    let inv = turn.before.loop.invariant in
-    let terms = c.before.before.before.before.before.before.before.before.add-terms in
-    let row = c.before.before.add-unit-row in (
-      columns-more _ turn.loop-test.true
-          (λ j b. rw (unit_row a.n a.g.now i j (ends turn).1 b, tau-row a.n a.tau.now i j (ends turn).0 b)) inv.0 terms.ensures terms.auto.1.1.1.1.1.0,
-      columns-more _ turn.loop-test.true (λ j b. rw (unit_row a.n a.g.now i j (ends turn).1 b)) inv.1 row.ensures row.auto.1.1.1.1.0,
+    let i = c.loop-i.i in
+    let inv = c.loop-i.invariant in
+    let terms = c.add_terms in
+    let row = c.add_unit_row in (
+      columns-more _ c.loop-i-test.true
+          (λ j b. rw (unit_row a.n a.g.now i j (ends turn).1 b, tau-row a.n a.tau.now i j (ends turn).0 b)) inv.0 terms.ensures terms.auto.sums,
+      columns-more _ c.loop-i-test.true (λ j b. rw (unit_row a.n a.g.now i j (ends turn).1 b)) inv.1 row.ensures row.auto.sums,
     )
 
-returns : tie.Need-returns invariant_loop decreases_loop
+returns : tie.Need-returns invariant-loop-i decreases-loop-i
 unfolding numerator column_sum
-returns c = let inv = c.before.loop.invariant in (columns-done c.loop-test.false inv.0, columns-done c.loop-test.false inv.1)
+returns c = let inv = c.loop-i.invariant in (columns-done c.loop-i-test.false inv.0, columns-done c.loop-i-test.false inv.1)
 
-pub column-sums_spec : {M : Type 1} → statement M
-column-sums_spec =
+pub column_sums_spec : {M : Type 1} → statement M
+column_sums_spec =
     tie.close
     (tie.spec
-    invariant_loop
-    decreases_loop
-    loop-holds
+    invariant-loop-i
+    decreases-loop-i
+    loop-i-init
     (λ c. omega (arith, (ends c).1))
     (λ c. omega arith)
     (λ c. omega arith)
@@ -83,17 +83,17 @@ column-sums_spec =
     (λ c. omega (arith, (ends c.before.before).0))
     (λ c. omega (arith, (ends c.before.before).0))
     (λ c. omega arith)
-    add-terms-requires
+    add_terms-requires
     (λ c. omega arith)
     (λ c. omega arith)
     (λ c. omega (arith, (ends c.before.before.before.before.before.before.before.before).1))
     (λ c. omega (arith, (ends c.before.before.before.before.before.before.before.before).1))
     (λ c. omega (arith, (ends c.before.before.before.before.before.before.before.before).1))
     (λ c. omega arith)
-    add-unit-row-requires
+    add_unit_row-requires
     (λ c. omega arith)
     (λ c. omega arith)
-    loop-again
-    (λ c. c.before.loop.invariant.0.long)
-    (λ c. c.before.loop.invariant.1.long)
+    loop-i-preserved
+    (λ c. c.loop-i.invariant.0.long)
+    (λ c. c.loop-i.invariant.1.long)
     returns)

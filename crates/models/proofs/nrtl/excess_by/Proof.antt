@@ -10,28 +10,28 @@ use Rattle.arithmetic.proofs.SumLaws.{sum-none, sum_more, sum_done}
 use Rattle.models.proofs.nrtl.excess_by.Statement.{statement}
 use Rattle.models.proofs.nrtl.excess_by.Tie as tie
 
-abbrev invariant_loop : tie.invariant_loop
-invariant_loop n u d x s₀ i₀ s i = (i ≤ n) × (s ≡ sum i (λ k. at x k ⊗ at u k ⊘ at d k))
+abbrev invariant-loop-i : tie.invariant-loop-i
+invariant-loop-i n u d x s₀ i₀ s i = (i ≤ n) × (s ≡ sum i (λ k. at x k ⊗ at u k ⊘ at d k))
 
-abbrev decreases_loop : tie.decreases_loop
-decreases_loop n u d x s₀ i₀ s i = n - i
+abbrev decreases-loop-i : tie.decreases-loop-i
+decreases-loop-i n u d x s₀ i₀ s i = n - i
 
-loop-holds : tie.Need-loop-init invariant_loop decreases_loop
-loop-holds c = (omega arith, sum-none _)
+loop-i-init : tie.Need-loop-i-init invariant-loop-i decreases-loop-i
+loop-i-init c = (omega arith, sum-none _)
 
-loop-again : tie.Need-loop-preserved invariant_loop decreases_loop
-loop-again c = (omega arith, sum_more _ _ c.before.before.before.before.loop.invariant.1 refl)
+loop-i-preserved : tie.Need-loop-i-preserved invariant-loop-i decreases-loop-i
+loop-i-preserved c = (omega arith, sum_more _ _ c.loop-i.invariant.1 refl)
 
-returns : tie.Need-returns invariant_loop decreases_loop
+returns : tie.Need-returns invariant-loop-i decreases-loop-i
 returns c = search (sum_done, rules)
 
 pub excess_by_spec : {M : Type 1} → statement M
 excess_by_spec =
     tie.close
     (tie.spec
-    invariant_loop
-    decreases_loop
-    loop-holds
+    invariant-loop-i
+    decreases-loop-i
+    loop-i-init
     (λ c. omega arith)
     (λ c. omega arith)
     (λ c. omega arith)
@@ -40,5 +40,5 @@ excess_by_spec =
     (λ c. omega arith)
     (λ c. omega arith)
     (λ c. omega arith)
-    loop-again
+    loop-i-preserved
     returns)

@@ -10,21 +10,21 @@ use Rattle.arithmetic.proofs.TableLaws.{Filling, filling_none, filling_more, fil
 use Rattle.models.proofs.nrtl.fill_arguments.Statement.{statement}
 use Rattle.models.proofs.nrtl.fill_arguments.Tie as tie
 
-abbrev invariant_loop : tie.invariant_loop
-invariant_loop alpha tau count out₀ k₀ out k = Filling (λ k. neg (at alpha k) ⊗ at tau k) count (length out₀) k out
+abbrev invariant-loop-k : tie.invariant-loop-k
+invariant-loop-k alpha tau count out₀ k₀ out k = Filling (λ k. neg (at alpha k) ⊗ at tau k) count (length out₀) k out
 
-abbrev decreases_loop : tie.decreases_loop
-decreases_loop alpha tau count out₀ k₀ out k = count - k
+abbrev decreases-loop-k : tie.decreases-loop-k
+decreases-loop-k alpha tau count out₀ k₀ out k = count - k
 
-loop-again : tie.Need-loop-preserved invariant_loop decreases_loop
-loop-again c = filling_more (omega arith) c.before.before.before.loop.invariant refl
+loop-k-preserved : tie.Need-loop-k-preserved invariant-loop-k decreases-loop-k
+loop-k-preserved c = filling_more (omega arith) c.loop-k.invariant refl
 
 pub fill_arguments_spec : {M : Type 1} → statement M
 fill_arguments_spec =
     tie.close
     (tie.spec
-    invariant_loop
-    decreases_loop
+    invariant-loop-k
+    decreases-loop-k
     (λ c. filling_none (omega arith) refl)
     (λ c. omega arith)
     (λ c. omega arith)
@@ -34,6 +34,6 @@ fill_arguments_spec =
     (λ c. omega arith)
     (λ c. omega arith)
     (λ c. omega arith)
-    loop-again
-    (λ c. c.before.loop.invariant.long)
-    (λ c. filling_done c.loop-test.false c.before.loop.invariant))
+    loop-k-preserved
+    (λ c. c.loop-k.invariant.long)
+    (λ c. filling_done c.loop-k-test.false c.loop-k.invariant))

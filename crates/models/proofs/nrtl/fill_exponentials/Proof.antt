@@ -9,9 +9,8 @@ use Rattle.models.proofs.nrtl.fill_exponentials.Tie as tie
 
 returns : tie.Need-returns
 returns c =
-    let each = c.before.before in
-    let args = each.before.before.before.before in
-    each-filled exp_of _ _ (omega (arith, args.fill-arguments.auto, args.before.before.before.before.before.requires)) (λ k b. refl) args.fill-arguments.ensures each.exp-each.ensures
+    let args = c.before.before.before.before in
+    each-filled exp_of _ _ (omega (arith, args.fill_arguments.auto, args.requires)) (λ k b. refl) args.fill_arguments.ensures c.exp_each.ensures
 
 pub fill_exponentials_spec : {M : Type 1} → statement M
 fill_exponentials_spec = tie.close (tie.spec (λ c κs. search rules) (λ c κs. search rules) (λ c. search rules) returns)

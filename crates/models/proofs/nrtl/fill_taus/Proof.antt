@@ -5,15 +5,14 @@ use Rattle.models.specs.Values.{nrtl_size}
 use Rattle.models.proofs.nrtl.fill_taus.Statement.{statement}
 use Rattle.models.proofs.nrtl.fill_taus.Tie as tie
 
-fill-values-requires : tie.Need-fill-values-requires
+fill_values-requires : tie.Need-fill_values-requires
 unfolding nrtl_size
-fill-values-requires c κs =
-    let start = c.before.before.before in
-    let small = mul-le-mul start.requires.0 start.requires.0 in
-    (omega (arith, start.requires.1), start.requires.2, omega (arith, small))
+fill_values-requires c κs =
+    let small = mul-le-mul c.requires.0 c.requires.0 in
+    (omega (arith, c.requires.1), c.requires.2, omega (arith, small))
 
 returns : tie.Need-returns
-returns c = c.before.before.fill-values.ensures
+returns c = c.fill_values.ensures
 
 pub fill_taus_spec : {M : Type 1} → statement M
-fill_taus_spec = tie.close (tie.spec (λ c. omega (arith, mul-le-mul c.before.before.requires.0 c.before.before.requires.0)) fill-values-requires (λ c. c.before.before.fill-values.auto.1.1.1.0) returns)
+fill_taus_spec = tie.close (tie.spec (λ c. omega (arith, mul-le-mul c.requires.0 c.requires.0)) fill_values-requires (λ c. c.fill_values.auto.out) returns)

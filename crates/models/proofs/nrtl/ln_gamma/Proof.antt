@@ -15,15 +15,15 @@ ends c = (row-end _ c.args.n _ c.requires.2, mul-le-mul c.requires.0.few c.requi
 second-requires : tie.Need-second-requires
 second-requires c κs =
     let start = c.before.before.before.before.before.before.before.before.before in
-    let pre = start.requires in
-    let tau-row = from-room (start.args.i * start.args.n) _ start.args.tau.now (le_trans (ends start).0 pre.0.taus) in
-    let g-row = from-room (start.args.i * start.args.n) _ start.args.g.now (le_trans (ends start).0 pre.0.table) in
+    let pre = c.requires in
+    let tau-row = from-room (c.args.i * c.args.n) _ c.args.tau.now (le_trans (ends start).0 pre.0.taus) in
+    let g-row = from-room (c.args.i * c.args.n) _ c.args.g.now (le_trans (ends start).0 pre.0.table) in
     (tau-row, g-row, pre.1.above, pre.1.below, pre.0.fractions, pre.2, pre.0.few)
 
 returns : tie.Need-returns
 returns c =
     let start = c.before.before.before.before.before.before.before.before.before.before in
-    second-rows _ start.args.tau.now start.args.g.now _ _ _ _
+    second-rows _ c.args.tau.now c.args.g.now _ _ _ _
     (omega (arith, ends start)) (omega (arith, ends start)) c.second.ensures
 
 pub ln_gamma_spec : {M : Type 1} → statement M

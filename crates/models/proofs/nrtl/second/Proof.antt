@@ -11,28 +11,27 @@ use Rattle.models.proofs.ColumnLaws.{terms_room, terms_taken}
 use Rattle.models.proofs.nrtl.second.Statement.{statement}
 use Rattle.models.proofs.nrtl.second.Tie as tie
 
-abbrev invariant_loop : tie.invariant_loop
-invariant_loop n tau g u d x i terms₀ j₀ terms j = Filling (λ j. at x j ⊗ at g j ⊘ at d j ⊗ (at tau j ⊖ at u j ⊘ at d j)) n 12 j terms
+abbrev invariant-loop-j : tie.invariant-loop-j
+invariant-loop-j n tau g u d x i terms₀ j₀ terms j = Filling (λ j. at x j ⊗ at g j ⊘ at d j ⊗ (at tau j ⊖ at u j ⊘ at d j)) n 12 j terms
 
-abbrev decreases_loop : tie.decreases_loop
-decreases_loop n tau g u d x i terms₀ j₀ terms j = n - j
+abbrev decreases-loop-j : tie.decreases-loop-j
+decreases-loop-j n tau g u d x i terms₀ j₀ terms j = n - j
 
-loop-again : tie.Need-loop-preserved invariant_loop decreases_loop
-loop-again c = filling_more (omega arith) c.before.before.before.before.before.before.before.loop.invariant c.term.ensures
+loop-j-preserved : tie.Need-loop-j-preserved invariant-loop-j decreases-loop-j
+loop-j-preserved c = filling_more (omega arith) c.loop-j.invariant c.term.ensures
 
-returns : tie.Need-returns invariant_loop decreases_loop
+returns : tie.Need-returns invariant-loop-j decreases-loop-j
 unfolding one dec round of_bits
 returns c =
-    let done = c.before.before.before.before.before.before in
-    let start = done.before.before.before.before.before.before.before in
-    second_folded _ _ _ _ _ _ start.requires.5 done.loop-test.false done.before.loop.invariant c.before.before.term2.ensures c.sum.ensures
+    let start = c.before.before.before.before.before.before.before in
+    second_folded _ _ _ _ _ _ start.requires.5 c.loop-j-test.false c.loop-j.invariant c.term-2.ensures c.sum.ensures
 
 pub second_spec : {M : Type 1} → statement M
 second_spec =
     tie.close
     (tie.spec
-    invariant_loop
-    decreases_loop
+    invariant-loop-j
+    decreases-loop-j
     (λ c. filling_none (omega arith) refl)
     (λ c. omega arith)
     (λ c. omega arith)
@@ -49,7 +48,7 @@ second_spec =
     (λ c. omega arith)
     (λ c. omega arith)
     (λ c. omega arith)
-    loop-again
+    loop-j-preserved
     (λ c. omega arith)
     (λ c. omega arith)
     (λ c. omega arith)
@@ -58,8 +57,8 @@ second_spec =
     (λ c. omega arith)
     (λ c κs. tt)
     (λ c. omega arith)
-    (λ c. omega (arith, c.before.before.before.before.before.loop.invariant, c.before.before.before.before.before.before.before.before.before.before.before.requires.5))
-    (λ c. terms_room c.before.before.before.before.before.loop.invariant _ _)
-    (λ c. terms_taken c.before.before.before.before.before.before.loop.invariant _ _)
+    (λ c. omega (arith, c.loop-j.invariant, c.requires.5))
+    (λ c. terms_room c.loop-j.invariant _ _)
+    (λ c. terms_taken c.loop-j.invariant _ _)
     (λ c κs. tt)
     returns)

@@ -15,31 +15,31 @@ fits : (c : tie.Start) → (c.args.n * c.args.n * 5 + c.args.n * c.args.n ≤ le
 unfolding nrtl_size
 fits c = (c.requires.sized, mul-le-mul c.requires.few c.requires.few)
 
-fill-taus-requires : tie.Need-fill-taus-requires
-fill-taus-requires c κs = let room = fits c.before.before.before in search rules
+fill_taus-requires : tie.Need-fill_taus-requires
+fill_taus-requires c κs = let room = fits c.before.before.before in search rules
 
-fill-exponentials-requires : tie.Need-fill-exponentials-requires
-fill-exponentials-requires c κs =
+fill_exponentials-requires : tie.Need-fill_exponentials-requires
+fill_exponentials-requires c κs =
     let start = c.before.before.before.before.before.before.before.before in
-    let n = start.args.n in
+    let n = c.args.n in
     let room = fits start in
-    let part = from-length (n * n * 5) start.args.values.now in
+    let part = from-length (n * n * 5) c.args.values.now in
     search rules
 
-value-over-requires : tie.Need-value-over-requires
-value-over-requires c κs = let room = fits c.before.before.before.before.before.before.before.before.before.before.before.before in search rules
+value_over-requires : tie.Need-value_over-requires
+value_over-requires c κs = let room = fits c.before.before.before.before.before.before.before.before.before.before.before.before in search rules
 
 returns : tie.Need-returns
 returns c =
     let start = c.before.before.before.before.before.before.before.before.before.before.before.before.before in
-    nrtl-from _ _ _ _ _ _ _ (fits start).0 start.requires.index c.before.before.before.before.before.before.before.before.before.fill-taus.ensures c.before.before.before.before.fill-exponentials.ensures c.value-over.ensures
+    nrtl-from _ _ _ _ _ _ _ (fits start).0 c.requires.index c.fill_taus.ensures c.fill_exponentials.ensures c.value_over.ensures
 
-pub value-at_spec : {M : Type 1} → statement M
-value-at_spec =
+pub value_at_spec : {M : Type 1} → statement M
+value_at_spec =
     tie.close
     (tie.spec
     (λ c. search rules)
-    fill-taus-requires
+    fill_taus-requires
     (λ c. omega (arith, fits c.before.before.before.before.before))
     (λ c. omega (arith, fits c.before.before.before.before.before))
     (λ c. omega (arith, fits c.before.before.before.before.before))
@@ -49,8 +49,8 @@ value-at_spec =
     (λ c. search rules)
     (λ c. search rules)
     (λ c. search rules)
-    fill-exponentials-requires
+    fill_exponentials-requires
     (λ c. search rules)
     (λ c. search rules)
-    value-over-requires
+    value_over-requires
     returns)

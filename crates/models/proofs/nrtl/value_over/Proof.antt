@@ -7,57 +7,56 @@ use Rattle.models.proofs.NrtlLaws.{nrtl_ln, nrtl_gamma, nrtl-excess}
 use Rattle.models.proofs.nrtl.value_over.Statement.{statement}
 use Rattle.models.proofs.nrtl.value_over.Tie as tie
 
-abbrev entry : tie.After-column-sums → tie.Start
+abbrev entry : tie.After-column_sums → tie.Start
 entry c = c.before.before.before.before.before.before
 
-column-sums-requires : tie.Need-column-sums-requires
-column-sums-requires c κs = let zero = filled-less c.before.before.before.before.before.requires.0.few (zeros 12) in search rules
+column_sums-requires : tie.Need-column_sums-requires
+column_sums-requires c κs = let zero = filled-less c.requires.0.few (zeros 12) in search rules
 
-ln-gamma-requires : tie.Need-ln-gamma-requires
-ln-gamma-requires c κs =
-    let here = index_ln c.before.before.before.q.given.1 (entry c.before.before.before.before.before.before.before).requires.1 in
+ln_gamma-requires : tie.Need-ln_gamma-requires
+ln_gamma-requires c κs =
+    let here = index_ln c.in-LnGamma.is (entry c.before.before.before.before.before).requires.1 in
     search rules
 
-ln-gamma-requires-2 : tie.Need-ln-gamma-requires-2
-ln-gamma-requires-2 c κs =
-    let here = index_gamma c.before.before.before.q2.given.1 (entry c.before.before.before.before.before.before.before).requires.1 in
+ln_gamma-requires-in-Gamma : tie.Need-ln_gamma-requires-in-Gamma
+ln_gamma-requires-in-Gamma c κs =
+    let here = index_gamma c.in-Gamma.is (entry c.before.before.before.before.before).requires.1 in
     search rules
 
-returns : tie.Need-returns
-returns c =
-    let sums = c.before.before.before.before.before.before.before.before in
-    nrtl_ln _ _ _ _ sums.column-sums.ensures.0 sums.column-sums.ensures.1 c.before.before.before.before.q.given.1 (entry sums).requires.1 c.ln-gamma.ensures
+returns-in-LnGamma : tie.Need-returns-in-LnGamma
+returns-in-LnGamma c =
+    let sums = c.before.before.before.before.before.before in
+    nrtl_ln _ _ _ _ c.column_sums.ensures.0 c.column_sums.ensures.1 c.in-LnGamma.is (entry sums).requires.1 c.ln_gamma.ensures
 
-returns-2 : tie.Need-returns-2
-returns-2 c =
-    let sums = c.before.before.before.before.before.before.before.before.before in
-    nrtl_gamma _ _ _ _ sums.column-sums.ensures.0 sums.column-sums.ensures.1 c.before.before.before.before.before.q2.given.1 (entry sums).requires.1 c.before.ln-gamma2.ensures c.exp.ensures
-
-returns-3 : tie.Need-returns-3
-returns-3 c =
+returns-in-Gamma : tie.Need-returns-in-Gamma
+returns-in-Gamma c =
     let sums = c.before.before.before.before.before.before.before in
-    nrtl-excess _ _ _ _ sums.column-sums.ensures.0 sums.column-sums.ensures.1 c.before.before.before.enum_told.given.1 c.excess-by.ensures
+    nrtl_gamma _ _ _ _ c.column_sums.ensures.0 c.column_sums.ensures.1 c.in-Gamma.is (entry sums).requires.1 c.ln_gamma-in-Gamma.ensures c.exp.ensures
 
-pub value-over_spec : {M : Type 1} → statement M
-value-over_spec =
+returns-in-ExcessGibbs : tie.Need-returns-in-ExcessGibbs
+returns-in-ExcessGibbs c =
+    nrtl-excess _ _ _ _ c.column_sums.ensures.0 c.column_sums.ensures.1 c.in-ExcessGibbs.is c.excess_by.ensures
+
+pub value_over_spec : {M : Type 1} → statement M
+value_over_spec =
     tie.close
     (tie.spec
     (λ c. search rules)
     (λ c. search rules)
-    column-sums-requires
+    column_sums-requires
     (λ c. search rules)
     (λ c. search rules)
     (λ c. search rules)
-    ln-gamma-requires
+    ln_gamma-requires
     (λ c. search rules)
     (λ c. search rules)
     (λ c. search rules)
-    ln-gamma-requires-2
+    ln_gamma-requires-in-Gamma
     (λ c κs. tt)
     (λ c. search rules)
     (λ c. search rules)
     (λ c. search rules)
     (λ c κs. search rules)
-    returns
-    returns-2
-    returns-3)
+    returns-in-LnGamma
+    returns-in-Gamma
+    returns-in-ExcessGibbs)

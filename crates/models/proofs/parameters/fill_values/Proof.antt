@@ -11,9 +11,8 @@ use Rattle.models.proofs.parameters.fill_values.Tie as tie
 returns : tie.Need-returns
 unfolding td_at
 returns c =
-    let call = c.before.before in
-    let a = call.before.before.before.before.before.args in
-    filled_as (λ k b. ap (td_by (five_at a.fives.now (k * 5)) a.t) call.before.before.log.ensures) call.fill-values-by.ensures
+    let a = c.args in
+    filled_as (λ k b. ap (td_by (five_at a.fives.now (k * 5)) a.t) c.log.ensures) c.fill_values_by.ensures
 
 pub fill_values_spec : {M : Type 1} → statement M
 fill_values_spec = tie.close (tie.spec (λ c κs. tt) (λ c κs. search rules) (λ c. search rules) returns)

@@ -10,21 +10,21 @@ use Rattle.models.specs.Values.{five_at}
 use Rattle.models.proofs.parameters.fill_values_by.Statement.{statement}
 use Rattle.models.proofs.parameters.fill_values_by.Tie as tie
 
-abbrev invariant_loop : tie.invariant_loop
-invariant_loop fives count t ln out₀ k₀ out k = Filling (λ k. td_by (five_at fives (k * 5)) t ln) count (length out₀) k out
+abbrev invariant-loop-k : tie.invariant-loop-k
+invariant-loop-k fives count t ln out₀ k₀ out k = Filling (λ k. td_by (five_at fives (k * 5)) t ln) count (length out₀) k out
 
-abbrev decreases_loop : tie.decreases_loop
-decreases_loop fives count t ln out₀ k₀ out k = count - k
+abbrev decreases-loop-k : tie.decreases-loop-k
+decreases-loop-k fives count t ln out₀ k₀ out k = count - k
 
-loop-again : tie.Need-loop-preserved invariant_loop decreases_loop
-loop-again c = filling_more (omega arith) c.before.before.before.loop.invariant (c.value-by.ensures ∙ rw c.before.five-at.ensures refl)
+loop-k-preserved : tie.Need-loop-k-preserved invariant-loop-k decreases-loop-k
+loop-k-preserved c = filling_more (omega arith) c.loop-k.invariant (c.value_by.ensures ∙ rw c.five_at.ensures refl)
 
 pub fill_values_by_spec : {M : Type 1} → statement M
 fill_values_by_spec =
     tie.close
     (tie.spec
-    invariant_loop
-    decreases_loop
+    invariant-loop-k
+    decreases-loop-k
     (λ c. filling_none (omega arith) refl)
     (λ c. omega arith)
     (λ c κs. search rules)
@@ -33,6 +33,6 @@ fill_values_by_spec =
     (λ c. omega arith)
     (λ c. omega arith)
     (λ c. omega arith)
-    loop-again
-    (λ c. c.before.loop.invariant.long)
-    (λ c. filling_done c.loop-test.false c.before.loop.invariant))
+    loop-k-preserved
+    (λ c. c.loop-k.invariant.long)
+    (λ c. filling_done c.loop-k-test.false c.loop-k.invariant))

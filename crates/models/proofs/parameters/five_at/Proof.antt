@@ -9,8 +9,8 @@ returns : tie.Need-returns
 unfolding five_at
 returns c = refl
 
-pub five-at_spec : {M : Type 1} → statement M
-five-at_spec =
+pub five_at_spec : {M : Type 1} → statement M
+five_at_spec =
     tie.close
     (tie.spec
     (λ c. search rules)

@@ -7,42 +7,39 @@ use Rattle.models.proofs.suppliers.FieldEnds.{Passed, ends-at-comma, ends-at_fee
 use Rattle.models.proofs.suppliers.field_end.Statement.{statement}
 use Rattle.models.proofs.suppliers.field_end.Tie as tie
 
-abbrev invariant_loop : tie.invariant_loop
-invariant_loop text at end₀ end = (at ≤ end) × (end ≤ length text) × Passed text at end
+abbrev invariant-loop-end : tie.invariant-loop-end
+invariant-loop-end text at end₀ end = (at ≤ end) × (end ≤ length text) × Passed text at end
 
-abbrev decreases_loop : tie.decreases_loop
-decreases_loop text at end₀ end = length text - end
+abbrev decreases-loop-end : tie.decreases-loop-end
+decreases-loop-end text at end₀ end = length text - end
 
-returns : tie.Need-returns invariant_loop decreases_loop
-returns c =
-    let top = c.before.before.before in
-    (ends-at-comma top.loop.invariant.2 (omega arith) (omega arith), omega arith, omega arith)
+returns-then-text-end-eq44 : tie.Need-returns-then-text-end-eq44 invariant-loop-end decreases-loop-end
+returns-then-text-end-eq44 c =
+    (ends-at-comma c.loop-end.invariant.2 (omega arith) (omega arith), omega arith, omega arith)
 
-returns-2 : tie.Need-returns-2 invariant_loop decreases_loop
-returns-2 c =
-    let top = c.before.before.before.before.before in
-    (ends-at_feed top.loop.invariant.2 (omega arith) (λ e. omega arith) (omega arith), omega arith, omega arith)
+returns-then-text-end-eq10 : tie.Need-returns-then-text-end-eq10 invariant-loop-end decreases-loop-end
+returns-then-text-end-eq10 c =
+    (ends-at_feed c.loop-end.invariant.2 (omega arith) (λ e. omega arith) (omega arith), omega arith, omega arith)
 
-loop-again : tie.Need-loop-preserved invariant_loop decreases_loop
-loop-again c =
-    let top = c.before.before.before.before.before in
-    (omega arith, omega arith, one_more top.loop.invariant.2 (omega arith) (λ e. omega arith) (λ e. omega arith))
+loop-end-preserved : tie.Need-loop-end-preserved invariant-loop-end decreases-loop-end
+loop-end-preserved c =
+    (omega arith, omega arith, one_more c.loop-end.invariant.2 (omega arith) (λ e. omega arith) (λ e. omega arith))
 
-returns-3 : tie.Need-returns-3 invariant_loop decreases_loop
-returns-3 c = (ends_with_text c.before.loop.invariant.2 (omega arith), omega arith, omega arith)
+returns : tie.Need-returns invariant-loop-end decreases-loop-end
+returns c = (ends_with_text c.loop-end.invariant.2 (omega arith), omega arith, omega arith)
 
-pub field-end_spec : {M : Type 1} → statement M
-field-end_spec =
+pub field_end_spec : {M : Type 1} → statement M
+field_end_spec =
     tie.close
     (tie.spec
-    invariant_loop
-    decreases_loop
+    invariant-loop-end
+    decreases-loop-end
     (λ c. (omega arith, omega arith, record { same = refl }))
     (λ c. omega arith)
-    returns
+    returns-then-text-end-eq44
     (λ c. omega arith)
-    returns-2
+    returns-then-text-end-eq10
     (λ c. omega arith)
     (λ c. omega arith)
-    loop-again
-    returns-3)
+    loop-end-preserved
+    returns)

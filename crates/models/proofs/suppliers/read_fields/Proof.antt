@@ -9,68 +9,59 @@ use Rattle.models.proofs.suppliers.Turns.{surplus, all_read, all-values}
 use Rattle.models.proofs.suppliers.read_fields.Statement.{statement}
 use Rattle.models.proofs.suppliers.read_fields.Tie as tie
 
-abbrev invariant_loop : tie.invariant_loop
-invariant_loop text n entries₀ at₀ count k₀ entries at k =
+abbrev invariant-loop-k : tie.invariant-loop-k
+invariant-loop-k text n entries₀ at₀ count k₀ entries at k =
     (k ≤ n * n) × (at ≤ length text) × (length entries ≡ length entries₀) × Left n text entries k at
 
-abbrev decreases_loop : tie.decreases_loop
-decreases_loop text n entries₀ at₀ count k₀ entries at k = n * n - k
+abbrev decreases-loop-k : tie.decreases-loop-k
+decreases-loop-k text n entries₀ at₀ count k₀ entries at k = n * n - k
 
 -- what a turn knows when its field is read
-turn : (c : tie.After-read invariant_loop decreases_loop) →
-    let sought = c.before.before in
-    let top = sought.before.before in
-    let a = top.before.before.before.args in
-    let l = top.loop in
-    Turn a.n a.text.now l.entries l.k l.at sought.field-end.result c.read.result
-turn c =
-    let sought = c.before.before in
-    let left = sought.before.before.loop.invariant.3 in
-    record { left = left; within = omega arith; stops = sought.field-end.ensures.0; reads = c.read.ensures }
+turn : (c : tie.After-read invariant-loop-k decreases-loop-k) →
+    let a = c.args in
+    let l = c.loop-k in
+    Turn a.n a.text.now l.entries l.k l.at c.field_end-end.result c.read.result
+turn c = record { left = c.loop-k.invariant.3; within = omega arith; stops = c.field_end-end.ensures.0; reads = c.read.ensures }
 
-returns : tie.Need-returns invariant_loop decreases_loop
-returns c =
-    let refused = turn_refuses (turn c.before.before.before) c.before.fault.given.1 in
+returns-in-Refused : tie.Need-returns-in-Refused invariant-loop-k decreases-loop-k
+returns-in-Refused c =
+    let refused = turn_refuses (turn c.before) c.in-Refused.is in
     (refused.0, λ z. absurd (refused.1 z))
 
-returns-2 : tie.Need-returns-2 invariant_loop decreases_loop
-returns-2 c =
-    let told = c.before in
-    let t = turn told.before.before.before in
-    (turn_cut t told.before.v.given.1 (omega arith), λ z. absurd (omega arith))
+returns-then-end-text : tie.Need-returns-then-end-text invariant-loop-k decreases-loop-k
+returns-then-end-text c =
+    let t = turn c.before.before in
+    (turn_cut t c.in-Number.is (omega arith), λ z. absurd (omega arith))
 
-returns-3 : tie.Need-returns-3 invariant_loop decreases_loop
-returns-3 c =
-    let told = c.before.before.before.before in
-    let t = turn told.before.before.before in
-    let asked = c.before.separator.ensures in
-    (turn-other t told.before.v.given.1 (λ q. c.if2.true (q ∙ sym asked)), λ z. absurd (omega arith))
+returns-then-text-end : tie.Need-returns-then-text-end invariant-loop-k decreases-loop-k
+returns-then-text-end c =
+    let t = turn c.before.before.before.before.before in
+    let asked = c.separator.ensures in
+    (turn-other t c.in-Number.is (λ q. c.if-text-end.true (q ∙ sym asked)), λ z. absurd (omega arith))
 
-loop-again : tie.Need-loop-preserved invariant_loop decreases_loop
-loop-again c =
-    let told = c.before.before.before.before in
-    let read = told.before.before.before in
-    let top = read.before.before.before.before in (
+loop-k-preserved : tie.Need-loop-k-preserved invariant-loop-k decreases-loop-k
+loop-k-preserved c =
+    let read = c.before.before.before.before.before in (
       omega arith,
       omega arith,
-      length-set top.loop.entries _ _ ∙ top.loop.invariant.2,
-      turn_on (turn read) told.before.v.given.1 (c.if2.false ∙ c.before.separator.ensures) (omega arith),
+      length-set c.loop-k.entries _ _ ∙ c.loop-k.invariant.2,
+      turn_on (turn read) c.in-Number.is (c.if-text-end.false ∙ c.separator.ensures) (omega arith),
     )
 
-returns-4 : tie.Need-returns-4 invariant_loop decreases_loop
-returns-4 c = (surplus c.before.before.loop.invariant.3 (omega arith) (omega arith), λ z. absurd (omega arith))
+returns-then-at-text : tie.Need-returns-then-at-text invariant-loop-k decreases-loop-k
+returns-then-at-text c = (surplus c.loop-k.invariant.3 (omega arith) (omega arith), λ z. absurd (omega arith))
 
-returns-5 : tie.Need-returns-5 invariant_loop decreases_loop
-returns-5 c =
-    let left = c.before.before.loop.invariant.3 in
+returns : tie.Need-returns invariant-loop-k decreases-loop-k
+returns c =
+    let left = c.loop-k.invariant.3 in
     (all_read left (omega arith) (omega arith), λ z. all-values left (omega arith))
 
 pub read_fields_spec : {M : Type 1} → statement M
 read_fields_spec =
     tie.close
     (tie.spec
-    invariant_loop
-    decreases_loop
+    invariant-loop-k
+    decreases-loop-k
     (λ c. omega arith)
     (λ c. (omega arith, omega arith, refl, none_read _ _ _))
     (λ c. omega arith)
@@ -85,18 +76,18 @@ read_fields_spec =
     (λ c. omega arith)
     (λ c. search rules)
     (λ c. search rules)
-    returns
+    returns-in-Refused
     (λ c. search rules)
-    returns-2
+    returns-then-end-text
     (λ c. omega arith)
     (λ c κs. search rules)
     (λ c. search rules)
-    returns-3
+    returns-then-text-end
     (λ c. omega arith)
     (λ c. omega arith)
     (λ c. omega arith)
-    loop-again
+    loop-k-preserved
     (λ c. search rules)
-    returns-4
+    returns-then-at-text
     (λ c. search rules)
-    returns-5)
+    returns)

@@ -4,11 +4,11 @@ use borrow.Author.Tests.{eq-eqb, ne_eqb}
 use Rattle.models.proofs.suppliers.separator.Statement.{statement}
 use Rattle.models.proofs.suppliers.separator.Tie as tie
 
-returns : tie.Need-returns
-returns c = simp (eq-eqb _ _ c.if1.true)
+returns-then-m-n-eq0 : tie.Need-returns-then-m-n-eq0
+returns-then-m-n-eq0 c = simp (eq-eqb _ _ c.if-m-n-eq0.true)
 
-returns-2 : tie.Need-returns-2
-returns-2 c = simp (ne_eqb _ _ c.if1.false)
+returns : tie.Need-returns
+returns c = simp (ne_eqb _ _ c.if-m-n-eq0.false)
 
 pub separator_spec : {M : Type 1} → statement M
-separator_spec = tie.close (tie.spec (λ c. search rules) returns returns-2)
+separator_spec = tie.close (tie.spec (λ c. search rules) returns-then-m-n-eq0 returns)

@@ -10,5 +10,5 @@ square_spec =
     tie.close
     (tie.spec
     (λ c h. absurd (omega arith))
-    (λ c. omega (arith, mul-le-mul c.if1.false c.if1.false))
+    (λ c. omega (arith, mul-le-mul c.if-n-gt-NAMED.false c.if-n-gt-NAMED.false))
     (λ c _. refl))

@@ -13,48 +13,46 @@ use Rattle.models.proofs.ColumnLaws.{Columns, columns-room, columns-none, column
 use Rattle.models.proofs.unifac.column_sums.Statement.{statement}
 use Rattle.models.proofs.unifac.column_sums.Tie as tie
 
-abbrev invariant_loop : tie.invariant_loop
-invariant_loop ng theta psi sums₀ m₀ sums m = Columns (λ k j. at theta k ⊗ grid ng psi k j) ng (length sums₀) m sums
+abbrev invariant-loop-m : tie.invariant-loop-m
+invariant-loop-m ng theta psi sums₀ m₀ sums m = Columns (λ k j. at theta k ⊗ grid ng psi k j) ng (length sums₀) m sums
 
-abbrev decreases_loop : tie.decreases_loop
-decreases_loop ng theta psi sums₀ m₀ sums m = ng - m
+abbrev decreases-loop-m : tie.decreases-loop-m
+decreases-loop-m ng theta psi sums₀ m₀ sums m = ng - m
 
-abbrev entry : tie.In-loop invariant_loop decreases_loop → tie.Start invariant_loop decreases_loop
+abbrev entry : tie.In-loop-m invariant-loop-m decreases-loop-m → tie.Start invariant-loop-m decreases-loop-m
 entry c = c.before.before.before.before.before
 
 -- row m ends within the table, and starts within 1,024 places
-ends : (c : tie.In-loop invariant_loop decreases_loop) → (c.before.loop.m * (entry c).args.ng + (entry c).args.ng ≤ length (entry c).args.psi.now) × (c.before.loop.m * (entry c).args.ng ≤ 1024)
+ends : (c : tie.In-loop-m invariant-loop-m decreases-loop-m) → (c.loop-m.m * (entry c).args.ng + (entry c).args.ng ≤ length (entry c).args.psi.now) × (c.loop-m.m * (entry c).args.ng ≤ 1024)
 ends c =
-    let row = row-end _ (entry c).args.ng _ c.loop-test.true in
+    let row = row-end _ (entry c).args.ng _ c.loop-m-test.true in
     (omega (arith, row), omega (arith, row, mul-le-mul (entry c).requires.0 (entry c).requires.0))
 
-add-row-requires : tie.Need-add-row-requires invariant_loop decreases_loop
-add-row-requires c κs =
+add_row-requires : tie.Need-add_row-requires invariant-loop-m decreases-loop-m
+add_row-requires c κs =
     let turn = c.before.before.before in
-    let row = from-room (turn.before.loop.m * (entry turn).args.ng) _ (entry turn).args.psi.now (ends turn).0 in
-    (row, columns-room turn.before.loop.invariant)
+    let row = from-room (c.loop-m.m * (entry turn).args.ng) _ (entry turn).args.psi.now (ends turn).0 in
+    (row, columns-room c.loop-m.invariant)
 
-loop-again : tie.Need-loop-preserved invariant_loop decreases_loop
-loop-again c =
-    let call = c.before.before in
+loop-m-preserved : tie.Need-loop-m-preserved invariant-loop-m decreases-loop-m
+loop-m-preserved c =
     let turn = c.before.before.before.before.before.before in
-    let top = turn.before in
     let a = (entry turn).args in
-    columns-more _ turn.loop-test.true
-    (λ j b. ap (λ (v : Float). at a.theta.now top.loop.m ⊗ v) (from_at a.psi.now (top.loop.m * a.ng) j (omega (arith, ends turn)))) top.loop.invariant
-    call.add_row.ensures call.add_row.auto.1.1.1.0
+    columns-more _ c.loop-m-test.true
+    (λ j b. ap (λ (v : Float). at a.theta.now turn.loop-m.m ⊗ v) (from_at a.psi.now (turn.loop-m.m * a.ng) j (omega (arith, ends turn)))) turn.loop-m.invariant
+    c.add_row.ensures c.add_row.auto.sums
 
-returns : tie.Need-returns invariant_loop decreases_loop
+returns : tie.Need-returns invariant-loop-m decreases-loop-m
 unfolding column_sum
-returns c = columns-done c.loop-test.false c.before.loop.invariant
+returns c = columns-done c.loop-m-test.false c.loop-m.invariant
 
-pub column-sums_spec : {M : Type 1} → statement M
-column-sums_spec =
+pub column_sums_spec : {M : Type 1} → statement M
+column_sums_spec =
     tie.close
     (tie.spec
-    invariant_loop
-    decreases_loop
-    (λ c. columns-none (omega arith) refl c.before.before.before.requires.4)
+    invariant-loop-m
+    decreases-loop-m
+    (λ c. columns-none (omega arith) refl c.requires.4)
     (λ c. omega (arith, ends c))
     (λ c. omega (arith, ends c))
     (λ c. omega (arith, ends c))
@@ -62,9 +60,9 @@ column-sums_spec =
     (λ c. omega (arith, ends c))
     (λ c. omega arith)
     (λ c. omega arith)
-    add-row-requires
+    add_row-requires
     (λ c. omega arith)
     (λ c. omega arith)
-    loop-again
-    (λ c. c.before.loop.invariant.long)
+    loop-m-preserved
+    (λ c. c.loop-m.invariant.long)
     returns)

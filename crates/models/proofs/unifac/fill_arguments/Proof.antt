@@ -9,10 +9,9 @@ use Rattle.models.proofs.unifac.fill_arguments.Tie as tie
 
 returns : tie.Need-returns
 returns c =
-    let over = c.before.before in
-    let t = c.before.before.before.before.before.before.before.before.before.before.args.t in
-    let block = over.before.before.before.before in
-    filled_as (λ k b. ap (λ (v : Float). neg v ⊘ t) (block.fill-values-by.ensures.each k b)) over.over-t.ensures
+    let t = c.args.t in
+    let block = c.before.before.before.before in
+    filled_as (λ k b. ap (λ (v : Float). neg v ⊘ t) (block.fill_values_by.ensures.each k b)) c.over_t.ensures
 
 pub fill_arguments_spec : {M : Type 1} → statement M
 fill_arguments_spec = tie.close (tie.spec (λ c κs. search rules) (λ c κs. search rules) (λ c. search rules) returns)

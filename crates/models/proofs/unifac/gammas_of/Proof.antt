@@ -14,67 +14,67 @@ use Rattle.models.proofs.UnifacLaws.{group_hoisted}
 use Rattle.models.proofs.unifac.gammas_of.Statement.{statement}
 use Rattle.models.proofs.unifac.gammas_of.Tie as tie
 
-abbrev invariant_loop : tie.invariant_loop
-invariant_loop ng list q theta psi out₀ denom p₀ p-end out p =
+abbrev invariant-loop-p : tie.invariant-loop-p
+invariant-loop-p ng list q theta psi out₀ denom p₀ p-end out p =
     (p ≤ length list) × (p-end ≡ length list) × (length denom ≡ 32) × (length out ≡ length out₀)
     × Named p (λ p. get_or list p 0) (ln_group ng (at q) (grid ng psi) (at theta)) out
 
-abbrev decreases_loop : tie.decreases_loop
-decreases_loop ng list q theta psi out₀ denom p₀ p-end out p = p-end - p
+abbrev decreases-loop-p : tie.decreases-loop-p
+decreases-loop-p ng list q theta psi out₀ denom p₀ p-end out p = p-end - p
 
 -- place p lies within the list, and its group below ng, which the column sums and the slice written hold
-below : (c : tie.In-loop invariant_loop decreases_loop) → let a = c.before.before.before.before.before.before.before.before.before.before.args in let p = c.before.loop.p in
-    (p < length a.list.now) × (get_or a.list.now p 0 < a.ng) × (a.ng ≤ 32) × (a.ng ≤ length c.before.loop.out)
+below : (c : tie.In-loop-p invariant-loop-p decreases-loop-p) → let a = c.args in let p = c.loop-p.p in
+    (p < length a.list.now) × (get_or a.list.now p 0 < a.ng) × (a.ng ≤ 32) × (a.ng ≤ length c.loop-p.out)
 below c =
-    let pre = c.before.before.before.before.before.before.before.before.before.before.requires in
-    let inv = c.before.loop.invariant in
-    let within : c.before.loop.p < length c.before.before.before.before.before.before.before.before.before.before.args.list.now = omega (arith, c.loop-test.true, inv.1) in
+    let pre = c.requires in
+    let inv = c.loop-p.invariant in
+    let within : c.loop-p.p < length c.args.list.now = omega (arith, c.loop-p-test.true, inv.1) in
     (within, pre.2 _ within, pre.0.few, omega (arith, pre.1, inv.3))
 
-column-sums-requires : tie.Need-column-sums-requires invariant_loop decreases_loop
-column-sums-requires c κs = let pre = c.before.before.before.before.before.before.requires in (pre.0.few, pre.0.thetas, pre.0.square, pre.0.few, filled-less pre.0.few (zeros 32))
+column_sums-requires : tie.Need-column_sums-requires invariant-loop-p decreases-loop-p
+column_sums-requires c κs = let pre = c.requires in (pre.0.few, pre.0.thetas, pre.0.square, pre.0.few, filled-less pre.0.few (zeros 32))
 
-group-gamma-requires : tie.Need-group-gamma-requires invariant_loop decreases_loop
-group-gamma-requires c κs = let pre = c.before.before.before.before.before.before.before.before.before.before.before.before.before.before.requires in (pre.0.few, (below c.before.before.before.before).1, pre.0.thetas, pre.0.square, omega (arith, pre.0.few, c.before.before.before.before.before.loop.invariant.2))
+group_gamma-requires : tie.Need-group_gamma-requires invariant-loop-p decreases-loop-p
+group_gamma-requires c κs = let pre = c.requires in (pre.0.few, (below c.before.before.before.before).1, pre.0.thetas, pre.0.square, omega (arith, pre.0.few, c.loop-p.invariant.2))
 
-loop-again : tie.Need-loop-preserved invariant_loop decreases_loop
-loop-again c =
+loop-p-preserved : tie.Need-loop-p-preserved invariant-loop-p decreases-loop-p
+loop-p-preserved c =
     let turn = c.before.before.before.before.before in
-    let top = turn.before.loop in
+    let top = c.loop-p in
     let inv = top.invariant in (
       omega (arith, below turn),
       inv.1,
       inv.2,
       simp length-set inv.3,
       named_more _ _ top.p _ refl (omega (arith, below turn))
-          (group_hoisted _ _ _ _ _ (below turn).1 c.before.before.before.before.before.before.before.before.column-sums.ensures c.before.before.before.log.ensures c.group-gamma.ensures) inv.4,
+          (group_hoisted _ _ _ _ _ (below turn).1 c.column_sums.ensures c.log-log.ensures c.group_gamma.ensures) inv.4,
     )
 
-returns : tie.Need-returns invariant_loop decreases_loop
-returns c = let inv = c.before.loop.invariant in named-done _ _ _ _ inv.0 (omega (arith, c.loop-test.false, inv.1)) inv.4
+returns : tie.Need-returns invariant-loop-p decreases-loop-p
+returns c = let inv = c.loop-p.invariant in named-done _ _ _ _ inv.0 (omega (arith, c.loop-p-test.false, inv.1)) inv.4
 
 pub gammas_of_spec : {M : Type 1} → statement M
 gammas_of_spec =
     tie.close
     (tie.spec
-    invariant_loop
-    decreases_loop
+    invariant-loop-p
+    decreases-loop-p
     (λ c. search rules)
-    column-sums-requires
-    (λ c. (omega arith, refl, c.before.column-sums.auto.1.1.1.0, refl, named_none _ _ _))
-    (λ c. omega (arith, below c.before, c.before.before.loop.invariant.2))
-    (λ c. omega (arith, below c.before, c.before.before.loop.invariant.2))
-    (λ c. omega (arith, below c.before, c.before.before.loop.invariant.2))
-    (λ c. omega (arith, below c.before, c.before.before.loop.invariant.2))
+    column_sums-requires
+    (λ c. (omega arith, refl, c.column_sums.auto.sums, refl, named_none _ _ _))
+    (λ c. omega (arith, below c.before, c.loop-p.invariant.2))
+    (λ c. omega (arith, below c.before, c.loop-p.invariant.2))
+    (λ c. omega (arith, below c.before, c.loop-p.invariant.2))
+    (λ c. omega (arith, below c.before, c.loop-p.invariant.2))
     (λ c κs. tt)
-    (λ c. omega (arith, below c.before.before, c.before.before.before.loop.invariant.2))
-    (λ c. omega (arith, below c.before.before.before, c.before.before.before.before.before.before.before.before.before.before.before.before.before.requires.0.sizes))
+    (λ c. omega (arith, below c.before.before, c.loop-p.invariant.2))
+    (λ c. omega (arith, below c.before.before.before, c.requires.0.sizes))
     (λ c. search rules)
-    group-gamma-requires
-    (λ c. omega (arith, below c.before.before.before.before.before, c.before.before.before.before.before.before.loop.invariant.2))
-    (λ c. omega (arith, below c.before.before.before.before.before, c.before.before.before.before.before.before.loop.invariant.2))
-    (λ c. omega (arith, below c.before.before.before.before.before, c.before.before.before.before.before.before.loop.invariant.2))
-    (λ c. omega (arith, below c.before.before.before.before.before, c.before.before.before.before.before.before.loop.invariant.2))
-    loop-again
-    (λ c. c.before.loop.invariant.3)
+    group_gamma-requires
+    (λ c. omega (arith, below c.before.before.before.before.before, c.loop-p.invariant.2))
+    (λ c. omega (arith, below c.before.before.before.before.before, c.loop-p.invariant.2))
+    (λ c. omega (arith, below c.before.before.before.before.before, c.loop-p.invariant.2))
+    (λ c. omega (arith, below c.before.before.before.before.before, c.loop-p.invariant.2))
+    loop-p-preserved
+    (λ c. c.loop-p.invariant.3)
     returns)

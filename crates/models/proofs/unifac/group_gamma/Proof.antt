@@ -17,17 +17,16 @@ use Rattle.models.proofs.unifac.group_gamma.Tie as tie
 ends : (c : tie.Start) → (c.args.k * c.args.ng + c.args.ng ≤ length c.args.psi.now) × (c.args.k * c.args.ng ≤ 1024)
 ends c = let row = row-end _ c.args.ng _ c.requires.1 in (omega (arith, row, c.requires.3), omega (arith, row, mul-le-mul c.requires.0 c.requires.0))
 
-row-sum-requires : tie.Need-row-sum-requires
-row-sum-requires c κs =
+row_sum-requires : tie.Need-row_sum-requires
+row_sum-requires c κs =
     let start = c.before.before.before.before in
-    let row = from-room (start.args.k * start.args.ng) _ start.args.psi.now (ends start).0 in
-    (start.requires.2, row, start.requires.4, start.requires.0)
+    let row = from-room (c.args.k * c.args.ng) _ c.args.psi.now (ends start).0 in
+    (c.requires.2, row, c.requires.4, c.requires.0)
 
 returns : tie.Need-returns
 unfolding one dec round of_bits
 returns c =
-    let start = c.before.before.before.before.before in
-    rw (c.row-sum.ensures ∙ row-lent start.args.ng (at start.args.theta.now) (at start.args.denom.now) start.args.psi.now start.args.k start.requires.1 start.requires.3)
+    rw (c.row_sum.ensures ∙ row-lent c.args.ng (at c.args.theta.now) (at c.args.denom.now) c.args.psi.now c.args.k c.requires.1 c.requires.3)
 
 pub group_gamma_spec : {M : Type 1} → statement M
 group_gamma_spec =
@@ -38,5 +37,5 @@ group_gamma_spec =
     (λ c. omega (arith, ends c.before.before.before))
     (λ c. omega (arith, ends c.before.before.before))
     (λ c. search rules)
-    row-sum-requires
+    row_sum-requires
     returns)

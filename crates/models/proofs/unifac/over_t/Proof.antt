@@ -9,23 +9,22 @@ use Rattle.arithmetic.proofs.TableLaws.{Rewriting, rewriting_none, rewriting_nex
 use Rattle.models.proofs.unifac.over_t.Statement.{statement}
 use Rattle.models.proofs.unifac.over_t.Tie as tie
 
-abbrev invariant_loop : tie.invariant_loop
-invariant_loop count t out₀ k₀ out k = Rewriting (λ j. neg (at out₀ j) ⊘ t) count out₀ k out
+abbrev invariant-loop-k : tie.invariant-loop-k
+invariant-loop-k count t out₀ k₀ out k = Rewriting (λ j. neg (at out₀ j) ⊘ t) count out₀ k out
 
-abbrev decreases_loop : tie.decreases_loop
-decreases_loop count t out₀ k₀ out k = count - k
+abbrev decreases-loop-k : tie.decreases-loop-k
+decreases-loop-k count t out₀ k₀ out k = count - k
 
-loop-again : tie.Need-loop-preserved invariant_loop decreases_loop
-loop-again c =
-    let top = c.before.before in
-    rewriting_more (omega arith) (ap (λ (v : Float). neg v ⊘ top.before.args.t) (rewriting_next (omega arith) top.loop.invariant)) top.loop.invariant
+loop-k-preserved : tie.Need-loop-k-preserved invariant-loop-k decreases-loop-k
+loop-k-preserved c =
+    rewriting_more (omega arith) (ap (λ (v : Float). neg v ⊘ c.args.t) (rewriting_next (omega arith) c.loop-k.invariant)) c.loop-k.invariant
 
-pub over-t_spec : {M : Type 1} → statement M
-over-t_spec =
+pub over_t_spec : {M : Type 1} → statement M
+over_t_spec =
     tie.close
     (tie.spec
-    invariant_loop
-    decreases_loop
+    invariant-loop-k
+    decreases-loop-k
     (λ c. rewriting_none (omega arith))
     (λ c. omega arith)
     (λ c. omega arith)
@@ -33,6 +32,6 @@ over-t_spec =
     (λ c. omega arith)
     (λ c. omega arith)
     (λ c. omega arith)
-    loop-again
-    (λ c. c.before.loop.invariant.long)
-    (λ c. rewriting_filled c.loop-test.false c.before.loop.invariant))
+    loop-k-preserved
+    (λ c. c.loop-k.invariant.long)
+    (λ c. rewriting_filled c.loop-k-test.false c.loop-k.invariant))

@@ -7,7 +7,7 @@ use Rattle.models.proofs.unifac.psi.Tie as tie
 
 returns : tie.Need-returns
 unfolding psi_by
-returns c = c.exp.ensures ∙ rw c.before.argument.ensures
+returns c = c.exp.ensures ∙ rw c.argument.ensures
 
 pub psi_spec : {M : Type 1} → statement M
 psi_spec = tie.close (tie.spec (λ c κs. search rules) (λ c κs. tt) returns)

@@ -11,30 +11,29 @@ use Rattle.models.proofs.unifac.residual_at.Tie as tie
 
 residual-requires : tie.Need-residual-requires
 residual-requires c κs =
-    let start = c.before.before.before.before.before.before.before.before in
-    let a = start.args in
-    let long = length-take-le a.ng a.gamma.now start.requires.1 in
-    (rw long (lent-paired start.requires.0), omega (arith, long, start.requires.2, from-length (a.i * a.ng) a.pure.now))
+    let a = c.args in
+    let long = length-take-le a.ng a.gamma.now c.requires.1 in
+    (rw long (lent-paired c.requires.0), omega (arith, long, c.requires.2, from-length (a.i * a.ng) a.pure.now))
 
 returns : tie.Need-returns
-returns c = let start = c.before.before.before.before.before.before.before.before.before in let a = start.args in residual-lent start.requires.0 a.gamma.now a.pure.now a.i start.requires.2 c.residual.ensures
+returns c = let a = c.args in residual-lent c.requires.0 a.gamma.now a.pure.now a.i c.requires.2 c.residual.ensures
 
-pub residual-at_spec : {M : Type 1} → statement M
-residual-at_spec =
+pub residual_at_spec : {M : Type 1} → statement M
+residual_at_spec =
     tie.close
     (tie.spec
-    (λ c. let start = c.before.before.before.before in omega (arith, start.requires.2, start.well-formed))
-    (λ c. omega (arith, c.before.before.before.before.requires.0.ordered))
-    (λ c. omega (arith, c.before.before.before.before.requires.0.ordered))
-    (λ c. omega (arith, c.before.before.before.before.requires.0.within))
+    (λ c. let start = c.before.before.before.before in omega (arith, start.requires.2, start.well_formed))
+    (λ c. omega (arith, c.requires.0.ordered))
+    (λ c. omega (arith, c.requires.0.ordered))
+    (λ c. omega (arith, c.requires.0.within))
     (λ c. let start = c.before.before.before.before.before in omega (arith, start.requires.0.ordered, start.requires.0.counted))
-    (λ c. omega (arith, c.before.before.before.before.before.requires.0.ordered))
-    (λ c. omega (arith, c.before.before.before.before.before.requires.0.ordered))
-    (λ c. omega (arith, c.before.before.before.before.before.requires.0.counted))
-    (λ c. sym (length-take-le _ _ c.before.before.before.before.before.before.before.requires.1))
-    (λ c. omega (arith, c.before.before.before.before.before.before.before.requires.2))
-    (λ c. omega (arith, c.before.before.before.before.before.before.before.requires.2))
-    (λ c. omega (arith, c.before.before.before.before.before.before.before.requires.2))
-    (λ c. omega (arith, c.before.before.before.before.before.before.before.requires.2))
+    (λ c. omega (arith, c.requires.0.ordered))
+    (λ c. omega (arith, c.requires.0.ordered))
+    (λ c. omega (arith, c.requires.0.counted))
+    (λ c. sym (length-take-le _ _ c.requires.1))
+    (λ c. omega (arith, c.requires.2))
+    (λ c. omega (arith, c.requires.2))
+    (λ c. omega (arith, c.requires.2))
+    (λ c. omega (arith, c.requires.2))
     residual-requires
     returns)

@@ -10,24 +10,24 @@ use Rattle.models.proofs.ColumnLaws.{terms_sum}
 use Rattle.models.proofs.unifac.row_sum.Statement.{statement}
 use Rattle.models.proofs.unifac.row_sum.Tie as tie
 
-abbrev invariant_loop : tie.invariant_loop
-invariant_loop ng theta row denom terms₀ m₀ terms m = Filling (λ m. at theta m ⊗ at row m ⊘ at denom m) ng 32 m terms
+abbrev invariant-loop-m : tie.invariant-loop-m
+invariant-loop-m ng theta row denom terms₀ m₀ terms m = Filling (λ m. at theta m ⊗ at row m ⊘ at denom m) ng 32 m terms
 
-abbrev decreases_loop : tie.decreases_loop
-decreases_loop ng theta row denom terms₀ m₀ terms m = ng - m
+abbrev decreases-loop-m : tie.decreases-loop-m
+decreases-loop-m ng theta row denom terms₀ m₀ terms m = ng - m
 
-loop-again : tie.Need-loop-preserved invariant_loop decreases_loop
-loop-again c = filling_more (omega arith) c.before.before.before.before.loop.invariant refl
+loop-m-preserved : tie.Need-loop-m-preserved invariant-loop-m decreases-loop-m
+loop-m-preserved c = filling_more (omega arith) c.loop-m.invariant refl
 
-returns : tie.Need-returns invariant_loop decreases_loop
-returns c = let done = c.before.before in terms_sum done.before.loop.invariant done.loop-test.false c.sum.ensures
+returns : tie.Need-returns invariant-loop-m decreases-loop-m
+returns c = terms_sum c.loop-m.invariant c.loop-m-test.false c.sum.ensures
 
-pub row-sum_spec : {M : Type 1} → statement M
-row-sum_spec =
+pub row_sum_spec : {M : Type 1} → statement M
+row_sum_spec =
     tie.close
     (tie.spec
-    invariant_loop
-    decreases_loop
+    invariant-loop-m
+    decreases-loop-m
     (λ c. filling_none (omega arith) refl)
     (λ c. omega arith)
     (λ c. omega arith)
@@ -39,7 +39,7 @@ row-sum_spec =
     (λ c. omega arith)
     (λ c. omega arith)
     (λ c. omega arith)
-    loop-again
+    loop-m-preserved
     (λ c. omega arith)
     (λ c. sym (length-take-le _ _ (omega arith)))
     (λ c κs. tt)

@@ -8,10 +8,10 @@ pub share_spec : {M : Type 1} → statement M
 share_spec =
     tie.close
     (tie.spec
-    (λ c κs. (c.before.before.before.before.before.before.requires.rs, c.before.before.before.before.before.before.requires.few))
-    (λ c κs. (c.before.before.before.before.before.before.before.requires.qs, c.before.before.before.before.before.before.before.requires.few))
+    (λ c κs. (c.requires.rs, c.requires.few))
+    (λ c κs. (c.requires.qs, c.requires.few))
     (λ c. search rules)
     (λ c κs. search rules)
     (λ c. search rules)
     (λ c κs. search rules)
-    (λ c. shares-from _ _ _ _ _ c.before.before.before.before.before.sizes.ensures c.before.before.before.before.sizes2.ensures c.before.before.dot.ensures c.dot2.ensures))
+    (λ c. shares-from _ _ _ _ _ c.sizes-r_each.ensures c.sizes-q_each.ensures c.dot-rs.ensures c.dot-qs.ensures))

@@ -10,10 +10,10 @@ span_of_spec =
     tie.close
     (tie.spec
     (λ c. search rules)
-    (λ c. omega (arith, index_ln c.before.q.given.1 c.before.before.before.requires.1))
+    (λ c. omega (arith, index_ln c.in-LnGamma.is c.requires.1))
     (λ c. search rules)
-    (λ c. omega (arith, index_gamma c.before.q2.given.1 c.before.before.before.requires.1))
+    (λ c. omega (arith, index_gamma c.in-Gamma.is c.requires.1))
     (λ c. search rules)
-    (λ c. (omega (arith, index_ln c.before.q.given.1 c.before.before.before.requires.1), λ i h r. let e = reads_ln c.before.q.given.1 r in (omega (arith, e), omega (arith, e))))
-    (λ c. (omega (arith, index_gamma c.before.q2.given.1 c.before.before.before.requires.1), λ i h r. let e = reads_gamma c.before.q2.given.1 r in (omega (arith, e), omega (arith, e))))
+    (λ c. (omega (arith, index_ln c.in-LnGamma.is c.requires.1), λ i h r. let e = reads_ln c.in-LnGamma.is r in (omega (arith, e), omega (arith, e))))
+    (λ c. (omega (arith, index_gamma c.in-Gamma.is c.requires.1), λ i h r. let e = reads_gamma c.in-Gamma.is r in (omega (arith, e), omega (arith, e))))
     (λ c. (omega arith, λ i h r. (omega arith, h))))

@@ -10,22 +10,22 @@ use Rattle.models.specs.Unifac as Unifac
 use Rattle.models.proofs.unifac.theta.Statement.{statement}
 use Rattle.models.proofs.unifac.theta.Tie as tie
 
-abbrev invariant_loop : tie.invariant_loop
-invariant_loop ng q xg out₀ qs g₀ out g = Filling (Unifac.theta ng (at q) (at xg)) ng (length out₀) g out
+abbrev invariant-loop-g : tie.invariant-loop-g
+invariant-loop-g ng q xg out₀ qs g₀ out g = Filling (Unifac.theta ng (at q) (at xg)) ng (length out₀) g out
 
-abbrev decreases_loop : tie.decreases_loop
-decreases_loop ng q xg out₀ qs g₀ out g = ng - g
+abbrev decreases-loop-g : tie.decreases-loop-g
+decreases-loop-g ng q xg out₀ qs g₀ out g = ng - g
 
-loop-again : tie.Need-loop-preserved invariant_loop decreases_loop
+loop-g-preserved : tie.Need-loop-g-preserved invariant-loop-g decreases-loop-g
 unfolding Unifac.theta
-loop-again c = filling_more (omega arith) c.before.before.before.loop.invariant (rw c.before.before.before.before.dot.ensures)
+loop-g-preserved c = filling_more (omega arith) c.loop-g.invariant (rw c.dot-qs.ensures)
 
 pub theta_spec : {M : Type 1} → statement M
 theta_spec =
     tie.close
     (tie.spec
-    invariant_loop
-    decreases_loop
+    invariant-loop-g
+    decreases-loop-g
     (λ c κs. search rules)
     (λ c. filling_none (omega arith) refl)
     (λ c. omega arith)
@@ -36,6 +36,6 @@ theta_spec =
     (λ c. omega arith)
     (λ c. omega arith)
     (λ c. omega arith)
-    loop-again
-    (λ c. c.before.loop.invariant.long)
-    (λ c. filling_done c.loop-test.false c.before.loop.invariant))
+    loop-g-preserved
+    (λ c. c.loop-g.invariant.long)
+    (λ c. filling_done c.loop-g-test.false c.loop-g.invariant))

@@ -6,24 +6,24 @@ use Rattle.models.proofs.UnifacLaws.{value-filled}
 use Rattle.models.proofs.unifac.value_at.Statement.{statement}
 use Rattle.models.proofs.unifac.value_at.Tie as tie
 
-fill-table-requires : tie.Need-fill-table-requires
-fill-table-requires c κs = let all = c.before.before.before.before.before.requires.loaded in (all.few_groups, all.tables, mul-le-mul all.few_groups all.few_groups)
+fill_table-requires : tie.Need-fill_table-requires
+fill_table-requires c κs = let all = c.requires.loaded in (all.few_groups, all.tables, mul-le-mul all.few_groups all.few_groups)
 
-value-by-requires : tie.Need-value-by-requires
-value-by-requires c κs =
-    let pre = c.before.before.before.before.before.before.before.before.requires in
+value_by-requires : tie.Need-value_by-requires
+value_by-requires c κs =
+    let pre = c.requires in
     let all = pre.loaded in
-    (pre, omega (arith, mul-le-mul all.few_groups all.few_groups, c.before.before.fill-table.auto.1.1.1.0))
+    (pre, omega (arith, mul-le-mul all.few_groups all.few_groups, c.fill_table.auto.table))
 
 returns : tie.Need-returns
-returns c = let pre = c.before.before.before.before.before.before.before.before.before.requires in value-filled _ _ _ _ _ _ _ _ _ pre.loaded pre.index c.before.before.before.fill-table.ensures c.value-by.ensures
+returns c = let pre = c.requires in value-filled _ _ _ _ _ _ _ _ _ pre.loaded pre.index c.fill_table.ensures c.value_by.ensures
 
-pub value-at_spec : {M : Type 1} → statement M
-value-at_spec =
+pub value_at_spec : {M : Type 1} → statement M
+value_at_spec =
     tie.close
     (tie.spec
     (λ c. search rules)
-    fill-table-requires
+    fill_table-requires
     (λ c. search rules)
-    value-by-requires
+    value_by-requires
     returns)

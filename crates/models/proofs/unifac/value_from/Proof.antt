@@ -28,65 +28,65 @@ residual-fits c here long =
       row = omega (arith, row-end _ c.args.ng _ here, pre.1.rows);
     }
 
-share-requires : tie.Need-share-requires
-share-requires c κs = let pre = c.before.before.before.before.before.before.before.before.requires in record { rs = listed_wider pre.0.listed _ pre.1.rs; qs = listed_wider pre.0.listed _ pre.1.qs; few = pre.0.few; fractions = pre.0.fractions }
+share-s-requires : tie.Need-share-s-requires
+share-s-requires c κs = let pre = c.requires in record { rs = listed_wider pre.0.listed _ pre.1.rs; qs = listed_wider pre.0.listed _ pre.1.qs; few = pre.0.few; fractions = pre.0.fractions }
 
-theta-mixed-requires : tie.Need-theta-mixed-requires
-theta-mixed-requires c κs = let pre = c.before.before.before.before.before.before.before.before.before.before.requires in (pre.0, pre.1.qs, pre.0.few_groups)
+theta_mixed-requires : tie.Need-theta_mixed-requires
+theta_mixed-requires c κs = let pre = c.requires in (pre.0, pre.1.qs, pre.0.few_groups)
 
-residual-of-requires : tie.Need-residual-of-requires
-residual-of-requires c κs =
-    let start = c.before.before.before.before.before.before.before.before.before.before.before.before.before.before.before.before.before in
-    let pre = start.requires in
-    let here = index_ln c.before.before.before.asked.given.1 pre.2 in
-    residual-fits start here c.before.before.before.before.before.before.theta-mixed.auto.1.1.1.1.1.1.1.0
+residual_of-requires : tie.Need-residual_of-requires
+residual_of-requires c κs =
+    let start = c.before.before.before.before.before.before.before.before.before.before.before.before.before.before.before in
+    let pre = c.requires in
+    let here = index_ln c.in-LnGamma.is pre.2 in
+    residual-fits start here c.theta_mixed.auto.out
 
-residual-of-requires-2 : tie.Need-residual-of-requires-2
-residual-of-requires-2 c κs =
-    let start = c.before.before.before.before.before.before.before.before.before.before.before.before.before.before.before.before.before in
-    let pre = start.requires in
-    let here = index_gamma c.before.before.before.asked2.given.1 pre.2 in
-    residual-fits start here c.before.before.before.before.before.before.theta-mixed.auto.1.1.1.1.1.1.1.0
+residual_of-requires-in-Gamma : tie.Need-residual_of-requires-in-Gamma
+residual_of-requires-in-Gamma c κs =
+    let start = c.before.before.before.before.before.before.before.before.before.before.before.before.before.before.before in
+    let pre = c.requires in
+    let here = index_gamma c.in-Gamma.is pre.2 in
+    residual-fits start here c.theta_mixed.auto.out
 
-excess-gibbs-requires : tie.Need-excess-gibbs-requires
-excess-gibbs-requires c κs = let pre = c.before.before.before.before.before.before.before.before.before.before.before.before.before.before.before.requires in (pre.0, grouped c.before.before.before.before.before.before.before.before.before.before.before.before.before.before.before c.before.before.before.before.theta-mixed.auto.1.1.1.1.1.1.1.0, pre.1.rows)
+excess_gibbs-requires : tie.Need-excess_gibbs-requires
+excess_gibbs-requires c κs = let pre = c.requires in (pre.0, grouped c.before.before.before.before.before.before.before.before.before.before.before.before.before.before c.theta_mixed.auto.out, pre.1.rows)
 
-returns : tie.Need-returns
-returns c =
-    let pre = c.before.before.before.before.before.before.before.before.before.before.before.before.before.before.before.before.before.before.requires in
-    unifac_ln _ _ _ _ _ _ _ _ c.before.before.before.before.before.before.before.before.before.share.ensures c.before.before.before.before.before.before.before.theta-mixed.ensures (listed_same pre.0.listed) c.before.before.before.before.asked.given.1 pre.2
-    (ln_from_lem _ _ _ _ _ _ _ _ c.before.before.combinatorial-of.ensures c.residual-of.ensures)
+returns-in-LnGamma : tie.Need-returns-in-LnGamma
+returns-in-LnGamma c =
+    let pre = c.requires in
+    unifac_ln _ _ _ _ _ _ _ _ c.share-s.ensures c.theta_mixed.ensures (listed_same pre.0.listed) c.in-LnGamma.is pre.2
+    (ln_from_lem _ _ _ _ _ _ _ _ c.combinatorial_of.ensures c.residual_of.ensures)
 
-returns-2 : tie.Need-returns-2
-returns-2 c =
-    let pre = c.before.before.before.before.before.before.before.before.before.before.before.before.before.before.before.before.before.before.before.requires in
-    unifac_gamma _ _ _ _ _ _ _ _ c.before.before.before.before.before.before.before.before.before.before.share.ensures c.before.before.before.before.before.before.before.before.theta-mixed.ensures (listed_same pre.0.listed) c.before.before.before.before.before.asked2.given.1 pre.2
-    (ln_from_lem _ _ _ _ _ _ _ _ c.before.before.before.combinatorial-of2.ensures c.before.residual-of2.ensures) c.exp.ensures
+returns-in-Gamma : tie.Need-returns-in-Gamma
+returns-in-Gamma c =
+    let pre = c.requires in
+    unifac_gamma _ _ _ _ _ _ _ _ c.share-s.ensures c.theta_mixed.ensures (listed_same pre.0.listed) c.in-Gamma.is pre.2
+    (ln_from_lem _ _ _ _ _ _ _ _ c.combinatorial_of-in-Gamma.ensures c.residual_of-in-Gamma.ensures) c.exp.ensures
 
-returns-3 : tie.Need-returns-3
-returns-3 c =
-    let pre = c.before.before.before.before.before.before.before.before.before.before.before.before.before.before.before.before.requires in
-    unifac-excess _ _ _ _ _ _ _ _ c.before.before.before.before.before.before.before.share.ensures c.before.before.before.before.before.theta-mixed.ensures (listed_same pre.0.listed) c.before.before.enum_told.given.1 pre.2 c.excess-gibbs.ensures
+returns-in-ExcessGibbs : tie.Need-returns-in-ExcessGibbs
+returns-in-ExcessGibbs c =
+    let pre = c.requires in
+    unifac-excess _ _ _ _ _ _ _ _ c.share-s.ensures c.theta_mixed.ensures (listed_same pre.0.listed) c.in-ExcessGibbs.is pre.2 c.excess_gibbs.ensures
 
-pub value-from_spec : {M : Type 1} → statement M
-value-from_spec =
+pub value_from_spec : {M : Type 1} → statement M
+value_from_spec =
     tie.close
     (tie.spec
-    share-requires
+    share-s-requires
     (λ c. search rules)
-    theta-mixed-requires
+    theta_mixed-requires
     (λ c. search rules)
-    (λ c κs. omega (arith, index_ln c.before.asked.given.1 c.before.before.before.before.before.before.before.before.before.before.before.before.before.before.before.requires.2, c.before.before.before.before.before.before.before.before.before.before.before.before.before.before.before.requires.0.few))
+    (λ c κs. omega (arith, index_ln c.in-LnGamma.is c.requires.2, c.requires.0.few))
     (λ c. search rules)
-    residual-of-requires
+    residual_of-requires
     (λ c. search rules)
-    (λ c κs. omega (arith, index_gamma c.before.asked2.given.1 c.before.before.before.before.before.before.before.before.before.before.before.before.before.before.before.requires.2, c.before.before.before.before.before.before.before.before.before.before.before.before.before.before.before.requires.0.few))
+    (λ c κs. omega (arith, index_gamma c.in-Gamma.is c.requires.2, c.requires.0.few))
     (λ c. search rules)
-    residual-of-requires-2
+    residual_of-requires-in-Gamma
     (λ c κs. tt)
     (λ c. search rules)
     (λ c. search rules)
-    excess-gibbs-requires
-    returns
-    returns-2
-    returns-3)
+    excess_gibbs-requires
+    returns-in-LnGamma
+    returns-in-Gamma
+    returns-in-ExcessGibbs)

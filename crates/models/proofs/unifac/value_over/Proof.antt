@@ -14,20 +14,20 @@ before-counts : (c : tie.Start) → let ng = c.args.ng in (ng + ng ≤ counts_at
 unfolding counts_at
 before-counts c = (omega arith, c.requires.0.loaded.tables)
 
-value-from-requires : tie.Need-value-from-requires
-value-from-requires c κs =
+value_from-requires : tie.Need-value_from-requires
+value_from-requires c κs =
     let start = c.before.before.before.before.before.before.before.before.before in
-    let pre = start.requires in
+    let pre = c.requires in
     let all = pre.0.loaded in (
       record {
-        listed = listed_at start.args.values.now c.before.before.counts-at.ensures.0 all.listed;
+        listed = listed_at c.args.values.now c.counts_at-place.ensures.0 all.listed;
         few = all.few;
         few_groups = all.few_groups;
         fractions = pre.0.fractions;
       },
       record {
         rs = omega (arith, before-counts start);
-        qs = omega (arith, before-counts start, from-length start.args.ng start.args.values.now);
+        qs = omega (arith, before-counts start, from-length c.args.ng c.args.values.now);
         square = pre.1;
         rows = pre.2;
       },
@@ -35,20 +35,20 @@ value-from-requires c κs =
     )
 
 returns : tie.Need-returns
-returns c = let pre = c.before.before.before.before.before.before.before.before.before.before.requires in value-from _ _ _ _ _ _ _ _ _ pre.0.loaded pre.0.index c.before.before.before.counts-at.ensures.0 c.value-from.ensures
+returns c = let pre = c.requires in value-from _ _ _ _ _ _ _ _ _ pre.0.loaded pre.0.index c.counts_at-place.ensures.0 c.value_from.ensures
 
-pub value-over_spec : {M : Type 1} → statement M
-value-over_spec =
+pub value_over_spec : {M : Type 1} → statement M
+value_over_spec =
     tie.close
     (tie.spec
-    (λ c κs. c.before.before.before.before.before.before.requires.0.loaded.few_groups)
-    (λ c. omega (arith, before-counts c.before.before.before.before.before.before.before, c.counts-at.ensures.0))
-    (λ c. omega (arith, before-counts c.before.before.before.before.before.before.before, c.counts-at.ensures.0))
-    (λ c. omega (arith, before-counts c.before.before.before.before.before.before.before, c.counts-at.ensures.0))
-    (λ c. omega (arith, before-counts c.before.before.before.before.before.before.before, c.counts-at.ensures.0))
-    (λ c. omega (arith, before-counts c.before.before.before.before.before.before.before.before, c.before.counts-at.ensures.0))
-    (λ c. omega (arith, before-counts c.before.before.before.before.before.before.before.before, c.before.counts-at.ensures.0))
-    (λ c. omega (arith, before-counts c.before.before.before.before.before.before.before.before, c.before.counts-at.ensures.0))
-    (λ c. omega (arith, before-counts c.before.before.before.before.before.before.before.before, c.before.counts-at.ensures.0))
-    value-from-requires
+    (λ c κs. c.requires.0.loaded.few_groups)
+    (λ c. omega (arith, before-counts c.before.before.before.before.before.before.before, c.counts_at-place.ensures.0))
+    (λ c. omega (arith, before-counts c.before.before.before.before.before.before.before, c.counts_at-place.ensures.0))
+    (λ c. omega (arith, before-counts c.before.before.before.before.before.before.before, c.counts_at-place.ensures.0))
+    (λ c. omega (arith, before-counts c.before.before.before.before.before.before.before, c.counts_at-place.ensures.0))
+    (λ c. omega (arith, before-counts c.before.before.before.before.before.before.before.before, c.counts_at-place.ensures.0))
+    (λ c. omega (arith, before-counts c.before.before.before.before.before.before.before.before, c.counts_at-place.ensures.0))
+    (λ c. omega (arith, before-counts c.before.before.before.before.before.before.before.before, c.counts_at-place.ensures.0))
+    (λ c. omega (arith, before-counts c.before.before.before.before.before.before.before.before, c.counts_at-place.ensures.0))
+    value_from-requires
     returns)

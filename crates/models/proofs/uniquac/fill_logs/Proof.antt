@@ -10,27 +10,26 @@ use Rattle.models.proofs.ExponentialLaws.{each-filled}
 use Rattle.models.proofs.uniquac.fill_logs.Statement.{statement}
 use Rattle.models.proofs.uniquac.fill_logs.Tie as tie
 
-abbrev invariant_loop : tie.invariant_loop
-invariant_loop n a out₀ k₀ out k = Filling (at a) n (length out₀) k out
+abbrev invariant-loop-k : tie.invariant-loop-k
+invariant-loop-k n a out₀ k₀ out k = Filling (at a) n (length out₀) k out
 
-abbrev decreases_loop : tie.decreases_loop
-decreases_loop n a out₀ k₀ out k = n - k
+abbrev decreases-loop-k : tie.decreases-loop-k
+decreases-loop-k n a out₀ k₀ out k = n - k
 
-loop-again : tie.Need-loop-preserved invariant_loop decreases_loop
-loop-again c = filling_more (omega arith) c.before.before.loop.invariant refl
+loop-k-preserved : tie.Need-loop-k-preserved invariant-loop-k decreases-loop-k
+loop-k-preserved c = filling_more (omega arith) c.loop-k.invariant refl
 
-returns : tie.Need-returns invariant_loop decreases_loop
+returns : tie.Need-returns invariant-loop-k decreases-loop-k
 returns c =
-    let each = c.before.before in
-    let done = each.before.before in
-    each-filled log_of _ _ (omega arith) (λ k b. refl) (filling_done done.loop-test.false done.before.loop.invariant) each.log-each.ensures
+    let done = c.before.before in
+    each-filled log_of _ _ (omega arith) (λ k b. refl) (filling_done done.loop-k-test.false done.loop-k.invariant) c.log_each.ensures
 
 pub fill_logs_spec : {M : Type 1} → statement M
 fill_logs_spec =
     tie.close
     (tie.spec
-    invariant_loop
-    decreases_loop
+    invariant-loop-k
+    decreases-loop-k
     (λ c. filling_none (omega arith) refl)
     (λ c. omega arith)
     (λ c. omega arith)
@@ -38,7 +37,7 @@ fill_logs_spec =
     (λ c. omega arith)
     (λ c. omega arith)
     (λ c. omega arith)
-    loop-again
+    loop-k-preserved
     (λ c κs. omega arith)
-    (λ c. c.before.before.log-each.auto.0 ∙ c.before.before.before.before.before.loop.invariant.long)
+    (λ c. c.log_each.auto.a ∙ c.loop-k.invariant.long)
     returns)

@@ -11,29 +11,29 @@ use Rattle.models.specs.Uniquac.{l}
 use Rattle.models.proofs.uniquac.l_sum.Statement.{statement}
 use Rattle.models.proofs.uniquac.l_sum.Tie as tie
 
-abbrev invariant_loop : tie.invariant_loop
-invariant_loop n r q x s₀ j₀ s j = (j ≤ n) × (s ≡ sum j (λ k. at x k ⊗ l (at r) (at q) k))
+abbrev invariant-loop-j : tie.invariant-loop-j
+invariant-loop-j n r q x s₀ j₀ s j = (j ≤ n) × (s ≡ sum j (λ k. at x k ⊗ l (at r) (at q) k))
 
-abbrev decreases_loop : tie.decreases_loop
-decreases_loop n r q x s₀ j₀ s j = n - j
+abbrev decreases-loop-j : tie.decreases-loop-j
+decreases-loop-j n r q x s₀ j₀ s j = n - j
 
-loop-holds : tie.Need-loop-init invariant_loop decreases_loop
-loop-holds c = (omega arith, sum-none _)
+loop-j-init : tie.Need-loop-j-init invariant-loop-j decreases-loop-j
+loop-j-init c = (omega arith, sum-none _)
 
-loop-again : tie.Need-loop-preserved invariant_loop decreases_loop
+loop-j-preserved : tie.Need-loop-j-preserved invariant-loop-j decreases-loop-j
 unfolding l
-loop-again c = (omega arith, sum_more _ _ c.before.before.before.before.before.loop.invariant.1 (rw c.l.ensures))
+loop-j-preserved c = (omega arith, sum_more _ _ c.loop-j.invariant.1 (rw c.l.ensures))
 
-returns : tie.Need-returns invariant_loop decreases_loop
+returns : tie.Need-returns invariant-loop-j decreases-loop-j
 returns c = search (sum_done, rules)
 
-pub l-sum_spec : {M : Type 1} → statement M
-l-sum_spec =
+pub l_sum_spec : {M : Type 1} → statement M
+l_sum_spec =
     tie.close
     (tie.spec
-    invariant_loop
-    decreases_loop
-    loop-holds
+    invariant-loop-j
+    decreases-loop-j
+    loop-j-init
     (λ c. omega arith)
     (λ c. omega arith)
     (λ c. omega arith)
@@ -43,5 +43,5 @@ l-sum_spec =
     (λ c κs. tt)
     (λ c. omega arith)
     (λ c. omega arith)
-    loop-again
+    loop-j-preserved
     returns)

@@ -4,7 +4,7 @@ use Rattle.models.proofs.UniquacLaws.{ln_gamma_hoisted}
 use Rattle.models.proofs.uniquac.ln_gamma.Statement.{statement}
 use Rattle.models.proofs.uniquac.ln_gamma.Tie as tie
 
-abbrev entry : tie.After-combinatorial-of → tie.Start
+abbrev entry : tie.After-combinatorial_of-c → tie.Start
 entry c = c.before.before.before.before.before.before.before.before.before.before.before
 
 residual-requires : tie.Need-residual-requires
@@ -16,7 +16,7 @@ returns : tie.Need-returns
 returns c =
     let made = c.before.before.before in
     let pre = (entry made).requires in
-    ln_gamma_hoisted _ _ _ _ _ _ _ _ _ pre.1 _ pre.2 made.combinatorial-of.ensures c.before.log.ensures c.residual.ensures
+    ln_gamma_hoisted _ _ _ _ _ _ _ _ _ pre.1 _ pre.2 c.combinatorial_of-c.ensures c.log.ensures c.residual.ensures
 
 pub ln_gamma_spec : {M : Type 1} → statement M
 ln_gamma_spec =

@@ -11,22 +11,22 @@ use Rattle.models.specs.Uniquac.{share}
 use Rattle.models.proofs.uniquac.shares.Statement.{statement}
 use Rattle.models.proofs.uniquac.shares.Tie as tie
 
-abbrev invariant_loop : tie.invariant_loop
-invariant_loop n s x shares₀ sum i₀ shares i = Filling (share n (at s) (at x)) n (length shares₀) i shares
+abbrev invariant-loop-i : tie.invariant-loop-i
+invariant-loop-i n s x shares₀ sum i₀ shares i = Filling (share n (at s) (at x)) n (length shares₀) i shares
 
-abbrev decreases_loop : tie.decreases_loop
-decreases_loop n s x shares₀ sum i₀ shares i = n - i
+abbrev decreases-loop-i : tie.decreases-loop-i
+decreases-loop-i n s x shares₀ sum i₀ shares i = n - i
 
-loop-again : tie.Need-loop-preserved invariant_loop decreases_loop
+loop-i-preserved : tie.Need-loop-i-preserved invariant-loop-i decreases-loop-i
 unfolding share
-loop-again c = let at-loop = c.before.before.before in filling_more (omega arith) at-loop.loop.invariant (rw at-loop.before.dot.ensures)
+loop-i-preserved c = filling_more (omega arith) c.loop-i.invariant (rw c.dot-sum.ensures)
 
 pub shares_spec : {M : Type 1} → statement M
 shares_spec =
     tie.close
     (tie.spec
-    invariant_loop
-    decreases_loop
+    invariant-loop-i
+    decreases-loop-i
     (λ c κs. search rules)
     (λ c. filling_none (omega arith) refl)
     (λ c. omega arith)
@@ -37,6 +37,6 @@ shares_spec =
     (λ c. omega arith)
     (λ c. omega arith)
     (λ c. omega arith)
-    loop-again
-    (λ c. c.before.loop.invariant.long)
-    (λ c. filling_done c.loop-test.false c.before.loop.invariant))
+    loop-i-preserved
+    (λ c. c.loop-i.invariant.long)
+    (λ c. filling_done c.loop-i-test.false c.loop-i.invariant))

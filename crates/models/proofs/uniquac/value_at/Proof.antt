@@ -16,40 +16,38 @@ fits : (c : tie.Start) → (c.args.n * c.args.n + c.args.n + c.args.n ≤ length
 unfolding uniquac_size
 fits c = (c.requires.sized, mul-le-mul c.requires.few c.requires.few)
 
-fill-energies-requires : tie.Need-fill-energies-requires
-fill-energies-requires c κs =
+fill_energies-requires : tie.Need-fill_energies-requires
+fill_energies-requires c κs =
     let start = c.before.before.before in
     let room = fits start in
-    (start.requires.few, omega (arith, room.0), room.1)
+    (c.requires.few, omega (arith, room.0), room.1)
 
-value-over-requires : tie.Need-value-over-requires
-value-over-requires c κs =
-    let made = c.before.before.before.before in
-    let start = made.before.before.before.before in
-    let n = start.args.n in
-    let values = start.args.values.now in
-    let room = fits start in (
+value_over-requires : tie.Need-value_over-requires
+value_over-requires c κs =
+    let n = c.args.n in
+    let values = c.args.values.now in
+    let room = fits c.before.before.before.before.before.before.before.before in (
       record {
-        few = start.requires.few;
+        few = c.requires.few;
         sizes = from-room (n * n) n values (omega (arith, room.0));
         areas = from-room (n * n + n) n values room.0;
-        table = omega (arith, made.fill-energies.auto.1.1.1.0, room.1);
-        fractions = start.requires.fractions;
+        table = omega (arith, c.fill_energies.auto.out, room.1);
+        fractions = c.requires.fractions;
       },
-      start.requires.index,
+      c.requires.index,
     )
 
 returns : tie.Need-returns
 returns c =
     let start = c.before.before.before.before.before.before.before.before.before in
-    uniquac-from _ _ _ _ _ _ (fits start).0 start.requires.index c.before.before.before.before.before.fill-energies.ensures c.value-over.ensures
+    uniquac-from _ _ _ _ _ _ (fits start).0 c.requires.index c.fill_energies.ensures c.value_over.ensures
 
-pub value-at_spec : {M : Type 1} → statement M
-value-at_spec =
+pub value_at_spec : {M : Type 1} → statement M
+value_at_spec =
     tie.close
     (tie.spec
     (λ c. search rules)
-    fill-energies-requires
+    fill_energies-requires
     (λ c. omega (arith, fits c.before.before.before.before.before))
     (λ c. omega (arith, fits c.before.before.before.before.before))
     (λ c. omega (arith, fits c.before.before.before.before.before))
@@ -61,5 +59,5 @@ value-at_spec =
     (λ c. omega (arith, fits c.before.before.before.before.before.before))
     (λ c. search rules)
     (λ c. search rules)
-    value-over-requires
+    value_over-requires
     returns)

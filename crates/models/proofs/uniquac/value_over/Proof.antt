@@ -11,25 +11,23 @@ use Rattle.models.proofs.uniquac.value_over.Tie as tie
 abbrev start : tie.After-shares → tie.Start
 start c = c.before.before.before.before.before.before.before.before
 
-unit-column-sums-requires : tie.Need-unit-column-sums-requires
-unit-column-sums-requires c κs =
+unit_column_sums-requires : tie.Need-unit_column_sums-requires
+unit_column_sums-requires c κs =
     let thetas = c.before.before.before in
     let fits = (start thetas).requires.0 in
-    (fits.table, omega (arith, thetas.shares.auto.1.1.1.0, fits.few), fits.few, filled-less fits.few (zeros 12))
+    (fits.table, omega (arith, c.shares.auto.shares, fits.few), fits.few, filled-less fits.few (zeros 12))
 
-value-by-requires : tie.Need-value-by-requires
-value-by-requires c κs =
-    let sums = c.before.before.before in
-    let thetas = sums.before.before.before.before in
-    let pre = (start thetas).requires in
+value_by-requires : tie.Need-value_by-requires
+value_by-requires c κs =
+    let pre = c.requires in
     let few = pre.0.few in
     let all =
-    shared _ _ _ _ _ thetas.before.before.before.dot.ensures thetas.before.before.l-sum.ensures thetas.shares.ensures sums.unit-column-sums.ensures
-    (omega (arith, thetas.shares.auto.1.1.1.0, few)) (omega (arith, sums.unit-column-sums.auto.1.1.1.0, few)) in
+    shared _ _ _ _ _ c.dot-rx.ensures c.l_sum-lx.ensures c.shares.ensures c.unit_column_sums.ensures
+    (omega (arith, c.shares.auto.shares, few)) (omega (arith, c.unit_column_sums.auto.sums, few)) in
     (pre.0, all, pre.1)
 
-pub value-over_spec : {M : Type 1} → statement M
-value-over_spec =
+pub value_over_spec : {M : Type 1} → statement M
+value_over_spec =
     tie.close
     (tie.spec
     (λ c κs. search rules)
@@ -38,8 +36,8 @@ value-over_spec =
     (λ c κs. search rules)
     (λ c. search rules)
     (λ c. search rules)
-    unit-column-sums-requires
+    unit_column_sums-requires
     (λ c. search rules)
     (λ c. search rules)
-    value-by-requires
-    (λ c. c.value-by.ensures))
+    value_by-requires
+    (λ c. c.value_by.ensures))

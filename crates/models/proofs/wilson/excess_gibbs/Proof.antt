@@ -13,40 +13,40 @@ use Rattle.models.proofs.WilsonLaws.{excess_logs}
 use Rattle.models.proofs.wilson.excess_gibbs.Statement.{statement}
 use Rattle.models.proofs.wilson.excess_gibbs.Tie as tie
 
-abbrev invariant_loop : tie.invariant_loop
-invariant_loop n x sums s₀ i₀ s i = (i ≤ n) × (n ≤ length sums) × (s ≡ fold i +0 (λ k a. a ⊖ at x k ⊗ at sums k))
+abbrev invariant-loop-i : tie.invariant-loop-i
+invariant-loop-i n x sums s₀ i₀ s i = (i ≤ n) × (n ≤ length sums) × (s ≡ fold i +0 (λ k a. a ⊖ at x k ⊗ at sums k))
 
-abbrev decreases_loop : tie.decreases_loop
-decreases_loop n x sums s₀ i₀ s i = n - i
+abbrev decreases-loop-i : tie.decreases-loop-i
+decreases-loop-i n x sums s₀ i₀ s i = n - i
 
-loop-holds : tie.Need-loop-init invariant_loop decreases_loop
+loop-i-init : tie.Need-loop-i-init invariant-loop-i decreases-loop-i
 unfolding fold of_bits
-loop-holds c = (omega arith, omega (arith, c.before.before.log-each.auto.0, c.before.before.before.before.before.before.requires.1), refl)
+loop-i-init c = (omega arith, omega (arith, c.log_each.auto.a, c.requires.1), refl)
 
-loop-again : tie.Need-loop-preserved invariant_loop decreases_loop
-loop-again c = let top = c.before.before.before in (omega arith, top.loop.invariant.1, fold_more _ _ _ top.loop.invariant.2 refl)
+loop-i-preserved : tie.Need-loop-i-preserved invariant-loop-i decreases-loop-i
+loop-i-preserved c = (omega arith, c.loop-i.invariant.1, fold_more _ _ _ c.loop-i.invariant.2 refl)
 
-returns : tie.Need-returns invariant_loop decreases_loop
+returns : tie.Need-returns invariant-loop-i decreases-loop-i
 returns c =
-    let inv = c.before.loop.invariant in
-    let each = c.before.before.before.before.log-each in
-    let sums = c.before.before.before.before.before.before.before.before.args.sums.now in
-    excess_logs _ _ _ (at sums) sums _ c.before.before.before.before.before.before.before.before.requires.1 each.ensures (fold_done _ _ _ _ inv.2 inv.0 c.loop-test.false)
+    let inv = c.loop-i.invariant in
+    let each = c.log_each in
+    let sums = c.args.sums.now in
+    excess_logs _ _ _ (at sums) sums _ c.requires.1 each.ensures (fold_done _ _ _ _ inv.2 inv.0 c.loop-i-test.false)
 
 pub excess_gibbs_spec : {M : Type 1} → statement M
 excess_gibbs_spec =
     tie.close
     (tie.spec
-    invariant_loop
-    decreases_loop
+    invariant-loop-i
+    decreases-loop-i
     (λ c κs. search rules)
-    loop-holds
+    loop-i-init
     (λ c. omega arith)
     (λ c. omega arith)
     (λ c. omega arith)
     (λ c. omega arith)
     (λ c. omega arith)
     (λ c. omega arith)
-    loop-again
-    (λ c. c.before.before.before.before.log-each.auto.0)
+    loop-i-preserved
+    (λ c. c.log_each.auto.a)
     returns)

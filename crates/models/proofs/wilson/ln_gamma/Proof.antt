@@ -13,29 +13,28 @@ use Rattle.models.proofs.ColumnLaws.{terms_room, terms_taken}
 use Rattle.models.proofs.wilson.ln_gamma.Statement.{statement}
 use Rattle.models.proofs.wilson.ln_gamma.Tie as tie
 
-abbrev invariant_loop : tie.invariant_loop
-invariant_loop n v e x sums i terms₀ k₀ terms k = Filling (λ k. at x k ⊗ (at v i ⊘ at v k ⊗ grid n e k i) ⊘ at sums k) n 12 k terms
+abbrev invariant-loop-k : tie.invariant-loop-k
+invariant-loop-k n v e x sums i terms₀ k₀ terms k = Filling (λ k. at x k ⊗ (at v i ⊘ at v k ⊗ grid n e k i) ⊘ at sums k) n 12 k terms
 
-abbrev decreases_loop : tie.decreases_loop
-decreases_loop n v e x sums i terms₀ k₀ terms k = n - k
+abbrev decreases-loop-k : tie.decreases-loop-k
+decreases-loop-k n v e x sums i terms₀ k₀ terms k = n - k
 
-loop-again : tie.Need-loop-preserved invariant_loop decreases_loop
-loop-again c = filling_more (omega arith) c.before.before.before.before.loop.invariant (rw c.before.lambda.ensures)
+loop-k-preserved : tie.Need-loop-k-preserved invariant-loop-k decreases-loop-k
+loop-k-preserved c = filling_more (omega arith) c.loop-k.invariant (rw c.lambda.ensures)
 
-returns : tie.Need-returns invariant_loop decreases_loop
+returns : tie.Need-returns invariant-loop-k decreases-loop-k
 unfolding one dec round of_bits
 returns c =
-    let done = c.before.before.before.before.before.before in
-    let start = done.before.before.before.before.before.before in
+    let start = c.before.before.before.before.before.before in
     let a = start.args in
-    ln_folded _ _ a.e.now _ _ start.requires.3 _ start.requires.1 done.loop-test.false done.before.loop.invariant refl c.before.before.log.ensures c.sum.ensures
+    ln_folded _ _ a.e.now _ _ start.requires.3 _ start.requires.1 c.loop-k-test.false c.loop-k.invariant refl c.log.ensures c.sum.ensures
 
 pub ln_gamma_spec : {M : Type 1} → statement M
 ln_gamma_spec =
     tie.close
     (tie.spec
-    invariant_loop
-    decreases_loop
+    invariant-loop-k
+    decreases-loop-k
     (λ c. filling_none (omega arith) refl)
     (λ c. omega arith)
     (λ c. omega arith)
@@ -46,17 +45,17 @@ ln_gamma_spec =
     (λ c. omega arith)
     (λ c. omega arith)
     (λ c. omega arith)
-    loop-again
+    loop-k-preserved
     (λ c. omega arith)
     (λ c. omega arith)
     (λ c. omega arith)
     (λ c. omega arith)
     (λ c. omega arith)
-    (λ c. omega (arith, c.before.before.before.loop.invariant, c.before.before.before.before.before.before.before.before.requires.1))
+    (λ c. omega (arith, c.loop-k.invariant, c.requires.1))
     (λ c. omega arith)
     (λ c. omega arith)
     (λ c κs. tt)
-    (λ c. terms_room c.before.before.before.before.before.loop.invariant _ _)
-    (λ c. terms_taken c.before.before.before.before.before.before.loop.invariant _ _)
+    (λ c. terms_room c.loop-k.invariant _ _)
+    (λ c. terms_taken c.loop-k.invariant _ _)
     (λ c κs. tt)
     returns)

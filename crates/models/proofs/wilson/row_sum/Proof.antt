@@ -11,28 +11,27 @@ use Rattle.models.proofs.ColumnLaws.{terms_room, terms_taken}
 use Rattle.models.proofs.wilson.row_sum.Statement.{statement}
 use Rattle.models.proofs.wilson.row_sum.Tie as tie
 
-abbrev invariant_loop : tie.invariant_loop
-invariant_loop n v row x i terms₀ own j₀ terms j = Filling (λ j. at x j ⊗ (at v j ⊘ own ⊗ at row j)) n 12 j terms
+abbrev invariant-loop-j : tie.invariant-loop-j
+invariant-loop-j n v row x i terms₀ own j₀ terms j = Filling (λ j. at x j ⊗ (at v j ⊘ own ⊗ at row j)) n 12 j terms
 
-abbrev decreases_loop : tie.decreases_loop
-decreases_loop n v row x i terms₀ own j₀ terms j = n - j
+abbrev decreases-loop-j : tie.decreases-loop-j
+decreases-loop-j n v row x i terms₀ own j₀ terms j = n - j
 
-loop-again : tie.Need-loop-preserved invariant_loop decreases_loop
-loop-again c = filling_more (omega arith) c.before.before.before.before.loop.invariant refl
+loop-j-preserved : tie.Need-loop-j-preserved invariant-loop-j decreases-loop-j
+loop-j-preserved c = filling_more (omega arith) c.loop-j.invariant refl
 
-returns : tie.Need-returns invariant_loop decreases_loop
+returns : tie.Need-returns invariant-loop-j decreases-loop-j
 unfolding one dec round of_bits
 returns c =
-    let done = c.before.before.before in
-    let start = done.before.before.before.before.before.before in
-    row_folded _ _ _ _ start.requires.3 done.loop-test.false done.before.loop.invariant refl c.sum.ensures
+    let start = c.before.before.before.before.before.before in
+    row_folded _ _ _ _ start.requires.3 c.loop-j-test.false c.loop-j.invariant refl c.sum.ensures
 
-pub row-sum_spec : {M : Type 1} → statement M
-row-sum_spec =
+pub row_sum_spec : {M : Type 1} → statement M
+row_sum_spec =
     tie.close
     (tie.spec
-    invariant_loop
-    decreases_loop
+    invariant-loop-j
+    decreases-loop-j
     (λ c. omega arith)
     (λ c. omega arith)
     (λ c. filling_none (omega arith) refl)
@@ -46,12 +45,12 @@ row-sum_spec =
     (λ c. omega arith)
     (λ c. omega arith)
     (λ c. omega arith)
-    loop-again
+    loop-j-preserved
     (λ c. omega arith)
     (λ c. omega arith)
     (λ c. omega arith)
-    (λ c. omega (arith, c.before.before.loop.invariant, c.before.before.before.before.before.before.before.requires.3))
-    (λ c. terms_room c.before.before.loop.invariant _ _)
-    (λ c. terms_taken c.before.before.before.loop.invariant _ _)
+    (λ c. omega (arith, c.loop-j.invariant, c.requires.3))
+    (λ c. terms_room c.loop-j.invariant _ _)
+    (λ c. terms_taken c.loop-j.invariant _ _)
     (λ c κs. tt)
     returns)

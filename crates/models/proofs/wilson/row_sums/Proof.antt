@@ -10,51 +10,48 @@ use Rattle.models.proofs.WilsonLaws.{row_sum-row}
 use Rattle.models.proofs.wilson.row_sums.Statement.{statement}
 use Rattle.models.proofs.wilson.row_sums.Tie as tie
 
-abbrev invariant_loop : tie.invariant_loop
-invariant_loop n v e x sums₀ i₀ sums i = Filling (row_sum n (at v) (grid n e) (at x)) n (length sums₀) i sums
+abbrev invariant-loop-i : tie.invariant-loop-i
+invariant-loop-i n v e x sums₀ i₀ sums i = Filling (row_sum n (at v) (grid n e) (at x)) n (length sums₀) i sums
 
-abbrev decreases_loop : tie.decreases_loop
-decreases_loop n v e x sums₀ i₀ sums i = n - i
+abbrev decreases-loop-i : tie.decreases-loop-i
+decreases-loop-i n v e x sums₀ i₀ sums i = n - i
 
 -- row i ends within the table
-ends : (c : tie.In-loop invariant_loop decreases_loop) → c.before.loop.i * c.before.before.before.before.before.before.args.n + c.before.before.before.before.before.before.args.n ≤ length c.before.before.before.before.before.before.args.e.now
+ends : (c : tie.In-loop-i invariant-loop-i decreases-loop-i) → c.loop-i.i * c.args.n + c.args.n ≤ length c.args.e.now
 ends c =
-    let start = c.before.before.before.before.before.before in
-    omega (arith, row-end start.args.n start.args.n c.before.loop.i c.loop-test.true)
+    omega (arith, row-end c.args.n c.args.n c.loop-i.i c.loop-i-test.true)
 
-row-sum-requires : tie.Need-row-sum-requires invariant_loop decreases_loop
-row-sum-requires c κs =
+row_sum-requires : tie.Need-row_sum-requires invariant-loop-i decreases-loop-i
+row_sum-requires c κs =
     let turn = c.before in
-    let start = turn.before.before.before.before.before.before in
-    let row = from-room (turn.before.loop.i * start.args.n) _ start.args.e.now (ends turn) in
-    let fits = start.requires.0 in
-    (fits.sizes, row, fits.fractions, turn.loop-test.true, fits.few)
+    let row = from-room (c.loop-i.i * turn.args.n) _ turn.args.e.now (ends turn) in
+    let fits = turn.requires.0 in
+    (fits.sizes, row, fits.fractions, c.loop-i-test.true, fits.few)
 
-loop-again : tie.Need-loop-preserved invariant_loop decreases_loop
-loop-again c =
+loop-i-preserved : tie.Need-loop-i-preserved invariant-loop-i decreases-loop-i
+loop-i-preserved c =
     let turn = c.before.before in
-    let start = turn.before.before.before.before.before.before in
-    let i = turn.before.loop.i in
-    let row = row_sum-row start.args.n (at start.args.v.now) start.args.e.now (at start.args.x.now) i (ends turn) in
-    filling_more (omega arith) turn.before.loop.invariant (c.row-sum.ensures ∙ row)
+    let i = c.loop-i.i in
+    let row = row_sum-row turn.args.n (at turn.args.v.now) turn.args.e.now (at turn.args.x.now) i (ends turn) in
+    filling_more (omega arith) c.loop-i.invariant (c.row_sum.ensures ∙ row)
 
-pub row-sums_spec : {M : Type 1} → statement M
-row-sums_spec =
+pub row_sums_spec : {M : Type 1} → statement M
+row_sums_spec =
     tie.close
     (tie.spec
-    invariant_loop
-    decreases_loop
+    invariant-loop-i
+    decreases-loop-i
     (λ c. filling_none (omega arith) refl)
     (λ c. omega (arith, ends c))
     (λ c. omega (arith, ends c))
     (λ c. omega (arith, ends c))
     (λ c. omega (arith, ends c))
     (λ c. omega arith)
-    row-sum-requires
+    row_sum-requires
     (λ c. omega arith)
     (λ c. omega arith)
     (λ c. omega arith)
     (λ c. omega arith)
-    loop-again
-    (λ c. c.before.loop.invariant.long)
-    (λ c. filling_done c.loop-test.false c.before.loop.invariant))
+    loop-i-preserved
+    (λ c. c.loop-i.invariant.long)
+    (λ c. filling_done c.loop-i-test.false c.loop-i.invariant))

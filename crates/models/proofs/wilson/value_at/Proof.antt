@@ -15,32 +15,32 @@ fits : (c : tie.Start) → (c.args.n * c.args.n + c.args.n ≤ length c.args.val
 unfolding wilson_size
 fits c = (c.requires.sized, mul-le-mul c.requires.few c.requires.few)
 
-fill-energies-requires : tie.Need-fill-energies-requires
-fill-energies-requires c κs = let room = fits c.before.before.before in search rules
+fill_energies-requires : tie.Need-fill_energies-requires
+fill_energies-requires c κs = let room = fits c.before.before.before in search rules
 
-value-over-requires : tie.Need-value-over-requires
-value-over-requires c κs =
+value_over-requires : tie.Need-value_over-requires
+value_over-requires c κs =
     let start = c.before.before.before.before.before.before.before in
     let room = fits start in
-    let part = from-length (start.args.n * start.args.n) start.args.values.now in
+    let part = from-length (c.args.n * c.args.n) c.args.values.now in
     search rules
 
 returns : tie.Need-returns
 returns c =
     let start = c.before.before.before.before.before.before.before.before in
-    wilson-from _ _ _ _ _ _ (fits start).0 start.requires.index c.before.before.before.before.fill-energies.ensures c.value-over.ensures
+    wilson-from _ _ _ _ _ _ (fits start).0 c.requires.index c.fill_energies.ensures c.value_over.ensures
 
-pub value-at_spec : {M : Type 1} → statement M
-value-at_spec =
+pub value_at_spec : {M : Type 1} → statement M
+value_at_spec =
     tie.close
     (tie.spec
     (λ c. search rules)
-    fill-energies-requires
+    fill_energies-requires
     (λ c. omega (arith, fits c.before.before.before.before.before))
     (λ c. omega (arith, fits c.before.before.before.before.before))
     (λ c. omega (arith, fits c.before.before.before.before.before))
     (λ c. omega (arith, fits c.before.before.before.before.before))
     (λ c. search rules)
     (λ c. search rules)
-    value-over-requires
+    value_over-requires
     returns)

@@ -10,52 +10,52 @@ use Rattle.models.proofs.WilsonLaws.{excess_hoisted}
 use Rattle.models.proofs.wilson.value_over.Statement.{statement}
 use Rattle.models.proofs.wilson.value_over.Tie as tie
 
-abbrev entry : tie.After-row-sums → tie.Start
+abbrev entry : tie.After-row_sums → tie.Start
 entry c = c.before.before.before.before.before
 
-long : (c : tie.After-row-sums) → (entry c).args.n ≤ length c.row-sums.new.1.1.1.1.0
-long c = omega (arith, c.row-sums.auto.1.1.1.1.0, (entry c).requires.0.few)
+long : (c : tie.After-row_sums) → (entry c).args.n ≤ length c.row_sums.new.sums
+long c = omega (arith, c.row_sums.auto.sums, (entry c).requires.0.few)
 
-ln-gamma-requires : tie.Need-ln-gamma-requires
-ln-gamma-requires c κs =
-    let sums = c.before.before.before.before.before in
+ln_gamma-requires : tie.Need-ln_gamma-requires
+ln_gamma-requires c κs =
+    let sums = c.before.before.before in
     let pre = (entry sums).requires in
-    (pre.0, index_ln c.before.before.q.given.1 pre.1, long sums, sums.row-sums.ensures)
+    (pre.0, index_ln c.in-LnGamma.is pre.1, long sums, c.row_sums.ensures)
 
-ln-gamma-requires-2 : tie.Need-ln-gamma-requires-2
-ln-gamma-requires-2 c κs =
-    let sums = c.before.before.before.before.before in
+ln_gamma-requires-in-Gamma : tie.Need-ln_gamma-requires-in-Gamma
+ln_gamma-requires-in-Gamma c κs =
+    let sums = c.before.before.before in
     let pre = (entry sums).requires in
-    (pre.0, index_gamma c.before.before.q2.given.1 pre.1, long sums, sums.row-sums.ensures)
+    (pre.0, index_gamma c.in-Gamma.is pre.1, long sums, c.row_sums.ensures)
 
-returns : tie.Need-returns
+returns-in-LnGamma : tie.Need-returns-in-LnGamma
 unfolding wilson
-returns c = quantity_ln _ _ c.before.before.before.q.given.1 c.ln-gamma.ensures
+returns-in-LnGamma c = quantity_ln _ _ c.in-LnGamma.is c.ln_gamma.ensures
 
-returns-2 : tie.Need-returns-2
+returns-in-Gamma : tie.Need-returns-in-Gamma
 unfolding wilson
-returns-2 c = quantity_gamma _ _ c.before.before.before.before.q2.given.1 c.before.ln-gamma2.ensures c.exp.ensures
+returns-in-Gamma c = quantity_gamma _ _ c.in-Gamma.is c.ln_gamma-in-Gamma.ensures c.exp.ensures
 
-returns-3 : tie.Need-returns-3
+returns-in-ExcessGibbs : tie.Need-returns-in-ExcessGibbs
 unfolding wilson
-returns-3 c = quantity-excess _ _ c.before.before.before.enum_told.given.1 (c.before.excess-gibbs.ensures ∙ excess_hoisted _ _ _ _ _ c.before.before.before.before.before.before.row-sums.ensures)
+returns-in-ExcessGibbs c = quantity-excess _ _ c.in-ExcessGibbs.is (c.excess_gibbs.ensures ∙ excess_hoisted _ _ _ _ _ c.row_sums.ensures)
 
-pub value-over_spec : {M : Type 1} → statement M
-value-over_spec =
+pub value_over_spec : {M : Type 1} → statement M
+value_over_spec =
     tie.close
     (tie.spec
     (λ c. search rules)
     (λ c κs. search rules)
     (λ c. search rules)
     (λ c. search rules)
-    ln-gamma-requires
+    ln_gamma-requires
     (λ c. search rules)
     (λ c. search rules)
-    ln-gamma-requires-2
+    ln_gamma-requires-in-Gamma
     (λ c κs. tt)
     (λ c. search rules)
     (λ c. search rules)
     (λ c κs. search rules)
-    returns
-    returns-2
-    returns-3)
+    returns-in-LnGamma
+    returns-in-Gamma
+    returns-in-ExcessGibbs)
