@@ -218,9 +218,14 @@ def bare_places(walk, text, say):
         for v, p in re.findall(r"\((\S+) : tie\.([^\s()]+)", block.split("\n")[0]):
             env[v] = p
         # let V = c.before.. in: every step is at hand from c itself
-        for m in list(re.finditer(r"let (\S+) = (\S+?)((?:\.before)+) in\s*", block)):
+        seen = 0
+        while True:
+            m = re.compile(r"let (\S+) = (\S+?)((?:\.before)+) in\s*").search(block, seen)
+            if not m:
+                break
             v, root = m.group(1), m.group(2)
-            if root not in env or m.group(0) not in block:
+            if root not in env:
+                seen = m.end()
                 continue
             used = rf"(?<![^\s(){{}};,]){re.escape(v)}(?![^\s(){{}};,.])"
             tail = block[block.index(m.group(0)) + len(m.group(0)):]
@@ -236,11 +241,14 @@ def bare_places(walk, text, say):
                 head = block[: block.index(m.group(0))]
                 block = head + re.sub(rf"(?<![^\s(){{}};,]){re.escape(v)}(?=\.)", root, tail)
                 block = re.sub(rf"(?<![^\s(){{}};,]){re.escape(root)}(\.before)+(?=\.[^b])", root, block)
+                seen = len(head)
             elif want and walk.to(env[root], want) is not None:
                 block = block.replace(m.group(0).rstrip(), f"let {v} = {root}{'.before' * walk.to(env[root], want)} in")
                 block = re.sub(rf"(?<![^\s(){{}};,]){re.escape(v)}(\.before)*(?=\.[^b])", root, block)
                 env[v] = want
+                seen = m.start() + 4
             else:
+                seen = m.end()
                 say(f"let {v} = {root}{m.group(3)}: where to?")
 
         def bare(m):
