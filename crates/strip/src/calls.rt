@@ -1,6 +1,6 @@
 // The call that a record makes.
 ghost use Rattle.std.specs.Prelude.{◌≡◌};
-ghost use Rattle.mixture.specs.Memory.{before, later, left};
+ghost use Rattle.mixture.specs.Memory.{memory, left};
 ghost use Rattle.mixture.specs.Book.{Load};
 ghost use Rattle.strip.specs.Calls.{data_of, setting_of, call_of};
 ghost use Rattle.strip.specs.Steps.Run.{made};
@@ -30,8 +30,8 @@ pub fn setting_of(kind: usize, i: usize, j: usize, five: TdParam) -> Setting
 // Makes a record's load; one that doesn't fit is declined with 2. A strip has at most 8,191 floats and, of 12
 // bytes each, 5,461 kinds 13: the buffers hold those of any load.
 fn load(s: &[u8], r: Rec, values: &mut [f64], cells: &[f64], marks: &mut [u8], head: Head) -> Reply
-    ensures { left (later values cells marks) result
-        ≡ made s.now r (before values cells marks) head (Load (data_of s.now r)) }
+    ensures { left (memory values.new cells.now marks.new) result
+        ≡ made s.now r (memory values.old cells.now marks.old) head (Load (data_of s.now r)) }
 {
     if !does_fit(s, r) {
         return Reply {
@@ -73,8 +73,8 @@ pub fn make(
     marks: &mut [u8],
     head: Head,
 ) -> Reply
-    ensures { left (later values cells marks) result
-        ≡ made s.now r (before values cells marks) head (call_of s.now r) }
+    ensures { left (memory values.new cells.new marks.new) result
+        ≡ made s.now r (memory values.old cells.old marks.old) head (call_of s.now r) }
 {
     let kind = r.kind;
     if kind < 5 {

@@ -7,7 +7,7 @@ use crate::words::{i_of, j_of, kind_of, rest_of};
 use arithmetic::bytes::{float_at, word_at};
 
 // How many lists were met, and how many groups in them.
-#[derive(Drop)]
+#[derive(Clone, Copy)]
 pub struct Met {
     pub lists: usize,
     pub groups: usize,

@@ -11,7 +11,7 @@ use models::model::size_of;
 
 // Whether the fields i and j are as the kind has them, how many floats follow the head word, and how many
 // lists follow these.
-#[derive(Drop)]
+#[derive(Clone, Copy)]
 pub struct Shape {
     pub formed: bool,
     pub floats: usize,
@@ -19,7 +19,7 @@ pub struct Shape {
 }
 
 // A record that was read: its head word's fields, and its shape.
-#[derive(Drop)]
+#[derive(Clone, Copy)]
 pub struct Rec {
     pub kind: usize,
     pub i: u8,
@@ -32,7 +32,7 @@ pub struct Rec {
 }
 
 // What stands at a place of the strip.
-#[derive(Drop)]
+#[derive(Clone, Copy)]
 pub enum Read {
     Record(Rec),
     // malformed or cut

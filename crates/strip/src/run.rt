@@ -1,6 +1,6 @@
 // The run of a strip: from record to record on a mixture of its own.
 ghost use Rattle.std.specs.Prelude.{◌≤◌};
-ghost use Rattle.mixture.specs.Memory.{before};
+ghost use Rattle.mixture.specs.Memory.{memory};
 ghost use Rattle.strip.specs.Text.{Put};
 ghost use Rattle.strip.specs.Run.{transcript, most_text};
 ghost use Rattle.strip.specs.Steps.Run.{walked};
@@ -22,7 +22,7 @@ fn walk(
     head: Head,
     out: &mut [u8],
 ) -> usize
-    ensures { Put out.old 0 (walked s.now (before values cells marks) head) result
+    ensures { Put out.old 0 (walked s.now (memory values.old cells.old marks.old) head) result
         out.new
         × (result ≤ most_text) }
 {
