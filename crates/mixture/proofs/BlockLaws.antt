@@ -15,7 +15,7 @@ use Rattle.models.specs.declared.model.Model.TheVariants.{Wilson, Uniquac, Nrtl,
 use Rattle.mixture.specs.Lists.{written}
 use Rattle.mixture.specs.Holdings.{Held, held}
 use Rattle.mixture.specs.Cells.{width, is_cell}
-use Rattle.models.specs.Model.{ModelData, by_model, table_width, has_groups}
+use Rattle.models.specs.Model.{ModelData, table_width, has_groups}
 use Rattle.mixture.specs.Layout.{cell_at}
 use Rattle.mixture.specs.Steps.Blocks.{in_block, block}
 use Rattle.mixture.proofs.ListLaws.{written_same}

@@ -42,7 +42,7 @@ use Rattle.mixture.specs.WrittenBack.{fives, values_in, data_of}
 use Rattle.mixture.proofs.ListLaws.{never}
 use Rattle.mixture.proofs.PlaceLaws.{passed, spared, nought, below-is}
 use Rattle.mixture.proofs.History.AgreeLaws.{Agrees, set-alike}
-use Rattle.mixture.proofs.History.RangeLaws.{first-is, first_to-none, at_all, Sound, sound}
+use Rattle.mixture.proofs.History.RangeLaws.{first_to-none, at_all, Sound, sound}
 use Rattle.mixture.proofs.History.CellLaws.{exponential-same, value_by-same, plain-is}
 use Rattle.mixture.proofs.RowLaws.{get_d_after, get_or-before, length-row, row_at, before, before_in, before-start, InRow, in_row, length-rows, rows_at, length-table, table_at, length-tds, tds-at, five-after, five-before}
 

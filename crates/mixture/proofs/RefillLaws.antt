@@ -13,7 +13,7 @@ use lib.Dec.{ltb, eqb}
 use lib.ListN.{length, get_or, set, take, drop, length-append, length-drop, drop_of_length-le, get_or-append}
 use lib.Seq.{get_or-take, get_or-drop, get_or-append-add, length-take-le, ext_get_or}
 use lib.Ieee.{Float, nan}
-use Rattle.arithmetic.specs.Tables.{at, from}
+use Rattle.arithmetic.specs.Tables.{from}
 use Rattle.arithmetic.proofs.Tests.{le-or}
 use Rattle.arithmetic.proofs.TableLaws.{by_place, row-end, row_next, from-length, cell_row, cell-column}
 use Rattle.models.specs.declared.model.Model.{Model}

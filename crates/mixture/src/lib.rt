@@ -1,4 +1,6 @@
 // A mixture that keeps its exponentials in lent memory. Document 01, "Mixture".
+#![tactic(auto)]
+
 pub mod answers;
 pub mod faults;
 pub mod fractions;

@@ -35,7 +35,7 @@ use Rattle.mixture.specs.Holdings.{Held, held}
 use Rattle.mixture.specs.Cells.{width, is_cell, inputs}
 use Rattle.models.specs.Model.{ModelData, is_model, size_of}
 use Rattle.mixture.specs.Faults.{case_fault, memory_fault, in_range, head_fault, load_fault, setting_fault, fractions_fault, ready_fault, query_fault}
-use Rattle.mixture.specs.Memory.{Memory, memory, least_values, least_cells, least_marks, After}
+use Rattle.mixture.specs.Memory.{Memory, least_values, least_cells, least_marks, After}
 use Rattle.mixture.specs.Layout.{data_in, place, numbers, cell_at}
 use Rattle.mixture.specs.Calls.{outcome, no_head, after_open, loaded_head, loaded_memory, after_load, stales, stales_at, set_memory, t_after, has_t_after, tolerance_after, set_head, after_setting, with_fractions, after_fractions, exponential, value_by, stale_at, worked, answered, after_query}
 use Rattle.mixture.specs.Book.{Mix, mix, Call, Open, Load, Set, Fractions, Query, Book, book, empty, set_in, set_t, set_tolerance, set_model, book_after, gives, touched, touched_cells, plain, having, setting_answer, query_answer, book_answer, is_query, accepted, since, book_answers}

@@ -16,7 +16,7 @@ use Rattle.arithmetic.specs.Tables.{at, from}
 use Rattle.arithmetic.proofs.Tests.{either, le-or}
 use Rattle.models.specs.Answers.{first, first_to}
 use Rattle.models.specs.Faults.{between, all_to, shape_fault, lists_fault, place_fault, groups_fault, unifac_fault, data_fault}
-use Rattle.models.specs.Values.{wilson_size, uniquac_size, nrtl_size, counts_at, start, unifac_size, lists}
+use Rattle.models.specs.Values.{wilson_size, uniquac_size, nrtl_size, counts_at, start, unifac_size}
 use Rattle.models.specs.declared.model.Model.{Model}
 use Rattle.models.specs.declared.model.Model.TheVariants.{Wilson, Uniquac, Nrtl, Unifac}
 use Rattle.mixture.specs.Holdings.{held}

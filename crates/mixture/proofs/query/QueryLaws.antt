@@ -8,7 +8,6 @@ use lib.ListN.{get_or}
 use lib.Ieee.{Float}
 use Rattle.arithmetic.specs.Tables.{at, from}
 use Rattle.models.specs.declared.answers.Quantity.{Quantity}
-use Rattle.models.specs.Faults.{index_fault}
 use Rattle.models.specs.Exponentials.{energy, nonrandomness, group_energy}
 use Rattle.models.specs.Values.{energies, volumes, rs, qs, alphas, lists, counts_at, group_rs, group_qs}
 use Rattle.models.specs.Wilson.{wilson}

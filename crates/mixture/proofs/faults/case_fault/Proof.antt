@@ -5,29 +5,29 @@ use Rattle.mixture.specs.declared.head.Head.{Head}
 use Rattle.mixture.proofs.faults.case_fault.Statement.{statement}
 use Rattle.mixture.proofs.faults.case_fault.Tie as tie
 
-abbrev head : tie.After-table-width → Head
-head c = c.before.before.args.head
+abbrev head : tie.After-table_width-w → Head
+head c = c.args.head
 
-returns : tie.Need-returns
-returns c m = let top = c.before.before in temperature-case m (head top) top.before.model_of.ensures top.table-width.ensures c.enum_told.given.1
+returns-in-Temperature : tie.Need-returns-in-Temperature
+returns-in-Temperature c m = let top = c.before in temperature-case m (head top) c.model_of-model.ensures c.table_width-w.ensures c.in-Temperature.is
 
-returns-2 : tie.Need-returns-2
-returns-2 c m = let top = c.before.before.before.before.before in entry_case m (head top) top.before.model_of.ensures top.table-width.ensures c.before.before.before.s.given.1 c.before.by_model_lem.ensures c.pair-fault.ensures
+returns-in-Entry : tie.Need-returns-in-Entry
+returns-in-Entry c m = let top = c.before.before.before in entry_case m (head top) c.model_of-model.ensures c.table_width-w.ensures c.in-Entry.is c.by_model-k.ensures c.pair_fault.ensures
 
-returns-3 : tie.Need-returns-3
-returns-3 c m = let top = c.before.before.before.before.before in td_case m (head top) top.before.model_of.ensures top.table-width.ensures c.before.before.before.s2.given.1 c.before.by-model2.ensures c.pair-fault2.ensures
+returns-in-TdEntry : tie.Need-returns-in-TdEntry
+returns-in-TdEntry c m = let top = c.before.before.before in td_case m (head top) c.model_of-model.ensures c.table_width-w.ensures c.in-TdEntry.is c.by_model-k-in-TdEntry.ensures c.pair_fault-in-TdEntry.ensures
 
-returns-4 : tie.Need-returns-4
-returns-4 c m = let top = c.before.before.before.before.before in size-case m (head top) top.before.model_of.ensures top.table-width.ensures c.before.before.before.s3.given.1 c.before.by-model3.ensures c.pair-fault3.ensures
+returns-in-Size : tie.Need-returns-in-Size
+returns-in-Size c m = let top = c.before.before.before in size-case m (head top) c.model_of-model.ensures c.table_width-w.ensures c.in-Size.is c.by_model-k-in-Size.ensures c.pair_fault-in-Size.ensures
 
-returns-5 : tie.Need-returns-5
-returns-5 c m = let top = c.before.before.before.before.before in count-case m (head top) top.before.model_of.ensures top.table-width.ensures c.before.before.before.s4.given.1 c.list-fault.ensures
+returns-in-Count : tie.Need-returns-in-Count
+returns-in-Count c m = let top = c.before.before.before in count-case m (head top) c.model_of-model.ensures c.table_width-w.ensures c.in-Count.is c.list_fault.ensures
 
-returns-6 : tie.Need-returns-6
-returns-6 c m = let top = c.before.before.before.before in tolerance-case m (head top) top.before.model_of.ensures top.table-width.ensures c.before.before.s5.given.1 c.tolerance-fault.ensures
+returns-in-Tolerance : tie.Need-returns-in-Tolerance
+returns-in-Tolerance c m = let top = c.before.before in tolerance-case m (head top) c.model_of-model.ensures c.table_width-w.ensures c.in-Tolerance.is c.tolerance_fault.ensures
 
-pub case-fault_spec : {M : Type 1} → statement M
-case-fault_spec =
+pub case_fault_spec : {M : Type 1} → statement M
+case_fault_spec =
     tie.close
     (tie.spec
     (λ c κs. tt)
@@ -46,9 +46,9 @@ case-fault_spec =
     (λ c κs. search rules)
     (λ c. search rules)
     (λ c κs. tt)
-    returns
-    returns-2
-    returns-3
-    returns-4
-    returns-5
-    returns-6)
+    returns-in-Temperature
+    returns-in-Entry
+    returns-in-TdEntry
+    returns-in-Size
+    returns-in-Count
+    returns-in-Tolerance)

@@ -12,38 +12,38 @@ use lib.ListN.{get_or}
 use Rattle.mixture.proofs.faults.groups_below.Statement.{statement}
 use Rattle.mixture.proofs.faults.groups_below.Tie as tie
 
-abbrev invariant_loop : tie.invariant_loop
-invariant_loop groups places ng p₀ p = (p ≤ places) × (true ≡ all_to p (λ k. ltb (get_or groups k 0) ng))
+abbrev invariant-loop-p : tie.invariant-loop-p
+invariant-loop-p groups places ng p₀ p = (p ≤ places) × (true ≡ all_to p (λ k. ltb (get_or groups k 0) ng))
 
-abbrev decreases_loop : tie.decreases_loop
-decreases_loop groups places ng p₀ p = places - p
+abbrev decreases-loop-p : tie.decreases-loop-p
+decreases-loop-p groups places ng p₀ p = places - p
 
-loop-holds : tie.Need-loop-init invariant_loop decreases_loop
-loop-holds c = (omega arith, all_none _)
+loop-p-init : tie.Need-loop-p-init invariant-loop-p decreases-loop-p
+loop-p-init c = (omega arith, all_none _)
 
-cast-if1 : tie.Need-overflow-cast-if1 invariant_loop decreases_loop
-cast-if1 c = omega (arith, c.shared-slice-known.given c.before.before.loop.p)
+overflow_cast-groups : tie.Need-overflow_cast-groups invariant-loop-p decreases-loop-p
+overflow_cast-groups c = omega (arith, c.shared_slice_known-1.given c.loop-p.p)
 
-returns : tie.Need-returns invariant_loop decreases_loop
-returns c = all_fails _ _ _ c.before.before.loop-test.true (le-ltb _ _ c.if1.true)
+returns-then-ng-groups : tie.Need-returns-then-ng-groups invariant-loop-p decreases-loop-p
+returns-then-ng-groups c = all_fails _ _ _ c.loop-p-test.true (le-ltb _ _ c.if-ng-groups.true)
 
-loop-again : tie.Need-loop-preserved invariant_loop decreases_loop
-loop-again c = (omega arith, all_more _ _ c.before.before.before.loop.invariant.1 (lt-ltb _ _ c.if1.false))
+loop-p-preserved : tie.Need-loop-p-preserved invariant-loop-p decreases-loop-p
+loop-p-preserved c = (omega arith, all_more _ _ c.loop-p.invariant.1 (lt-ltb _ _ c.if-ng-groups.false))
 
-returns-2 : tie.Need-returns-2 invariant_loop decreases_loop
-returns-2 c = rw (← le_antisymm c.before.loop.invariant.0 c.loop-test.false) c.before.loop.invariant.1
+returns : tie.Need-returns invariant-loop-p decreases-loop-p
+returns c = rw (← le_antisymm c.loop-p.invariant.0 c.loop-p-test.false) c.loop-p.invariant.1
 
-pub groups-below_spec : {M : Type 1} → statement M
-groups-below_spec =
+pub groups_below_spec : {M : Type 1} → statement M
+groups_below_spec =
     tie.close
     (tie.spec
-    invariant_loop
-    decreases_loop
-    loop-holds
+    invariant-loop-p
+    decreases-loop-p
+    loop-p-init
     (λ c. omega arith)
-    cast-if1
-    returns
+    overflow_cast-groups
+    returns-then-ng-groups
     (λ c. omega arith)
     (λ c. omega arith)
-    loop-again
-    returns-2)
+    loop-p-preserved
+    returns)

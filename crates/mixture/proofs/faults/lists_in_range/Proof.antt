@@ -3,7 +3,7 @@ use mathlib.Core.Path.{◌≡◌, sym, ◌∙◌}
 use mathlib.Core.Bool.{true}
 use native.Mathlib.Omega.{arith}
 use borrow.Author.Rules.{rules}
-use borrow.Author.Tests.{le-leb, lt-leb, leb-true, not-true, not-false}
+use borrow.Author.Tests.{le-leb, lt-leb, leb-true}
 use lib.Dec.{leb}
 use lib.ListN.{get_or}
 use Rattle.models.specs.Faults.{all_to}
@@ -11,43 +11,41 @@ use Rattle.mixture.proofs.History.RangeLaws.{all-at, start-bound}
 use Rattle.mixture.proofs.faults.lists_in_range.Statement.{statement}
 use Rattle.mixture.proofs.faults.lists_in_range.Tie as tie
 
-none-long : (c : tie.Else3) → let a = c.before.before.before.before.before.args in all_to a.n (λ i. leb (get_or a.t3 i 0) 12) ≡ true
-none-long c = sym c.before.lists-within.ensures ∙ not-false _ c.if3.false
+none-long : (c : tie.Else-not-lists_within) → let a = c.args in all_to a.n (λ i. leb (get_or a.lens i 0) 12) ≡ true
+none-long c = sym c.lists_within.ensures ∙ c.if-not-lists_within.false
+
+returns-then-ng-lt1 : tie.Need-returns-then-ng-lt1
+returns-then-ng-lt1 c = simp (lt-leb _ _ c.if-ng-lt1.true)
+
+returns-then-ng-gt-GROUPS : tie.Need-returns-then-ng-gt-GROUPS
+returns-then-ng-gt-GROUPS c = simp (le-leb _ _ c.if-ng-lt1.false, lt-leb _ _ c.if-ng-gt-GROUPS.true)
+
+returns-then-not-lists_within : tie.Need-returns-then-not-lists_within
+returns-then-not-lists_within c =
+    simp (le-leb _ _ c.if-ng-lt1.false, le-leb _ _ c.if-ng-gt-GROUPS.false, sym c.lists_within.ensures ∙ c.if-not-lists_within.true)
+
+groups_below-requires : tie.Need-groups_below-requires
+groups_below-requires c κs =
+    let fine = c.before.before.before in
+    let a = c.args in
+    omega (arith, c.start_of-places.ensures, start-bound a.lens a.n (λ i b. leb-true _ _ (all-at _ (λ k. leb (get_or a.lens k 0) 12) (none-long fine) i b)))
 
 returns : tie.Need-returns
-returns c = simp (lt-leb _ _ c.if1.true)
-
-returns-2 : tie.Need-returns-2
-returns-2 c = simp (le-leb _ _ c.before.if1.false, lt-leb _ _ c.if2.true)
-
-returns-3 : tie.Need-returns-3
-returns-3 c =
-    let some = c.before.before.before in
-    simp (le-leb _ _ some.before.if1.false, le-leb _ _ some.if2.false, sym c.before.lists-within.ensures ∙ not-true _ c.if3.true)
-
-groups-below-requires : tie.Need-groups-below-requires
-groups-below-requires c κs =
-    let fine = c.before.before.before in
-    let a = fine.before.before.before.before.before.args in
-    omega (arith, c.before.start_of_lem.ensures, start-bound a.t3 a.n (λ i b. leb-true _ _ (all-at _ (λ k. leb (get_or a.t3 k 0) 12) (none-long fine) i b)))
-
-returns-4 : tie.Need-returns-4
-returns-4 c =
+returns c =
     let fine = c.before.before.before.before in
-    let some = fine.before.before.before in
-    c.groups-below.ensures ∙ simp (le-leb _ _ some.before.if1.false, le-leb _ _ some.if2.false, none-long fine, c.before.before.start_of_lem.ensures)
+    c.groups_below.ensures ∙ simp (le-leb _ _ fine.if-ng-lt1.false, le-leb _ _ fine.if-ng-gt-GROUPS.false, none-long fine, c.start_of-places.ensures)
 
 pub lists_in_range_spec : {M : Type 1} → statement M
 lists_in_range_spec =
     tie.close
     (tie.spec
-    returns
-    returns-2
+    returns-then-ng-lt1
+    returns-then-ng-gt-GROUPS
     (λ c. search rules)
     (λ c κs. search rules)
-    returns-3
+    returns-then-not-lists_within
     (λ c. search rules)
     (λ c κs. search rules)
     (λ c. search rules)
-    groups-below-requires
-    returns-4)
+    groups_below-requires
+    returns)

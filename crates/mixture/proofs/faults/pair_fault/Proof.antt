@@ -7,6 +7,6 @@ pub pair_fault_spec : {M : Type 1} → statement M
 pair_fault_spec =
     tie.close
     (tie.spec
-    (λ c. rw (lt-ltb _ _ c.before.if1.true, lt-ltb _ _ c.if2.true))
-    (λ c. rw (lt-ltb _ _ c.before.if1.true, le-ltb _ _ c.if2.false))
-    (λ c. rw (le-ltb _ _ c.if1.false)))
+    (λ c. rw (lt-ltb _ _ c.if-i-m.true, lt-ltb _ _ c.if-j-n.true))
+    (λ c. rw (lt-ltb _ _ c.if-i-m.true, le-ltb _ _ c.if-j-n.false))
+    (λ c. rw (le-ltb _ _ c.if-i-m.false)))

@@ -4,13 +4,13 @@ use Rattle.mixture.specs.Faults.{query_fault}
 use Rattle.mixture.proofs.faults.query_fault.Statement.{statement}
 use Rattle.mixture.proofs.faults.query_fault.Tie as tie
 
+returns-then-fault-ne0 : tie.Need-returns-then-fault-ne0
+unfolding query_fault
+returns-then-fault-ne0 c m e = first-left _ (c.ready_fault-fault.ensures m e) c.if-fault-ne0.true
+
 returns : tie.Need-returns
 unfolding query_fault
-returns c m e = first-left _ (c.before.ready-fault.ensures m e) c.if1.true
-
-returns-2 : tie.Need-returns-2
-unfolding query_fault
-returns-2 c m e = first-right (c.before.before.ready-fault.ensures m e) c.before.if1.false c.index-fault.ensures
+returns c m e = first-right (c.ready_fault-fault.ensures m e) c.if-fault-ne0.false c.index_fault.ensures
 
 pub query_fault_spec : {M : Type 1} → statement M
-query_fault_spec = tie.close (tie.spec (λ c κs. tt) returns (λ c κs. tt) returns-2)
+query_fault_spec = tie.close (tie.spec (λ c κs. tt) returns-then-fault-ne0 (λ c κs. tt) returns)

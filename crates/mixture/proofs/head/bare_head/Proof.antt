@@ -8,8 +8,8 @@ use Rattle.mixture.proofs.head.bare_head.Tie as tie
 
 returns : tie.Need-returns
 returns c =
-    let a = c.before.before.args in
-    c.unset-head.ensures ∙ ap (λ (ε : Float). fresh_head ε a.model a.n 0 [] []) c.before.usual-tolerance.ensures
+    let a = c.args in
+    c.unset_head.ensures ∙ ap (λ (ε : Float). fresh_head ε a.model a.n 0 [] []) c.usual_tolerance-tolerance.ensures
 
-pub bare-head_spec : {M : Type 1} → statement M
-bare-head_spec = tie.close (tie.spec (λ c κs. tt) (λ c κs. tt) returns)
+pub bare_head_spec : {M : Type 1} → statement M
+bare_head_spec = tie.close (tie.spec (λ c κs. tt) (λ c κs. tt) returns)

@@ -7,14 +7,11 @@ use Rattle.mixture.proofs.head.listed_head.Tie as tie
 
 returns : tie.Need-returns
 returns c =
-    let second = c.before.before.before in
-    let first = second.before.before.before in
-    let start = first.before.before.before.before in
-    c.unset-head.ensures
-    ∙ rw (c.before.usual-tolerance.ensures, first.copy-bytes.ensures ∙ zeros-after 0 12 start.args.lens.now, second.copy-bytes2.ensures ∙ zeros-after 0 144 start.args.groups.now)
+    c.unset_head.ensures
+    ∙ rw (c.usual_tolerance-tolerance.ensures, c.copy_bytes.ensures ∙ zeros-after 0 12 c.args.lens.now, c.copy_bytes-2.ensures ∙ zeros-after 0 144 c.args.groups.now)
 
-pub listed-head_spec : {M : Type 1} → statement M
-listed-head_spec =
+pub listed_head_spec : {M : Type 1} → statement M
+listed_head_spec =
     tie.close
     (tie.spec
     (λ c. search rules)

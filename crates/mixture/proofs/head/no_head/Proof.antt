@@ -5,7 +5,7 @@ use Rattle.mixture.proofs.head.no_head.Tie as tie
 
 returns : tie.Need-returns
 unfolding of_bits
-returns c = c.unset-head.ensures
+returns c = c.unset_head.ensures
 
 pub no_head_spec : {M : Type 1} → statement M
 no_head_spec = tie.close (tie.spec (λ c κs. tt) returns)

@@ -11,36 +11,35 @@ use Rattle.mixture.proofs.CopyLaws.{pad_done}
 use Rattle.mixture.proofs.head.pad_fractions.Statement.{statement}
 use Rattle.mixture.proofs.head.pad_fractions.Tie as tie
 
-abbrev invariant_loop : tie.invariant_loop
-invariant_loop s r₀ k₀ k-end r k = (k ≤ length s) × (r ≡ take k s ++ drop k (replicate 12 +0))
+abbrev invariant-loop-k : tie.invariant-loop-k
+invariant-loop-k s r₀ k₀ k-end r k = (k ≤ length s) × (r ≡ take k s ++ drop k (replicate 12 +0))
 
-abbrev decreases_loop : tie.decreases_loop
-decreases_loop s r₀ k₀ k-end r k = length s - k
+abbrev decreases-loop-k : tie.decreases-loop-k
+decreases-loop-k s r₀ k₀ k-end r k = length s - k
 
-loop-holds : tie.Need-loop-init invariant_loop decreases_loop
+loop-k-init : tie.Need-loop-k-init invariant-loop-k decreases-loop-k
 unfolding of_bits
-loop-holds c = (omega arith, refl)
+loop-k-init c = (omega arith, refl)
 
-loop-again : tie.Need-loop-preserved invariant_loop decreases_loop
-loop-again c =
-    let top = c.before.before in
-    (omega arith, copy_turn _ (replicate 12 +0) _ _ top.loop.invariant.1 nan top.before.requires c.before.loop-test.true)
+loop-k-preserved : tie.Need-loop-k-preserved invariant-loop-k decreases-loop-k
+loop-k-preserved c =
+    (omega arith, copy_turn _ (replicate 12 +0) _ _ c.loop-k.invariant.1 nan c.requires c.loop-k-test.true)
 
-returns : tie.Need-returns invariant_loop decreases_loop
-returns c = pad_done +0 12 c.before.before.args.s.now _ c.before.loop.k c.before.loop.invariant.1 (omega arith)
+returns : tie.Need-returns invariant-loop-k decreases-loop-k
+returns c = pad_done +0 12 c.args.s.now _ c.loop-k.k c.loop-k.invariant.1 (omega arith)
 
 pub pad_fractions_spec : {M : Type 1} → statement M
 pad_fractions_spec =
     tie.close
     (tie.spec
-    invariant_loop
-    decreases_loop
-    loop-holds
+    invariant-loop-k
+    decreases-loop-k
+    loop-k-init
     (λ c. omega arith)
     (λ c. omega arith)
     (λ c. omega arith)
     (λ c. omega arith)
     (λ c. omega arith)
     (λ c. omega arith)
-    loop-again
+    loop-k-preserved
     returns)

@@ -15,14 +15,14 @@ unifac Uniquac e = never (sym e)
 unifac Nrtl e = never (sym e)
 unifac Unifac e = refl
 
-pub loaded-head_spec : {M : Type 1} → statement M
+pub loaded_head_spec : {M : Type 1} → statement M
 unfolding loaded_head
-loaded-head_spec =
+loaded_head_spec =
     tie.close
     (tie.spec
     (λ c κs. tt)
     (λ c κs. tt)
-    (λ c κs. c.before.before.before.before.before.requires (unifac _ (sym c.before.has-groups.ensures ∙ c.if1.true)))
-    (λ c v. c.listed-head.ensures ∙ rw (c.before.before.before.model-number.ensures, sym c.before.before.has-groups.ensures ∙ c.before.if1.true))
+    (λ c κs. c.requires (unifac _ (sym c.has_groups.ensures ∙ c.if-has_groups.true)))
+    (λ c v. c.listed_head.ensures ∙ rw (c.model_number-number.ensures, sym c.has_groups.ensures ∙ c.if-has_groups.true))
     (λ c κs. tt)
-    (λ c v. c.bare-head.ensures ∙ rw (c.before.before.before.model-number.ensures, sym c.before.before.has-groups.ensures ∙ c.before.if1.false)))
+    (λ c v. c.bare_head.ensures ∙ rw (c.model_number-number.ensures, sym c.has_groups.ensures ∙ c.if-has_groups.false)))

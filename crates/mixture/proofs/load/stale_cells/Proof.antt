@@ -7,19 +7,19 @@ use Rattle.mixture.proofs.BlockLaws.{cells_stale}
 use Rattle.mixture.proofs.load.stale_cells.Statement.{statement}
 use Rattle.mixture.proofs.load.stale_cells.Tie as tie
 
-wide : (c : tie.After-table-width) → (1 ≤ c.table-width.result) × (c.table-width.result ≤ 32)
-wide c = let p = c.before.before.requires in (omega (arith, c.table-width.ensures, p), omega (arith, c.table-width.ensures, p))
+wide : (c : tie.After-table_width-w) → (1 ≤ c.table_width-w.result) × (c.table_width-w.result ≤ 32)
+wide c = let p = c.requires in (omega (arith, c.table_width-w.ensures, p), omega (arith, c.table_width-w.ensures, p))
 
 stale-requires : tie.Need-stale-requires
 stale-requires c κs =
     let top = c.before.before in
     let w = wide top in
-    record { some = w.0; few = w.1; rows = omega arith; columns = omega arith; marked = omega (arith, mul-le-mul w.1 w.1, top.before.before.requires) }
+    record { some = w.0; few = w.1; rows = omega arith; columns = omega arith; marked = omega (arith, mul-le-mul w.1 w.1, c.requires) }
 
 returns : tie.Need-returns
 returns c d so =
     let top = c.before.before.before.before.before in
-    cells_stale d so top.table-width.ensures c.before.before.before.before.has-groups.ensures (wide top).0 _ c.before.before.stale.ensures
+    cells_stale d so c.table_width-w.ensures c.has_groups-diagonal.ensures (wide top).0 _ c.stale.ensures
 
 pub stale_cells_spec : {M : Type 1} → statement M
 stale_cells_spec =

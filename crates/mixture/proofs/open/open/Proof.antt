@@ -6,13 +6,13 @@ use Rattle.mixture.proofs.CallLaws.{refused, done}
 use Rattle.mixture.proofs.open.open.Statement.{statement}
 use Rattle.mixture.proofs.open.open.Tie as tie
 
+returns-then-fault-ne0 : tie.Need-returns-then-fault-ne0
+unfolding after_open memory_fault
+returns-then-fault-ne0 c = refused _ _ _ c.memory_fault-fault.ensures c.if-fault-ne0.true
+
 returns : tie.Need-returns
 unfolding after_open memory_fault
-returns c = refused _ _ _ c.before.memory-fault.ensures c.if1.true
-
-returns-2 : tie.Need-returns-2
-unfolding after_open memory_fault
-returns-2 c = done _ _ (sym c.before.before.memory-fault.ensures ∙ c.before.if1.false) (rw c.no-head.ensures)
+returns c = done _ _ (sym c.memory_fault-fault.ensures ∙ c.if-fault-ne0.false) (rw c.no_head.ensures)
 
 pub open_spec : {M : Type 1} → statement M
-open_spec = tie.close (tie.spec (λ c κs. tt) returns (λ c κs. tt) returns-2)
+open_spec = tie.close (tie.spec (λ c κs. tt) returns-then-fault-ne0 (λ c κs. tt) returns)

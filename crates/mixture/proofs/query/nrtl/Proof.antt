@@ -6,16 +6,15 @@ use borrow.Author.Rules.{rules}
 use Rattle.mixture.proofs.query.nrtl.Statement.{statement}
 use Rattle.mixture.proofs.query.nrtl.Tie as tie
 
-nrtl-over-requires : tie.Need-nrtl-over-requires
-nrtl-over-requires c κs =
-    let start = c.before.before.before.before.before.before.before.before in
-    let p = start.requires in
-    let few : start.args.n ≤ 4 = omega (arith, c.before.before.before.before.if1.true) in
+nrtl_over-requires : tie.Need-nrtl_over-requires
+nrtl_over-requires c κs =
+    let p = c.requires in
+    let few : c.args.n ≤ 4 = omega (arith, c.if-n-lt5.true) in
     (p, omega (arith, p.few), mul-le-mul few few)
 
-nrtl-over-requires-2 : tie.Need-nrtl-over-requires-2
-nrtl-over-requires-2 c κs =
-    let p = c.before.before.before.before.before.before.before.before.requires in
+nrtl_over-requires-2 : tie.Need-nrtl_over-requires-2
+nrtl_over-requires-2 c κs =
+    let p = c.requires in
     (p, omega (arith, p.few), mul-le-mul p.few p.few)
 
 pub nrtl_spec : {M : Type 1} → statement M
@@ -24,13 +23,13 @@ nrtl_spec =
     (tie.spec
     (λ c. search rules)
     (λ c. search rules)
-    nrtl-over-requires
+    nrtl_over-requires
     (λ c. search rules)
     (λ c. search rules)
     (λ c. search rules)
     (λ c. search rules)
     (λ c. search rules)
-    nrtl-over-requires-2
+    nrtl_over-requires-2
     (λ c. search rules)
     (λ c. search rules)
     (λ c. search rules))

@@ -13,45 +13,37 @@ use Rattle.mixture.proofs.query.solve.Tie as tie
 abbrev mem_of : tie.Start → Memory
 mem_of s = memory s.args.values.now s.args.cells.now s.args.marks.now
 
-abbrev entry : tie.After-model-of → tie.Start
+abbrev entry : tie.After-model_of-model → tie.Start
 entry c = c.before.before.before.before.before
 
 -- the head has passed, and its model's function may be called
-passed : (c : tie.After-model-of) → let s = entry c in let m = mem_of s in
+passed : (c : tie.After-model_of-model) → let s = entry c in let m = mem_of s in
     Passed m s.args.head × Asked s.args.head.n s.args.q m.values m.cells m.marks
 passed c = query_passed (mem_of (entry c)) _ _ (entry c).requires
 
-is : (c : tie.After-model-of) {k : Model} → c.model_of.result ≡ k → model_of (entry c).args.head.model ≡ k
-is c e = sym c.model_of.ensures ∙ e
+is : (c : tie.After-model_of-model) {k : Model} → c.model_of-model.result ≡ k → model_of (entry c).args.head.model ≡ k
+is c e = sym c.model_of-model.ensures ∙ e
 
 unifac-requires : tie.Need-unifac-requires
 unifac-requires c κs =
-    let top = c.before.before.before.before.before.before in
-    (head-ranged (mem_of (entry top)) _ (passed top).0 (is top c.before.before.before.before.enum-told4.given.1), (passed top).1)
+    let top = c.before.before.before.before.before in
+    (head-ranged (mem_of (entry top)) _ (passed top).0 (is top c.in-Unifac.is), (passed top).1)
 
-returns : tie.Need-returns
-returns c =
-    let call = c.before.before.before.before in
-    let told = call.before.before.before in
-    wilson-answered _ _ _ (is told.before.before told.enum_told.given.1) call.wilson.ensures
+returns-in-Wilson : tie.Need-returns-in-Wilson
+returns-in-Wilson c =
+    wilson-answered _ _ _ (is c.before.before.before.before.before.before.before.before c.in-Wilson.is) c.wilson.ensures
 
-returns-2 : tie.Need-returns-2
-returns-2 c =
-    let call = c.before.before.before.before in
-    let told = call.before.before.before in
-    uniquac-answered _ _ _ (is told.before.before told.enum-told2.given.1) call.uniquac.ensures
+returns-in-Uniquac : tie.Need-returns-in-Uniquac
+returns-in-Uniquac c =
+    uniquac-answered _ _ _ (is c.before.before.before.before.before.before.before.before c.in-Uniquac.is) c.uniquac.ensures
 
-returns-3 : tie.Need-returns-3
-returns-3 c =
-    let call = c.before.before.before.before in
-    let told = call.before.before.before in
-    nrtl-answered _ _ _ (is told.before.before told.enum-told3.given.1) call.nrtl.ensures
+returns-in-Nrtl : tie.Need-returns-in-Nrtl
+returns-in-Nrtl c =
+    nrtl-answered _ _ _ (is c.before.before.before.before.before.before.before.before c.in-Nrtl.is) c.nrtl.ensures
 
-returns-4 : tie.Need-returns-4
-returns-4 c =
-    let call = c.before.before.before.before in
-    let told = call.before.before.before.before.before in
-    unifac-answered _ _ _ (is told.before.before told.enum-told4.given.1) call.unifac.ensures
+returns-in-Unifac : tie.Need-returns-in-Unifac
+returns-in-Unifac c =
+    unifac-answered _ _ _ (is c.before.before.before.before.before.before.before.before.before.before c.in-Unifac.is) c.unifac.ensures
 
 pub solve_spec : {M : Type 1} → statement M
 solve_spec =
@@ -59,22 +51,22 @@ solve_spec =
     (tie.spec
     (λ c κs. tt)
     (λ c. search rules)
-    (λ c κs. (passed c.before.before.before.before).1)
+    (λ c κs. (passed c.before.before.before).1)
     (λ c. search rules)
-    (λ c κs. (passed c.before.before.before.before).1)
+    (λ c κs. (passed c.before.before.before).1)
     (λ c. search rules)
-    (λ c κs. (passed c.before.before.before.before).1)
+    (λ c κs. (passed c.before.before.before).1)
     (λ c. search rules)
     unifac-requires
     (λ c. search rules)
     (λ c. search rules)
-    returns
+    returns-in-Wilson
     (λ c. search rules)
     (λ c. search rules)
-    returns-2
+    returns-in-Uniquac
     (λ c. search rules)
     (λ c. search rules)
-    returns-3
+    returns-in-Nrtl
     (λ c. search rules)
     (λ c. search rules)
-    returns-4)
+    returns-in-Unifac)

@@ -11,7 +11,7 @@ use Rattle.mixture.proofs.query.SolvedLaws.{unifac-solved}
 use Rattle.mixture.proofs.query.unifac.Statement.{statement}
 use Rattle.mixture.proofs.query.unifac.Tie as tie
 
-abbrev entry : tie.After-refill → tie.Start
+abbrev entry : tie.After-refill-count → tie.Start
 entry c = c.before.before.before.before.before.before.before.before
 
 -- the table of ng·ng is within the cells, and its td entries within the values
@@ -24,20 +24,20 @@ room s =
     let a = s.requires.1 in
     (mul-le-mul r.few_groups r.few_groups, sym (mul_assoc _ _ 5), row-end ng (ng * 5) (ng - 1) (omega (arith, r.some_groups)), r.few_groups, a.values, a.cells, a.marks)
 
-refill-requires : tie.Need-refill-requires
-refill-requires c κs =
+refill-count-requires : tie.Need-refill-count-requires
+refill-count-requires c κs =
     let s = c.before.before.before.before.before.before.before in
     let r = room s in
-    let l = from-length (s.args.ng + s.args.ng) s.args.values.now in
+    let l = from-length (c.args.ng + c.args.ng) c.args.values.now in
     (record { few = r.3; fives = omega (arith, r, l); taus = omega (arith, r, l); room = omega (arith, r) }, omega (arith, r))
 
-value-by-requires : tie.Need-value-by-requires
+value_by-value-requires : tie.Need-value_by-value-requires
 unfolding counts_at
-value-by-requires c κs =
-    let worked = c.before.before.before.before.before.before.before.before in
+value_by-value-requires c κs =
+    let worked = c.before.before.before.before.before.before.before in
     let s = entry worked in
     let r = room s in
-    let p = s.pre.0 in (
+    let p = s.requires.0 in (
       record {
         loaded =
             record {
@@ -49,16 +49,16 @@ value-by-requires c κs =
               listed = record { many = omega (arith, p.few); within = omega (arith, p.places); counted = omega (arith, r, from-length (counts_at s.args.ng) s.args.values.now, p.places); below = p.below };
             };
         fractions = omega (arith, p.few);
-        index = s.pre.1.index;
+        index = s.requires.1.index;
       },
-      omega (arith, worked.refill.auto, r),
+      omega (arith, c.refill-count.auto, r),
     )
 
 returns : tie.Need-returns
 returns c =
-    let worked = c.before.before.before.before.before.before.before.before.before in
+    let worked = c.before.before.before.before.before.before.before.before in
     let s = entry worked in
-    unifac-solved s.args.ng s.args.values.now s.args.t _ (omega (arith, room s)) worked.before.before.before.before.log.ensures _ worked.refill.ensures c.value-by.ensures
+    unifac-solved s.args.ng s.args.values.now s.args.t _ (omega (arith, room s)) c.log-ln.ensures _ c.refill-count.ensures c.value_by-value.ensures
 
 pub unifac_spec : {M : Type 1} → statement M
 unifac_spec =
@@ -71,11 +71,11 @@ unifac_spec =
     (λ c. omega (arith, room c.before.before.before.before))
     (λ c. search rules)
     (λ c. search rules)
-    refill-requires
+    refill-count-requires
     (λ c. search rules)
     (λ c. search rules)
     (λ c. search rules)
-    value-by-requires
+    value_by-value-requires
     (λ c. search rules)
     (λ c. search rules)
     returns)

@@ -6,42 +6,35 @@ use Rattle.mixture.proofs.refill.FreshLaws.{row-all, row_but, row-less}
 use Rattle.mixture.proofs.refill.count_row.Statement.{statement}
 use Rattle.mixture.proofs.refill.count_row.Tie as tie
 
+returns-then-has_groups : tie.Need-returns-then-has_groups
+returns-then-has_groups c =
+    let a = c.args in
+    row-all a.model a.marks.now a.w a.i c.requires.0 c.count_unmarked-count.ensures (sym c.has_groups.ensures ∙ c.if-has_groups.true)
+
+returns-then-marks-i-eq-FRESH : tie.Need-returns-then-marks-i-eq-FRESH
+returns-then-marks-i-eq-FRESH c =
+    let a = c.args in
+    row_but a.model a.marks.now a.w a.i c.requires.0 c.count_unmarked-count.ensures (sym c.has_groups.ensures ∙ c.if-has_groups.false) c.if-marks-i-eq-FRESH.true
+
+overflow_sub-result : tie.Need-overflow_sub-result
+overflow_sub-result c =
+    let a = c.args in
+    omega (arith, row-less a.model a.marks.now a.w a.i c.requires.0 c.count_unmarked-count.ensures (sym c.has_groups.ensures ∙ c.if-has_groups.false) c.if-marks-i-eq-FRESH.false)
+
 returns : tie.Need-returns
 returns c =
-    let s = c.before.before.before.before in
-    let a = s.args in
-    row-all a.model a.marks.now a.w a.i s.requires.0 c.before.before.count-unmarked.ensures (sym c.before.has-groups.ensures ∙ c.if1.true)
+    let a = c.args in
+    omega (arith, row-less a.model a.marks.now a.w a.i c.requires.0 c.count_unmarked-count.ensures (sym c.has_groups.ensures ∙ c.if-has_groups.false) c.if-marks-i-eq-FRESH.false)
 
-returns-2 : tie.Need-returns-2
-returns-2 c =
-    let d = c.before.before.before in
-    let s = d.before.before.before in
-    let a = s.args in
-    row_but a.model a.marks.now a.w a.i s.requires.0 d.before.count-unmarked.ensures (sym d.has-groups.ensures ∙ c.before.before.if1.false) c.if2.true
-
-sub-result : tie.Need-overflow-sub-result
-sub-result c =
-    let d = c.before.before.before in
-    let s = d.before.before.before in
-    let a = s.args in
-    omega (arith, row-less a.model a.marks.now a.w a.i s.requires.0 d.before.count-unmarked.ensures (sym d.has-groups.ensures ∙ c.before.before.if1.false) c.if2.false)
-
-returns-3 : tie.Need-returns-3
-returns-3 c =
-    let d = c.before.before.before in
-    let s = d.before.before.before in
-    let a = s.args in
-    omega (arith, row-less a.model a.marks.now a.w a.i s.requires.0 d.before.count-unmarked.ensures (sym d.has-groups.ensures ∙ c.before.before.if1.false) c.if2.false)
-
-pub count-row_spec : {M : Type 1} → statement M
-count-row_spec =
+pub count_row_spec : {M : Type 1} → statement M
+count_row_spec =
     tie.close
     (tie.spec
     (λ c κs. search rules)
     (λ c. search rules)
     (λ c κs. tt)
-    returns
+    returns-then-has_groups
     (λ c. search rules)
-    returns-2
-    sub-result
-    returns-3)
+    returns-then-marks-i-eq-FRESH
+    overflow_sub-result
+    returns)

@@ -7,33 +7,31 @@ use Rattle.mixture.proofs.refill.FreshLaws.{table-all, table-apart}
 use Rattle.mixture.proofs.refill.count_table.Statement.{statement}
 use Rattle.mixture.proofs.refill.count_table.Tie as tie
 
+returns-then-has_groups : tie.Need-returns-then-has_groups
+returns-then-has_groups c =
+    let a = c.args in
+    table-all a.model a.marks.now a.w c.count_unmarked-count.ensures (sym c.has_groups.ensures ∙ c.if-has_groups.true)
+
+overflow_sub-result : tie.Need-overflow_sub-result
+overflow_sub-result c =
+    let a = c.args in
+    omega (arith, table-apart a.model a.marks.now a.w c.count_unmarked-count.ensures (sym c.has_groups.ensures ∙ c.if-has_groups.false) c.count_diagonal.ensures)
+
 returns : tie.Need-returns
 returns c =
-    let a = c.before.before.before.before.args in
-    table-all a.model a.marks.now a.w c.before.before.count-unmarked.ensures (sym c.before.has-groups.ensures ∙ c.if1.true)
+    let a = c.args in
+    omega (arith, table-apart a.model a.marks.now a.w c.count_unmarked-count.ensures (sym c.has_groups.ensures ∙ c.if-has_groups.false) c.count_diagonal.ensures)
 
-sub-result : tie.Need-overflow-sub-result
-sub-result c =
-    let d = c.before.before in
-    let a = d.before.before.before.args in
-    omega (arith, table-apart a.model a.marks.now a.w d.before.count-unmarked.ensures (sym d.has-groups.ensures ∙ c.before.if1.false) c.count-diagonal.ensures)
-
-returns-2 : tie.Need-returns-2
-returns-2 c =
-    let d = c.before.before in
-    let a = d.before.before.before.args in
-    omega (arith, table-apart a.model a.marks.now a.w d.before.count-unmarked.ensures (sym d.has-groups.ensures ∙ c.before.if1.false) c.count-diagonal.ensures)
-
-pub count-table_spec : {M : Type 1} → statement M
-count-table_spec =
+pub count_table_spec : {M : Type 1} → statement M
+count_table_spec =
     tie.close
     (tie.spec
-    (λ c. let p = c.before.requires in omega (arith, mul-le-mul p.0 p.0))
-    (λ c κs. let p = c.before.requires in (omega (arith, mul-le-mul p.0 p.0), p.1))
+    (λ c. let p = c.requires in omega (arith, mul-le-mul p.0 p.0))
+    (λ c κs. let p = c.requires in (omega (arith, mul-le-mul p.0 p.0), p.1))
     (λ c. search rules)
     (λ c κs. tt)
-    returns
-    (λ c κs. c.before.before.before.before.requires)
+    returns-then-has_groups
+    (λ c κs. c.requires)
     (λ c. search rules)
-    sub-result
-    returns-2)
+    overflow_sub-result
+    returns)

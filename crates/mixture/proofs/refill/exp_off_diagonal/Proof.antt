@@ -6,26 +6,20 @@ use Rattle.mixture.proofs.RefillLaws.{last_row}
 use Rattle.mixture.proofs.refill.exp_off_diagonal.Statement.{statement}
 use Rattle.mixture.proofs.refill.exp_off_diagonal.Tie as tie
 
-exp-each-requires : tie.Need-exp-each-requires
-exp-each-requires c κs =
-    let lay = c.before.before.before in
-    let s = lay.before.before.before in
-    omega (arith, last_row s.args.w, s.requires.0.room, s.requires.1, lay.lay-last.auto)
+exp_each-requires : tie.Need-exp_each-requires
+exp_each-requires c κs =
+    omega (arith, last_row c.args.w, c.requires.0.room, c.requires.1, c.lay_last.auto)
 
 returns : tie.Need-returns
 returns c =
-    let lift = c.before.before in
-    let each = lift.before.before.before.before in
-    let lay = each.before.before.before.before in
-    let s = lay.before.before.before in
-    exp_off s.args.w s.requires.1 (omega (arith, last_row s.args.w, s.requires.0.room, s.requires.1, lay.lay-last.auto)) lay.lay-last.ensures each.exp-each.ensures lift.lift-last.ensures
+    exp_off c.args.w c.requires.1 (omega (arith, last_row c.args.w, c.requires.0.room, c.requires.1, c.lay_last.auto)) c.lay_last.ensures c.exp_each.ensures c.lift_last.ensures
 
 pub exp_off_diagonal_spec : {M : Type 1} → statement M
 exp_off_diagonal_spec =
     tie.close
     (tie.spec
     (λ c κs. search rules)
-    exp-each-requires
+    exp_each-requires
     (λ c κs. search rules)
     (λ c. search rules)
     returns)

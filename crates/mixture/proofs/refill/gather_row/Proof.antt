@@ -5,13 +5,10 @@ use Rattle.mixture.proofs.refill.GatherLaws.{gathered-all, gathered-count, unifa
 use Rattle.mixture.proofs.refill.gather_row.Statement.{statement}
 use Rattle.mixture.proofs.refill.gather_row.Tie as tie
 
-returns : tie.Need-returns
-returns c =
-    let fill = c.before.before in
-    let told = fill.before.before.before.before in
-    let s = told.before.before.before.before.before.before in
-    gathered-all _ _ _ s.requires.2 fill.before.before.if2.true
-    (unifac_arguments s.args.rows.model _ _ _ _ _ (sym told.before.has-groups.ensures ∙ told.if1.true) fill.fill-arguments.ensures)
+returns-then-count-rows : tie.Need-returns-then-count-rows
+returns-then-count-rows c =
+    gathered-all _ _ _ c.requires.2 c.if-count-rows.true
+    (unifac_arguments c.args.rows.model _ _ _ _ _ (sym c.has_groups.ensures ∙ c.if-has_groups.true) c.fill_arguments.ensures)
 
 pub gather_row_spec : {M : Type 1} → statement M
 gather_row_spec =
@@ -20,9 +17,9 @@ gather_row_spec =
     (λ c κs. tt)
     (λ c κs. search rules)
     (λ c. search rules)
-    returns
+    returns-then-count-rows
     (λ c κs. search rules)
     (λ c. search rules)
     (λ c.
     let got = c.before.before in
-    gathered-count got.before.before.before.before.before.before.before.before.requires.2 got.gather.ensures))
+    gathered-count got.requires.2 got.gather.ensures))

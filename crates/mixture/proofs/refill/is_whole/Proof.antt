@@ -8,22 +8,21 @@ use borrow.Author.Tests.{eqb-true}
 use Rattle.mixture.proofs.refill.is_whole.Statement.{statement}
 use Rattle.mixture.proofs.refill.is_whole.Tie as tie
 
-mul-result : tie.Need-overflow-mul-result
-mul-result c =
-    let s = c.before.before.before in
-    let h : s.args.w - 1 ≤ 32 = omega (arith, s.requires.1) in
-    omega (arith, mul-le-mul h s.requires.1)
+overflow_mul-result : tie.Need-overflow_mul-result
+overflow_mul-result c =
+    let h : c.args.w - 1 ≤ 32 = omega (arith, c.requires.1) in
+    omega (arith, mul-le-mul h c.requires.1)
 
-returns-3 : tie.Need-returns-3
-returns-3 c e = (omega arith, eqb-true _ _ e, sym c.before.before.has-groups.ensures ∙ c.before.if1.false)
+returns : tie.Need-returns
+returns c e = (omega arith, eqb-true _ _ e, sym c.has_groups.ensures ∙ c.if-has_groups.false)
 
-pub is-whole_spec : {M : Type 1} → statement M
-is-whole_spec =
+pub is_whole_spec : {M : Type 1} → statement M
+is_whole_spec =
     tie.close
     (tie.spec
     (λ c κs. tt)
     (λ c e. absurd (false≢true e))
     (λ c e. absurd (false≢true e))
     (λ c. omega arith)
-    mul-result
-    returns-3)
+    overflow_mul-result
+    returns)

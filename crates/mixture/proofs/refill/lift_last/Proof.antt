@@ -8,38 +8,35 @@ use Rattle.mixture.proofs.refill.GatherLaws.{moved_none, moved-done, lifted_more
 use Rattle.mixture.proofs.refill.lift_last.Statement.{statement}
 use Rattle.mixture.proofs.refill.lift_last.Tie as tie
 
-abbrev invariant_loop : tie.invariant_loop
-invariant_loop w a₀ last i₀ i-end a i = (i ≤ w - 1) × (length a ≡ length a₀) × Moved (λ i. (w - 1) * w + i) (λ i. i * w + i) i a₀ a
+abbrev invariant-loop-i : tie.invariant-loop-i
+invariant-loop-i w a₀ last i₀ i-end a i = (i ≤ w - 1) × (length a ≡ length a₀) × Moved (λ i. (w - 1) * w + i) (λ i. i * w + i) i a₀ a
 
-abbrev decreases_loop : tie.decreases_loop
-decreases_loop w a₀ last i₀ i-end a i = w - 1 - i
+abbrev decreases-loop-i : tie.decreases-loop-i
+decreases-loop-i w a₀ last i₀ i-end a i = w - 1 - i
 
 -- place i of row i, and of the last row, is within the table and below 1,024
-within : (c : tie.In-loop invariant_loop decreases_loop) → let s = c.before.before in let w = s.args.w in let i = c.before.loop.i in
-    (i * w + i < w * w) × ((w - 1) * w + i < w * w) × (w * w ≤ 1024) × (w * w ≤ length c.before.loop.a)
+within : (c : tie.In-loop-i invariant-loop-i decreases-loop-i) → let w = c.args.w in let i = c.loop-i.i in
+    (i * w + i < w * w) × ((w - 1) * w + i < w * w) × (w * w ≤ 1024) × (w * w ≤ length c.loop-i.a)
 within c =
-    let s = c.before.before in
-    let r = diagonal_room s.args.w c.before.loop.i c.loop-test.true s.requires.few in
-    (r.0, r.1, r.2, omega (arith, s.requires.room, c.before.loop.invariant.1))
+    let r = diagonal_room c.args.w c.loop-i.i c.loop-i-test.true c.requires.few in
+    (r.0, r.1, r.2, omega (arith, c.requires.room, c.loop-i.invariant.1))
 
-loop-again : tie.Need-loop-preserved invariant_loop decreases_loop
-loop-again c =
-    let turn = c.before in
-    let s = turn.before.before in (
-      omega arith,
-      simp length-set turn.before.loop.invariant.1,
-      lifted_more s.args.w turn.before.loop.i turn.loop-test.true turn.before.loop.invariant.1 s.requires.room turn.before.loop.invariant.2,
-    )
+loop-i-preserved : tie.Need-loop-i-preserved invariant-loop-i decreases-loop-i
+loop-i-preserved c = (
+  omega arith,
+  simp length-set c.loop-i.invariant.1,
+  lifted_more c.args.w c.loop-i.i c.loop-i-test.true c.loop-i.invariant.1 c.requires.room c.loop-i.invariant.2,
+)
 
-returns : tie.Need-returns invariant_loop decreases_loop
-returns c = moved-done c.before.loop.invariant.0 c.loop-test.false c.before.loop.invariant.2
+returns : tie.Need-returns invariant-loop-i decreases-loop-i
+returns c = moved-done c.loop-i.invariant.0 c.loop-i-test.false c.loop-i.invariant.2
 
 pub lift_last_spec : {M : Type 1} → statement M
 lift_last_spec =
     tie.close
     (tie.spec
-    invariant_loop
-    decreases_loop
+    invariant-loop-i
+    decreases-loop-i
     (λ c. omega arith)
     (λ c. omega (arith, last-start c.args.w c.requires.few))
     (λ c. omega arith)
@@ -53,6 +50,6 @@ lift_last_spec =
     (λ c. omega (arith, within c.before))
     (λ c. omega arith)
     (λ c. omega arith)
-    loop-again
-    (λ c. c.before.loop.invariant.1)
+    loop-i-preserved
+    (λ c. c.loop-i.invariant.1)
     returns)

@@ -9,22 +9,16 @@ use Rattle.mixture.proofs.RefillLaws.{refilled-fresh, refilled-count}
 use Rattle.mixture.proofs.refill.refill_row.Statement.{statement}
 use Rattle.mixture.proofs.refill.refill_row.Tie as tie
 
-exp-each-requires : tie.Need-exp-each-requires
-exp-each-requires c κs =
-    let got = c.before.before in
-    let s = got.before.before.before.before.before.before.before.before.before.before.before.before in
-    omega (arith, gathered-few got.gather-row.ensures, s.requires.0.few, got.gather-row.auto)
+exp_each-requires : tie.Need-exp_each-requires
+exp_each-requires c κs =
+    omega (arith, gathered-few c.gather_row.ensures, c.requires.0.few, c.gather_row.auto)
 
-returns-3 : tie.Need-returns-3
-returns-3 c =
-    let put = c.before.before.before.before in
-    let each = put.before.before.before.before.before in
-    let got = each.before.before.before in
-    let s = got.before.before.before.before.before.before.before.before.before.before.before.before in
-    refilled-count got.before.before.before.before.count-row.ensures
+returns : tie.Need-returns
+returns c =
+    refilled-count c.count_row-count.ensures
     (refilled_where _ _ _ _ _ _
-    (gathered_exp (omega (arith, gathered-few got.gather-row.ensures, s.requires.0.few, got.gather-row.auto)) got.gather-row.ensures (λ j. row_exp _ _ _ _ _ _ j) each.exp-each.ensures)
-    put.put-stale.ensures)
+    (gathered_exp (omega (arith, gathered-few c.gather_row.ensures, c.requires.0.few, c.gather_row.auto)) c.gather_row.ensures (λ j. row_exp _ _ _ _ _ _ j) c.exp_each.ensures)
+    c.put_stale.ensures)
 
 pub refill_row_spec : {M : Type 1} → statement M
 refill_row_spec =
@@ -36,13 +30,13 @@ refill_row_spec =
     (λ c. search rules)
     (λ c κs. search rules)
     (λ c. search rules)
-    (λ c. refilled-fresh _ _ _ _ _ (none_of _ _ (sym c.before.count-row.ensures ∙ c.if2.true)))
+    (λ c. refilled-fresh _ _ _ _ _ (none_of _ _ (sym c.count_row-count.ensures ∙ c.if-count-eq0.true)))
     (λ c. search rules)
     (λ c κs. search rules)
     (λ c. search rules)
-    exp-each-requires
+    exp_each-requires
     (λ c. search rules)
     (λ c κs. search rules)
     (λ c. search rules)
     (λ c. search rules)
-    returns-3)
+    returns)

@@ -7,15 +7,11 @@ use Rattle.mixture.proofs.refill.refill_table.Tie as tie
 
 returns : tie.Need-returns
 returns c =
-    let take = c.before.before.before.before in
-    let taken = take.before.before.before.before.before.before in
-    let fill = taken.before.before.before.before in
-    let s = fill.before.before.before.before.before.before.before in
-    let a = s.args in
-    refilled-count s.requires.0.counted
+    let a = c.args in
+    refilled-count c.requires.0.counted
     (refilled_where _ _ _ _ _ _
-    (table-cells a.rows a.table.now a.tau.now a.marks.now s.requires.0.apart fill.fill-table.ensures taken.exp-off-diagonal.ensures)
-    take.take-rows.ensures)
+    (table-cells a.rows a.table.now a.tau.now a.marks.now c.requires.0.apart c.fill_table.ensures c.exp_off_diagonal.ensures)
+    c.take_rows.ensures)
 
 pub refill_table_spec : {M : Type 1} → statement M
 refill_table_spec =

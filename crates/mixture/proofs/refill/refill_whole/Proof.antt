@@ -18,17 +18,17 @@ table_fits c k h out e =
     let p = c.requires.1 in
     record { few = p.few; fives = p.fives; taus = p.taus; room = omega arith }
 
-refill-table-requires : tie.Need-refill-table-requires
-refill-table-requires c κs =
+refill_table-requires : tie.Need-refill_table-requires
+refill_table-requires c κs =
     let start = c.before.before.before.before.before.before.before.before.before in
-    let p = start.requires in
-    let few : start.args.rows.w ≤ 4 = omega (arith, c.before.before.before.if1.true) in
+    let p = c.requires in
+    let few : c.args.rows.w ≤ 4 = omega (arith, c.if-rows-lt5.true) in
     (p.0, table_fits start 16 (mul-le-mul few few) _ refl, p.1.room, p.2)
 
-refill-table-requires-2 : tie.Need-refill-table-requires-2
-refill-table-requires-2 c κs =
+refill_table-requires-2 : tie.Need-refill_table-requires-2
+refill_table-requires-2 c κs =
     let start = c.before.before.before.before.before.before.before.before.before in
-    let p = start.requires in
+    let p = c.requires in
     (p.0, table_fits start 144 (mul-le-mul p.0.few p.0.few) _ refl, p.1.room, p.2)
 
 pub refill_whole_spec : {M : Type 1} → statement M
@@ -36,12 +36,12 @@ refill_whole_spec =
     tie.close
     (tie.spec
     (λ c. search rules)
-    refill-table-requires
+    refill_table-requires
     (λ c. search rules)
     (λ c. search rules)
     (λ c. search rules)
     (λ c. search rules)
-    refill-table-requires-2
+    refill_table-requires-2
     (λ c. search rules)
     (λ c. search rules)
     (λ c. search rules))

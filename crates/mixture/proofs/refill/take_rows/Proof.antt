@@ -11,48 +11,48 @@ use Rattle.mixture.proofs.RefillLaws.{Refilling, refilling, refilling-count, ref
 use Rattle.mixture.proofs.refill.take_rows.Statement.{statement}
 use Rattle.mixture.proofs.refill.take_rows.Tie as tie
 
-abbrev invariant_loop : tie.invariant_loop
-invariant_loop model w worked cells₀ marks₀ i₀ cells marks i =
+abbrev invariant-loop-i : tie.invariant-loop-i
+invariant-loop-i model w worked cells₀ marks₀ i₀ cells marks i =
     (i ≤ w) × Refilling (i * w) (stale_of model w marks₀) (at worked) cells₀ marks₀ cells marks (how_many (i * w) (stale_of model w marks₀))
 
-abbrev decreases_loop : tie.decreases_loop
-decreases_loop model w worked cells₀ marks₀ i₀ cells marks i = w - i
+abbrev decreases-loop-i : tie.decreases-loop-i
+decreases-loop-i model w worked cells₀ marks₀ i₀ cells marks i = w - i
 
-abbrev entry : tie.In-loop invariant_loop decreases_loop → tie.Start invariant_loop decreases_loop
+abbrev entry : tie.In-loop-i invariant-loop-i decreases-loop-i → tie.Start invariant-loop-i decreases-loop-i
 entry c = c.before.before.before.before.before
 
 -- row i ends within the w·w cells
-room : (c : tie.In-loop invariant_loop decreases_loop) → let w = (entry c).args.w in (c.before.loop.i * w + w ≤ w * w) × (w * w ≤ 1024)
-room c = let r = row_room _ 0 _ (entry c).requires.few c.loop-test.true in (r.0, r.1)
+room : (c : tie.In-loop-i invariant-loop-i decreases-loop-i) → let w = (entry c).args.w in (c.loop-i.i * w + w ≤ w * w) × (w * w ≤ 1024)
+room c = let r = row_room _ 0 _ (entry c).requires.few c.loop-i-test.true in (r.0, r.1)
 
-take-stale-requires : tie.Need-take-stale-requires invariant_loop decreases_loop
-take-stale-requires c κs =
+take_stale-requires : tie.Need-take_stale-requires invariant-loop-i decreases-loop-i
+take_stale-requires c κs =
     let turn = c.before.before.before in
     let p = (entry turn).requires in
-    let above = turn.before.loop in
+    let above = c.loop-i in
     let kept = above.invariant.1.long in
-    let b = turn.loop-test.true in
+    let b = c.loop-i-test.true in
     (part-long (entry turn).args.worked.now b refl p.table, part-long above.cells b kept.0 p.room, part-long above.marks b kept.1 p.marked)
 
-loop-again : tie.Need-loop-preserved invariant_loop decreases_loop
-loop-again c =
+loop-i-preserved : tie.Need-loop-i-preserved invariant-loop-i decreases-loop-i
+loop-i-preserved c =
     let turn = c.before.before.before.before.before.before.before.before in
     let a = (entry turn).args in
     let p = (entry turn).requires in
     let more =
-    rows_more a.model a.w turn.before.loop.i _ _ a.cells.now a.marks.now turn.loop-test.true p.room p.marked
-    (λ j b. from_at a.worked.now _ j (omega (arith, room turn, p.table))) turn.before.loop.invariant.1.all c.before.before.before.before.take-stale.ensures in
+    rows_more a.model a.w c.loop-i.i _ _ a.cells.now a.marks.now c.loop-i-test.true p.room p.marked
+    (λ j b. from_at a.worked.now _ j (omega (arith, room turn, p.table))) c.loop-i.invariant.1.all c.take_stale.ensures in
     (more.0, refilling-count more.1)
 
-returns : tie.Need-returns invariant_loop decreases_loop
-returns c = refilled-count refl (refilled-done _ _ c.before.loop.invariant.0 c.loop-test.false c.before.loop.invariant.1.all)
+returns : tie.Need-returns invariant-loop-i decreases-loop-i
+returns c = refilled-count refl (refilled-done _ _ c.loop-i.invariant.0 c.loop-i-test.false c.loop-i.invariant.1.all)
 
-pub take-rows_spec : {M : Type 1} → statement M
-take-rows_spec =
+pub take_rows_spec : {M : Type 1} → statement M
+take_rows_spec =
     tie.close
     (tie.spec
-    invariant_loop
-    decreases_loop
+    invariant-loop-i
+    decreases-loop-i
     (λ c. (omega arith, refilling-count (refilling (refilled-none _ _ _ _ _ (zero-mul _)))))
     (λ c. omega (arith, room c))
     (λ c. omega (arith, room c))
@@ -66,10 +66,10 @@ take-rows_spec =
     (λ c. omega (arith, room c.before.before))
     (λ c. omega (arith, room c.before.before))
     (λ c. omega arith)
-    take-stale-requires
+    take_stale-requires
     (λ c. omega arith)
     (λ c. omega arith)
-    loop-again
-    (λ c. c.before.loop.invariant.1.long.0)
-    (λ c. c.before.loop.invariant.1.long.1)
+    loop-i-preserved
+    (λ c. c.loop-i.invariant.1.long.0)
+    (λ c. c.loop-i.invariant.1.long.1)
     returns)

@@ -8,45 +8,43 @@ use Rattle.mixture.proofs.SetLaws.{SetFits, set-fits, set-done, set-refused}
 use Rattle.mixture.proofs.set.change.Statement.{statement}
 use Rattle.mixture.proofs.set.change.Tie as tie
 
-abbrev entry : tie.After-setting-fault → tie.Start
+abbrev entry : tie.After-setting_fault-fault → tie.Start
 entry c = c.before.before.before.before
 
 abbrev mem_of : tie.Start → Memory
 mem_of s = memory s.args.values.now s.args.cells.now s.args.marks.now
 
-fault : (c : tie.After-setting-fault) → let s = entry c in c.setting-fault.result ≡ setting_fault (mem_of s) s.args.head s.args.s
-fault c = c.setting-fault.ensures (mem_of (entry c)) (refl, refl, refl)
+fault : (c : tie.After-setting_fault-fault) → let s = entry c in c.setting_fault-fault.result ≡ setting_fault (mem_of s) s.args.head s.args.s
+fault c = c.setting_fault-fault.ensures (mem_of (entry c)) (refl, refl, refl)
 
-none : (c : tie.Else1) → let s = entry c.before in setting_fault (mem_of s) s.args.head s.args.s ≡ 0
-none c = sym (fault c.before) ∙ c.if1.false
+none : (c : tie.Else-fault-ne0) → let s = entry c.before in setting_fault (mem_of s) s.args.head s.args.s ≡ 0
+none c = sym (fault c.before) ∙ c.if-fault-ne0.false
 
-fits : (c : tie.Else1) → let s = entry c.before in SetFits (mem_of s) s.args.head s.args.s
+fits : (c : tie.Else-fault-ne0) → let s = entry c.before in SetFits (mem_of s) s.args.head s.args.s
 fits c = set-fits _ _ _ (none c)
 
-returns : tie.Need-returns
-returns c = set-refused (mem_of (entry c.before)) _ _ (fault c.before) c.if1.true
+returns-then-fault-ne0 : tie.Need-returns-then-fault-ne0
+returns-then-fault-ne0 c = set-refused (mem_of (entry c.before)) _ _ (fault c.before) c.if-fault-ne0.true
 
 put-requires : tie.Need-put-requires
-put-requires c κs = omega (arith, (fits c.before.before).values, c.before.store_at.ensures)
+put-requires c κs = omega (arith, (fits c.before.before).values, c.store_at-at.ensures)
 
-stale-by-requires : tie.Need-stale-by-requires
-stale-by-requires c κs = let f = fits c.before.before.before.before.before.before in (f.ok, f.marks)
+stale_by-requires : tie.Need-stale_by-requires
+stale_by-requires c κs = let f = fits c.before.before.before.before.before.before in (f.ok, f.marks)
 
-returns-2 : tie.Need-returns-2
-returns-2 c =
-    let stored = c.before.before.before.before.before.before in
-    let placed = stored.before.before in
-    set-done (mem_of (entry placed.before.before)) _ _ (none placed.before) placed.store_at.ensures stored.put.ensures c.before.before.stale-by.ensures refl
+returns : tie.Need-returns
+returns c =
+    set-done (mem_of (entry c.before.before.before.before.before.before.before.before.before.before)) _ _ (none c.before.before.before.before.before.before.before.before.before) c.store_at-at.ensures c.put.ensures c.stale_by.ensures refl
 
 pub change_spec : {M : Type 1} → statement M
 change_spec =
     tie.close
     (tie.spec
     (λ c κs. tt)
-    returns
+    returns-then-fault-ne0
     (λ c κs. (fits c).ok)
     put-requires
-    stale-by-requires
+    stale_by-requires
     (λ c. search rules)
     (λ c. search rules)
-    returns-2)
+    returns)

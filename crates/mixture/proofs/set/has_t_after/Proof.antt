@@ -5,21 +5,21 @@ use Rattle.mixture.specs.Calls.{has_t_after}
 use Rattle.mixture.proofs.set.has_t_after.Statement.{statement}
 use Rattle.mixture.proofs.set.has_t_after.Tie as tie
 
-pub has-t-after_spec : {M : Type 1} → statement M
+pub has_t_after_spec : {M : Type 1} → statement M
 unfolding has_t_after
-has-t-after_spec =
+has_t_after_spec =
     tie.close
     (tie.spec
-    (λ c. rw (ne_eqb _ _ c.if1.true))
+    (λ c. rw (ne_eqb _ _ c.if-fault-ne0.true))
     (λ c. search rules)
     (λ c. search rules)
     (λ c. search rules)
     (λ c. search rules)
     (λ c. search rules)
     (λ c. search rules)
-    (λ c. rw (eq-eqb _ _ c.before.before.if1.false, c.enum_told.given.1))
-    (λ c. rw (eq-eqb _ _ c.before.before.if1.false, c.enum-told2.given.1))
-    (λ c. rw (eq-eqb _ _ c.before.before.if1.false, c.enum-told3.given.1))
-    (λ c. rw (eq-eqb _ _ c.before.before.if1.false, c.enum-told4.given.1))
-    (λ c. rw (eq-eqb _ _ c.before.before.if1.false, c.enum-told5.given.1))
-    (λ c. rw (eq-eqb _ _ c.before.before.if1.false, c.enum-told6.given.1)))
+    (λ c. rw (eq-eqb _ _ c.if-fault-ne0.false, c.in-Temperature.is))
+    (λ c. rw (eq-eqb _ _ c.if-fault-ne0.false, c.in-Entry.is))
+    (λ c. rw (eq-eqb _ _ c.if-fault-ne0.false, c.in-TdEntry.is))
+    (λ c. rw (eq-eqb _ _ c.if-fault-ne0.false, c.in-Size.is))
+    (λ c. rw (eq-eqb _ _ c.if-fault-ne0.false, c.in-Count.is))
+    (λ c. rw (eq-eqb _ _ c.if-fault-ne0.false, c.in-Tolerance.is)))

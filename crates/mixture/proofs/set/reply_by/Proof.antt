@@ -6,10 +6,10 @@ use Rattle.mixture.proofs.set.reply_by.Tie as tie
 
 returns : tie.Need-returns
 returns c =
-    let a = c.before.before.before.before.args in
+    let a = c.args in
     reply-is a.head a.s a.fault
-    (head_changed a.head a.s a.fault c.before.before.before.t-after.ensures c.before.before.has-t-after.ensures c.before.tolerance-after.ensures)
-    c.answer-by.ensures
+    (head_changed a.head a.s a.fault c.t_after.ensures c.has_t_after.ensures c.tolerance_after.ensures)
+    c.answer_by.ensures
 
 pub reply_by_spec : {M : Type 1} → statement M
 reply_by_spec = tie.close (tie.spec (λ c κs. search rules) (λ c κs. search rules) (λ c κs. search rules) (λ c κs. search rules) returns)

@@ -4,11 +4,11 @@ use Rattle.mixture.proofs.SetLaws.{replied}
 use Rattle.mixture.proofs.set.set.Statement.{statement}
 use Rattle.mixture.proofs.set.set.Tie as tie
 
-returns : tie.Need-returns
-returns c = replied c.reply-by.ensures c.before.before.before.before.before.change.ensures
+returns-then-head : tie.Need-returns-then-head
+returns-then-head c = replied c.reply_by.ensures c.change-fault.ensures
 
-returns-2 : tie.Need-returns-2
-returns-2 c = replied c.reply-by2.ensures c.before.before.before.before.before.change2.ensures
+returns : tie.Need-returns
+returns c = replied c.reply_by-2.ensures c.change-fault-2.ensures
 
 pub set_spec : {M : Type 1} → statement M
 set_spec =
@@ -18,9 +18,9 @@ set_spec =
     (λ c κs. search rules)
     (λ c. search rules)
     (λ c. search rules)
-    returns
+    returns-then-head
     (λ c κs. search rules)
     (λ c κs. search rules)
     (λ c. search rules)
     (λ c. search rules)
-    returns-2)
+    returns)

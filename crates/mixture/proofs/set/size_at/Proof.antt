@@ -10,11 +10,11 @@ use Rattle.mixture.proofs.set.size_at.Tie as tie
 room : (s : tie.Start) → let a = s.args in (a.w * a.w ≤ 1024) × (a.which * a.w ≤ 32)
 room s = let one : s.args.which ≤ 1 = omega arith in (mul-le-mul s.requires.0 s.requires.0, mul-le-mul one s.requires.0)
 
-add-result-2 : tie.Need-overflow-add-result-2
-add-result-2 c = let a = c.before.args in omega (arith, room c.before, c.by_model_lem.ensures, first-le (a.w * a.w) a.model)
+overflow_add-result-2 : tie.Need-overflow_add-result-2
+overflow_add-result-2 c = let a = c.args in omega (arith, room c.before, c.by_model.ensures, first-le (a.w * a.w) a.model)
 
-pub size-at_spec : {M : Type 1} → statement M
-size-at_spec =
+pub size_at_spec : {M : Type 1} → statement M
+size_at_spec =
     tie.close
     (tie.spec
     (λ c. omega (arith, room c))
@@ -22,5 +22,5 @@ size-at_spec =
     (λ c κs. tt)
     (λ c. omega (arith, room c.before))
     (λ c. omega (arith, room c.before))
-    add-result-2
+    overflow_add-result-2
     (λ c. search rules))

@@ -6,16 +6,11 @@ use Rattle.mixture.proofs.set.stale_by.Tie as tie
 
 stale-requires : tie.Need-stale-requires
 stale-requires c κs =
-    let wide = c.before.before.before in
-    let s = wide.before.before.before in
-    fits_by_lem s.args.head wide.before.model_of.ensures wide.table-width.ensures s.args.s s.requires.0 c.before.Block-of.ensures s.requires.1
+    fits_by_lem c.args.head c.model_of-model.ensures c.table_width-w.ensures c.args.s c.requires.0 c.block_of-block.ensures c.requires.1
 
 returns : tie.Need-returns
 returns c =
-    let block = c.before.before.before.before in
-    let wide = block.before.before in
-    let s = wide.before.before.before in
-    stale_is s.args.head wide.before.model_of.ensures wide.table-width.ensures block.before.has-groups.ensures s.args.s s.requires.0 _ block.Block-of.ensures c.before.before.stale.ensures
+    stale_is c.args.head c.model_of-model.ensures c.table_width-w.ensures c.has_groups-diagonal.ensures c.args.s c.requires.0 _ c.block_of-block.ensures c.stale.ensures
 
 pub stale_by_spec : {M : Type 1} → statement M
 stale_by_spec =

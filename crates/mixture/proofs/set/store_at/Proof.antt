@@ -4,38 +4,38 @@ use Rattle.mixture.proofs.SetLaws.{entry-within, entry_place, td_within, td_plac
 use Rattle.mixture.proofs.set.store_at.Statement.{statement}
 use Rattle.mixture.proofs.set.store_at.Tie as tie
 
-abbrev entry : tie.After-table-width → tie.Start
+abbrev entry : tie.After-table_width-w → tie.Start
 entry c = c.before.before
 
-entry-at-requires : tie.Need-entry-at-requires
-entry-at-requires c κs = let top = c.before.before.before in entry-within (entry top).args.head (entry top).requires top.before.model_of.ensures top.table-width.ensures c.before.s.given.1
+entry_at-requires : tie.Need-entry_at-requires
+entry_at-requires c κs = let top = c.before in entry-within (entry top).args.head (entry top).requires c.model_of-model.ensures c.table_width-w.ensures c.in-Entry.is
 
-td-at-requires : tie.Need-td-at-requires
-td-at-requires c κs = let top = c.before.before.before in td_within (entry top).args.head (entry top).requires top.before.model_of.ensures top.table-width.ensures c.before.s2.given.1
+td_at-requires : tie.Need-td_at-requires
+td_at-requires c κs = let top = c.before in td_within (entry top).args.head (entry top).requires c.model_of-model.ensures c.table_width-w.ensures c.in-TdEntry.is
 
-size-at-requires : tie.Need-size-at-requires
-size-at-requires c κs = let top = c.before.before.before in size-within (entry top).args.head (entry top).requires top.before.model_of.ensures top.table-width.ensures c.before.s3.given.1
+size_at-requires : tie.Need-size_at-requires
+size_at-requires c κs = let top = c.before in size-within (entry top).args.head (entry top).requires c.model_of-model.ensures c.table_width-w.ensures c.in-Size.is
 
-count-at-requires : tie.Need-count-at-requires
-count-at-requires c κs = let top = c.before.before.before.before in count-within (entry top).args.head (entry top).requires c.before.before.s4.given.1
+count_at-requires : tie.Need-count_at-requires
+count_at-requires c κs = let top = c.before.before in count-within (entry top).args.head (entry top).requires c.in-Count.is
 
-returns : tie.Need-returns
-returns c = temperature-place (entry c.before.before).args.head c.enum_told.given.1
+returns-in-Temperature : tie.Need-returns-in-Temperature
+returns-in-Temperature c = temperature-place (entry c.before).args.head c.in-Temperature.is
 
-returns-2 : tie.Need-returns-2
-returns-2 c = let top = c.before.before.before.before in entry_place (entry top).args.head (entry top).requires top.before.model_of.ensures top.table-width.ensures c.before.before.s.given.1 c.entry_at.ensures
+returns-in-Entry : tie.Need-returns-in-Entry
+returns-in-Entry c = let top = c.before.before in entry_place (entry top).args.head (entry top).requires c.model_of-model.ensures c.table_width-w.ensures c.in-Entry.is c.entry_at.ensures
 
-returns-3 : tie.Need-returns-3
-returns-3 c = let top = c.before.before.before.before in td_place (entry top).args.head (entry top).requires top.before.model_of.ensures top.table-width.ensures c.before.before.s2.given.1 c.td-at.ensures
+returns-in-TdEntry : tie.Need-returns-in-TdEntry
+returns-in-TdEntry c = let top = c.before.before in td_place (entry top).args.head (entry top).requires c.model_of-model.ensures c.table_width-w.ensures c.in-TdEntry.is c.td_at.ensures
 
-returns-4 : tie.Need-returns-4
-returns-4 c = let top = c.before.before.before.before in size-place (entry top).args.head (entry top).requires top.before.model_of.ensures top.table-width.ensures c.before.before.s3.given.1 c.size-at.ensures
+returns-in-Size : tie.Need-returns-in-Size
+returns-in-Size c = let top = c.before.before in size-place (entry top).args.head (entry top).requires c.model_of-model.ensures c.table_width-w.ensures c.in-Size.is c.size_at.ensures
 
-returns-5 : tie.Need-returns-5
-returns-5 c = let top = c.before.before.before.before.before in count-place (entry top).args.head (entry top).requires c.before.before.before.s4.given.1 c.count_at.ensures
+returns-in-Count : tie.Need-returns-in-Count
+returns-in-Count c = let top = c.before.before.before in count-place (entry top).args.head (entry top).requires c.in-Count.is c.count_at.ensures
 
-returns-6 : tie.Need-returns-6
-returns-6 c = tolerance-place (entry c.before.before).args.head c.enum-told2.given.1
+returns-in-Tolerance : tie.Need-returns-in-Tolerance
+returns-in-Tolerance c = tolerance-place (entry c.before).args.head c.in-Tolerance.is
 
 pub store_at_spec : {M : Type 1} → statement M
 store_at_spec =
@@ -45,17 +45,17 @@ store_at_spec =
     (λ c κs. tt)
     (λ c. search rules)
     (λ c. search rules)
-    entry-at-requires
+    entry_at-requires
     (λ c. search rules)
-    td-at-requires
+    td_at-requires
     (λ c. search rules)
-    size-at-requires
+    size_at-requires
     (λ c. search rules)
-    count-at-requires
+    count_at-requires
     (λ c. search rules)
-    returns
-    returns-2
-    returns-3
-    returns-4
-    returns-5
-    returns-6)
+    returns-in-Temperature
+    returns-in-Entry
+    returns-in-TdEntry
+    returns-in-Size
+    returns-in-Count
+    returns-in-Tolerance)

@@ -6,8 +6,8 @@ use Rattle.mixture.proofs.SetLaws.{entry-room, last-le}
 use Rattle.mixture.proofs.set.td_at.Statement.{statement}
 use Rattle.mixture.proofs.set.td_at.Tie as tie
 
-add-result-2 : tie.Need-overflow-add-result-2
-add-result-2 c = let a = c.before.args in omega (arith, entry-room c.before.requires, c.by_model_lem.ensures, last-le (a.w + a.w) a.model)
+overflow_add-result-2 : tie.Need-overflow_add-result-2
+overflow_add-result-2 c = let a = c.args in omega (arith, entry-room c.requires, c.by_model.ensures, last-le (a.w + a.w) a.model)
 
 pub td_at_spec : {M : Type 1} → statement M
 td_at_spec =
@@ -15,8 +15,8 @@ td_at_spec =
     (tie.spec
     (λ c. search rules)
     (λ c κs. tt)
-    (λ c. omega (arith, entry-room c.before.requires))
-    (λ c. omega (arith, entry-room c.before.requires))
-    (λ c. omega (arith, entry-room c.before.requires))
-    add-result-2
+    (λ c. omega (arith, entry-room c.requires))
+    (λ c. omega (arith, entry-room c.requires))
+    (λ c. omega (arith, entry-room c.requires))
+    overflow_add-result-2
     (λ c. search rules))
