@@ -1,6 +1,6 @@
 -- The plain calls by bytes, for the test host: a model by its number, 1 Wilson to 4 UNIFAC, and floats in bytes. docs/DECISIONS.md, "Exported byte slices".
 use Rattle.std.specs.Prelude.{◌≡◌, cond, List, ℕ, ◌%◌, eqb, length, Float}
-use Rattle.std.specs.Borrow.{Bor}
+use Rattle.std.specs.Borrow.{Bor, MutBor}
 use denote.Triple.Both.{Both}
 use Rattle.arithmetic.specs.Bytes.{floats}
 use Rattle.models.specs.declared.answers.Quantity.{Quantity}
@@ -37,5 +37,5 @@ left (Value v) old = v
 left (Refused k) old = old
 
 -- the number that it answers, and that result
-abbrev pub Gives : Answer → Both (Bor Float) (Bor Float) → ℕ → Type 0
+abbrev pub Gives : Answer → Both (MutBor Float) (MutBor Float) → ℕ → Type 0
 Gives a value r = (r ≡ number_of a) × (value.exit.now ≡ left a value.entry.now)

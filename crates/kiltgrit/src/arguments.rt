@@ -14,7 +14,7 @@ const NO_INDEX: usize = 18446744073709551615;
 
 // The kind is the strip's: 5 temperature, 7 entry, 8 td entry, 9 size, 10 count; and 14 tolerance.
 #[repr(C)]
-#[derive(Drop)]
+#[derive(Clone, Copy)]
 pub struct CSetting {
     pub v: [f64; 5],
     pub i: usize,

@@ -13,7 +13,7 @@ use models::limits::{COMPONENTS, PLACES};
 // bits of a caller's are out of range. Form and changes are kept for later: written 0 and not read, as the
 // unused bytes.
 #[repr(C)]
-#[derive(Drop)]
+#[derive(Clone, Copy)]
 pub struct CHead {
     pub model: u8,
     pub form: u8,
@@ -33,7 +33,7 @@ pub struct CHead {
 
 // Document 01's number of the refusal, 0 for none; renewed is kept for later.
 #[repr(C)]
-#[derive(Drop)]
+#[derive(Clone, Copy)]
 pub struct CReply {
     pub head: CHead,
     pub value: f64,
@@ -45,7 +45,7 @@ pub struct CReply {
 
 // The same for a call that leaves the head.
 #[repr(C)]
-#[derive(Drop)]
+#[derive(Clone, Copy)]
 pub struct CAnswer {
     pub value: f64,
     pub cells_worked: usize,
@@ -56,7 +56,7 @@ pub struct CAnswer {
 
 // Of a plain call.
 #[repr(C)]
-#[derive(Drop)]
+#[derive(Clone, Copy)]
 pub struct CValue {
     pub value: f64,
     pub refused: u32,
@@ -65,7 +65,7 @@ pub struct CValue {
 
 // Of millionths: document 02's number of the refusal, 0 for none.
 #[repr(C)]
-#[derive(Drop)]
+#[derive(Clone, Copy)]
 pub struct CShown {
     pub millionths: i64,
     pub refused: u32,

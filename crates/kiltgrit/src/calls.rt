@@ -2,7 +2,7 @@
 // says of the head that crossed, and writes what it writes.
 ghost use Rattle.std.specs.Prelude.{◌≡◌};
 ghost use Rattle.models.specs.Plain.{plain_call};
-ghost use Rattle.mixture.specs.Memory.{before, later};
+ghost use Rattle.mixture.specs.Memory.{memory};
 ghost use Rattle.mixture.specs.Calls.{after_open, after_load, after_setting, after_fractions, after_query};
 ghost use Rattle.kiltgrit.specs.Border.{head_of, left, replied, answered, value_or};
 ghost use Rattle.kiltgrit.specs.Arguments.{load_of, setting_of, quantity_asked};
@@ -26,8 +26,8 @@ pub extern "C" fn kiltgrit_mixture_query(
     asked: u32,
     i: usize,
 ) -> CAnswer
-    ensures { left (later values cells marks) result
-        ≡ answered (after_query (before values cells marks) (head_of head) (quantity_asked asked i)) }
+    ensures { left (memory values.now cells.new marks.new) result
+        ≡ answered (after_query (memory values.now cells.old marks.old) (head_of head) (quantity_asked asked i)) }
 {
     let q = quantity_asked(asked, i);
     let reply = query(values, cells, marks, head_of(head), q);
@@ -42,8 +42,8 @@ pub extern "C" fn kiltgrit_mixture_open(
     marks: &[u8],
     head: CHead,
 ) -> CReply
-    ensures { left (before values cells marks) result
-        ≡ replied head (after_open (before values cells marks) (head_of head)) }
+    ensures { left (memory values.now cells.now marks.now) result
+        ≡ replied head (after_open (memory values.now cells.now marks.now) (head_of head)) }
 {
     reply_of(head, open(values, cells, marks, head_of(head)))
 }
@@ -56,8 +56,8 @@ pub extern "C" fn kiltgrit_mixture_fractions(
     head: CHead,
     x: &[f64],
 ) -> CReply
-    ensures { left (before values cells marks) result
-        ≡ replied head (after_fractions (before values cells marks) (head_of head) x.now) }
+    ensures { left (memory values.now cells.now marks.now) result
+        ≡ replied head (after_fractions (memory values.now cells.now marks.now) (head_of head) x.now) }
 {
     reply_of(head, fractions(values, cells, marks, head_of(head), x))
 }
@@ -70,8 +70,8 @@ pub extern "C" fn kiltgrit_mixture_set(
     head: CHead,
     s: CSetting,
 ) -> CReply
-    ensures { left (later values cells marks) result
-        ≡ replied head (after_setting (before values cells marks) (head_of head) (setting_of s)) }
+    ensures { left (memory values.new cells.now marks.new) result
+        ≡ replied head (after_setting (memory values.old cells.now marks.old) (head_of head) (setting_of s)) }
 {
     reply_of(
         head,
@@ -94,8 +94,8 @@ pub extern "C" fn kiltgrit_mixture_load(
     groups: &[u8],
     given: &[f64],
 ) -> CReply
-    ensures { left (later values cells marks) result
-        ≡ replied head (after_load (before values cells marks) (head_of head)
+    ensures { left (memory values.new cells.now marks.new) result
+        ≡ replied head (after_load (memory values.old cells.now marks.old) (head_of head)
         (load_of model form n ng lens.now groups.now given.now)) }
 {
     reply_of(

@@ -1,7 +1,7 @@
 // For a host that measures: a mixture asked again and again in one call, without the price of the C boundary,
 // or the plain call again and again. An f64 stands as eight bytes, lowest first.
 ghost use Rattle.std.specs.Prelude.{◌≡◌, ◌+◌, ◌-◌, ◌*◌, ◌/◌, ◌≤◌, length};
-ghost use Rattle.mixture.specs.Memory.{before, later, left};
+ghost use Rattle.mixture.specs.Memory.{memory, left};
 ghost use Rattle.mixture.specs.Answers.{value_of};
 ghost use Rattle.mixture.specs.Calls.{no_head};
 ghost use Rattle.models.specs.Faults.{usual_tolerance};
@@ -70,7 +70,7 @@ fn ask_each(
     times: usize,
 ) -> f64
     ensures { result
-        ≡ value_of (asked_times times q (left (before values cells marks) start)).reply.answer }
+        ≡ value_of (asked_times times q (left (memory values.now cells.old marks.old) start)).reply.answer }
 {
     let mut last = start;
     for _ in 0..times {
@@ -95,9 +95,9 @@ fn set_each(
     to: usize,
 ) -> Reply
     requires { (from ≤ to) × (8 * to ≤ length temperatures.now) }
-    ensures { left (later values cells marks) result
+    ensures { left (memory values.new cells.new marks.new) result
         ≡ set_times (to - from) change model v q (λ k. each temperatures (from + k))
-        (left (before values cells marks) start) }
+        (left (memory values.old cells.old marks.old) start) }
 {
     let mut head = start.head;
     let mut answer = start.answer;
@@ -130,7 +130,7 @@ fn keep(
 ) -> f64
     requires { 8 ≤ length temperatures.now }
     ensures { result ≡ value_of (turns (how_many temperatures) change model v q (each temperatures)
-        (left (before values cells marks) start)).reply.answer }
+        (left (memory values.old cells.old marks.old) start)).reply.answer }
 {
     let first = set_each(
         values,
@@ -179,8 +179,8 @@ fn begin(
     given: &[f64],
     x: &[f64],
 ) -> Reply
-    ensures { left (later values cells marks) result
-        ≡ begun (before values cells marks) head (data_given model n ng lens groups given)
+    ensures { left (memory values.new cells.now marks.new) result
+        ≡ begun (memory values.old cells.now marks.old) head (data_given model n ng lens groups given)
         x.now }
 {
     let opened = open(values, cells, marks, head);
