@@ -1,5 +1,7 @@
 // A strip of 32-bit words: records, the calls that they make, and a line for each. Document 01, "Strip and
 // program".
+#![tactic(auto)]
+
 mod calls;
 mod lists;
 mod records;

@@ -11,43 +11,43 @@ use Rattle.strip.proofs.calls.load.Tie as tie
 
 -- ---- places: the start, the test passed, the floats filled in, the lists stored
 
-abbrev start : tie.Else1 → tie.Start
+abbrev start : tie.Else-not-does_fit → tie.Start
 start c = c.before.before.before.before.before.before
 
-abbrev passed : tie.After-fill-floats → tie.Else1
+abbrev passed : tie.After-fill_floats → tie.Else-not-does_fit
 passed c = c.before.before
 
-abbrev filled : tie.After-fill-lists → tie.After-fill-floats
+abbrev filled : tie.After-fill_lists-met → tie.After-fill_floats
 filled c = c.before.before.before.before.before
 
-abbrev stored : tie.After-struct-known2 → tie.After-fill-lists
+abbrev stored : tie.After-struct_known-2-1 → tie.After-fill_lists-met
 stored c = c.before.before.before.before.before.before.before.before
 
 -- ---- what the test and the lists showed
 
-fit : (c : tie.Else1) → Fitting (start c).args.s.now (start c).args.r
-fit c = fitting _ _ (omega arith) (omega arith) (sym c.before.does-fit.ensures ∙ not-false _ c.if1.false)
+fit : (c : tie.Else-not-does_fit) → Fitting (start c).args.s.now (start c).args.r
+fit c = fitting _ _ (omega arith) (omega arith) (sym c.does_fit.ensures ∙ c.if-not-does_fit.false)
 
-room : (c : tie.After-fill-lists) → Room (start (passed (filled c))).args.r c.fill-lists.result c.fill-lists.new.1.1.1.1.0 c.fill-lists.new.1.1.1.1.1.0 c.fill-lists.new.1.1.1.1.1.1.0
+room : (c : tie.After-fill_lists-met) → Room (start (passed (filled c))).args.r c.fill_lists-met.result c.fill_lists-met.new.lens c.fill_lists-met.new.groups c.fill_lists-met.new.a
 room c =
-    let k = c.fill-lists.auto.1.1.1.1 in
-    has_room (fit (passed (filled c))) (omega arith) c.fill-lists.ensures k.0 k.1.0 (k.1.1.0 ∙ (filled c).fill-floats.auto.1.1.1.0)
+    let k = c.fill_lists-met.auto in
+    has_room (fit (passed (filled c))) (omega arith) c.fill_lists-met.ensures k.lens k.groups (k.a ∙ c.fill_floats.auto.a)
+
+returns-then-not-does_fit : tie.Need-returns-then-not-does_fit
+returns-then-not-does_fit c = made_none _ c.args.r _ _ _ (sym c.does_fit.ensures ∙ c.if-not-does_fit.true)
 
 returns : tie.Need-returns
-returns c = made_none _ c.before.before.before.before.before.before.args.r _ _ _ (sym c.before.does-fit.ensures ∙ not-true _ c.if1.true)
-
-returns-2 : tie.Need-returns-2
-returns-2 c =
+returns c =
     let l = stored c.before.before.before.before.before.before.before.before in
     let f = filled l in
-    load_is (fit (passed f)) _ _ c.before.before.before.before.load.ensures c.before.before.before.before.before.before.before.before.before.before.model-numbered.ensures f.fill-floats.ensures.1 l.fill-lists.ensures (room l)
+    load_is (fit (passed f)) _ _ c.load.ensures c.model_numbered.ensures f.fill_floats.ensures.1 l.fill_lists-met.ensures (room l)
 
 pub load_spec : {M : Type 1} → statement M
 load_spec =
     tie.close
     (tie.spec
     (λ c κs. tt)
-    returns
+    returns-then-not-does_fit
     (λ c. search rules)
     (λ c κs. let w = fit c.before in (omega (arith, w.floats, w.short), w.floats))
     (λ c. let w = fit (passed c.before) in omega (arith, w.floats, w.short))
@@ -69,4 +69,4 @@ load_spec =
     (λ c κs. tt)
     (λ c. search rules)
     (λ c. search rules)
-    returns-2)
+    returns)

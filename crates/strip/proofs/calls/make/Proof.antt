@@ -11,52 +11,51 @@ use Rattle.strip.proofs.calls.make.Tie as tie
 
 -- ---- places: the start, the test passed, the floats filled in, no fractions
 
-abbrev start : tie.Else2 → tie.Start
+abbrev start : tie.Else-not-does_fit → tie.Start
 start c = c.before.before.before.before.before.before.before
 
-abbrev passed : tie.After-fill-floats → tie.Else2
+abbrev passed : tie.After-fill_floats → tie.Else-not-does_fit
 passed c = c.before.before
 
-abbrev filled : tie.After-given2 → tie.After-fill-floats
+abbrev filled : tie.After-given-2-1 → tie.After-fill_floats
 filled c = c.before
 
-abbrev other : tie.After-struct-known2 → tie.Else3
+abbrev other : tie.After-struct_known-2-1 → tie.Else-kind-eq6
 other c = c.before.before
 
 -- ---- what the tests showed
 
-fit : (c : tie.Else2) → Fitting (start c).args.s.now (start c).args.r
-fit c = fitting _ _ (omega arith) (omega arith) (sym c.before.does-fit.ensures ∙ not-false _ c.if2.false)
+fit : (c : tie.Else-not-does_fit) → Fitting (start c).args.s.now (start c).args.r
+fit c = fitting _ _ (omega arith) (omega arith) (sym c.does_fit.ensures ∙ c.if-not-does_fit.false)
 
-above : (c : tie.Else2) → 5 ≤ (start c).args.r.kind
-above c = c.before.before.if1.false
+above : (c : tie.Else-not-does_fit) → 5 ≤ (start c).args.r.kind
+above c = c.if-kind-lt5.false
 
-few : (c : tie.Else2) → (start c).args.r.floats ≤ 255
+few : (c : tie.Else-not-does_fit) → (start c).args.r.floats ≤ 255
 few c = (fit c).sized.few (above c)
 
-returns : tie.Need-returns
-returns c = by_load _ c.before.before.before.before.before.before.before.before.before.before.before.before.before.args.r _ _ c.before.before.before.before.before.before.before.before.if1.true c.before.before.before.before.load.ensures
+returns-then-kind-lt5 : tie.Need-returns-then-kind-lt5
+returns-then-kind-lt5 c = by_load _ c.args.r _ _ c.if-kind-lt5.true c.load.ensures
 
-returns-2 : tie.Need-returns-2
-returns-2 c = made_none _ c.before.before.before.before.before.before.before.args.r _ _ _ (sym c.before.does-fit.ensures ∙ not-true _ c.if2.true)
+returns-then-not-does_fit : tie.Need-returns-then-not-does_fit
+returns-then-not-does_fit c = made_none _ c.args.r _ _ _ (sym c.does_fit.ensures ∙ c.if-not-does_fit.true)
 
-returns-3 : tie.Need-returns-3
-returns-3 c =
-    let f = filled c.before.before.before.before.before.before in
-    by_fractions (fit (passed f)) _ _ (above (passed f)) c.before.before.before.before.before.if3.true c.fractions.ensures f.fill-floats.ensures.1
+returns-then-kind-eq6 : tie.Need-returns-then-kind-eq6
+returns-then-kind-eq6 c =
+    let p = c.before.before.before.before.before.before in
+    by_fractions (fit p) _ _ (above p) c.if-kind-eq6.true c.fractions.ensures c.fill_floats.ensures.1
 
-returns-4 : tie.Need-returns-4
-returns-4 c =
-    let o = other c.before.before.before.before.before.before.before.before.before.before in
+returns-then-kind-eq11 : tie.Need-returns-then-kind-eq11
+returns-then-kind-eq11 c =
+    let o = other c.before.before.before.before.before.before.before.before.before in
     let p = passed (filled o.before) in
-    by_query (fit p) _ _ (above p) o.if3.left c.before.before.before.before.before.before.before.before.before.if4.true c.before.before.before.before.query.ensures c.before.before.before.before.before.quantity-of.ensures
+    by_query (fit p) _ _ (above p) c.if-kind-eq6.false c.if-kind-eq11.true c.query.ensures c.quantity_of.ensures
 
-returns-5 : tie.Need-returns-5
-returns-5 c =
-    let s = c.before.before.before.before.before.before.before.before in
-    let o = other s.before.before.before.before in
-    let f = filled o.before in
-    by_setting (fit (passed f)) _ _ (above (passed f)) _ o.if3.left s.before.before.before.if4.false c.before.before.before.before.set.ensures s.setting-of.ensures s.before.five-at.ensures f.fill-floats.ensures.1
+returns : tie.Need-returns
+returns c =
+    let o = other c.before.before.before.before.before.before.before.before.before.before.before in
+    let p = passed (filled o.before) in
+    by_setting (fit p) _ _ (above p) _ c.if-kind-eq6.false c.if-kind-eq11.false c.set.ensures c.setting_of-q.ensures c.five_at.ensures c.fill_floats.ensures.1
 
 pub make_spec : {M : Type 1} → statement M
 make_spec =
@@ -66,18 +65,18 @@ make_spec =
     (λ c. search rules)
     (λ c. search rules)
     (λ c. search rules)
-    returns
+    returns-then-kind-lt5
     (λ c κs. tt)
-    returns-2
+    returns-then-not-does_fit
     (λ c. search rules)
     (λ c κs. (omega (arith, few c.before), (fit c.before).floats))
-    (λ c. let f = filled c.before.before.before.before in omega (arith, few (passed f), f.fill-floats.kept.1.1.1.0))
+    (λ c. omega (arith, few c.before.before.before.before, c.fill_floats.auto.a))
     (λ c. search rules)
     (λ c κs. tt)
     (λ c. search rules)
     (λ c. search rules)
     (λ c. search rules)
-    returns-3
+    returns-then-kind-eq6
     (λ c. search rules)
     (λ c. search rules)
     (λ c κs. tt)
@@ -85,12 +84,12 @@ make_spec =
     (λ c. search rules)
     (λ c. search rules)
     (λ c. search rules)
-    returns-4
+    returns-then-kind-eq11
     (λ c. search rules)
-    (λ c κs. omega (arith, (filled (other c.before.before).before).fill-floats.auto.1.1.1.0))
+    (λ c κs. omega (arith, c.fill_floats.auto.a))
     (λ c κs. tt)
     (λ c κs. tt)
     (λ c. search rules)
     (λ c. search rules)
     (λ c. search rules)
-    returns-5)
+    returns)

@@ -8,6 +8,6 @@ pub has_spec : {M : Type 1} → statement M
 has_spec =
     tie.close
     (tie.spec
-    (λ c. has_not c.before.args.p _ _ c.if1.true)
+    (λ c. has_not c.args.p _ _ c.if-s-n.true)
     (λ c. search rules)
-    (λ c. has_rest c.before.args.p _ _ c.if1.false))
+    (λ c. has_rest c.args.p _ _ c.if-s-n.false))

@@ -10,31 +10,31 @@ use Rattle.strip.proofs.lists.is_word.Statement.{statement}
 use Rattle.strip.proofs.lists.is_word.Tie as tie
 
 -- its four bytes are there
-inside : (c : tie.Else1) → leb (c.before.before.before.args.p + 4) (length c.before.before.before.args.s.now) ≡ true
-inside c = sym c.before.has.ensures ∙ not-false _ c.if1.false
+inside : (c : tie.Else-not-has) → leb (c.args.p + 4) (length c.args.s.now) ≡ true
+inside c = sym c.has.ensures ∙ c.if-not-has.false
+
+returns-then-not-has : tie.Need-returns-then-not-has
+returns-then-not-has c = word_cut _ c.args.kind _ _ (sym c.has.ensures ∙ c.if-not-has.true)
+
+returns-then-kind_of-kind : tie.Need-returns-then-kind_of-kind
+returns-then-kind_of-kind c = word_kind _ c.args.kind _ _ (inside c.before.before.before) c.word_at-w.ensures.0 c.kind_of.ensures c.if-kind_of-kind.true
+
+returns-then-j_of-ne0 : tie.Need-returns-then-j_of-ne0
+returns-then-j_of-ne0 c = word-field _ c.args.kind _ _ (inside c.before.before.before.before.before) c.word_at-w.ensures.0 c.kind_of.ensures c.if-kind_of-kind.false c.j_of.ensures c.if-j_of-ne0.true
 
 returns : tie.Need-returns
-returns c = word_cut _ c.before.before.before.args.kind _ _ (sym c.before.has.ensures ∙ not-true _ c.if1.true)
+returns c = word-rest _ c.args.kind _ _ (inside c.before.before.before.before.before.before) c.word_at-w.ensures.0 c.kind_of.ensures c.if-kind_of-kind.false c.j_of.ensures c.if-j_of-ne0.false c.rest_of.ensures
 
-returns-2 : tie.Need-returns-2
-returns-2 c = word_kind _ c.before.before.before.before.before.before.args.kind _ _ (inside c.before.before.before) c.before.before.word_at.ensures.0 c.before.kind-of.ensures c.if2.true
-
-returns-3 : tie.Need-returns-3
-returns-3 c = word-field _ c.before.before.before.before.before.before.before.before.args.kind _ _ (inside c.before.before.before.before.before) c.before.before.before.before.word_at.ensures.0 c.before.before.before.kind-of.ensures c.before.before.if2.false c.before.j-of.ensures c.if3.true
-
-returns-4 : tie.Need-returns-4
-returns-4 c = word-rest _ c.before.before.before.before.before.before.before.before.before.args.kind _ _ (inside c.before.before.before.before.before.before) c.before.before.before.before.before.word_at.ensures.0 c.before.before.before.before.kind-of.ensures c.before.before.before.if2.false c.before.before.j-of.ensures c.before.if3.false c.rest_of.ensures
-
-pub is-word_spec : {M : Type 1} → statement M
-is-word_spec =
+pub is_word_spec : {M : Type 1} → statement M
+is_word_spec =
     tie.close
     (tie.spec
     (λ c κs. tt)
-    returns
+    returns-then-not-has
     (λ c κs. leb-true _ _ (inside c))
     (λ c κs. tt)
-    returns-2
+    returns-then-kind_of-kind
     (λ c κs. tt)
-    returns-3
+    returns-then-j_of-ne0
     (λ c κs. tt)
-    returns-4)
+    returns)

@@ -12,4 +12,4 @@ store_spec =
     (λ c. search rules)
     (λ c. search rules)
     (λ c. search rules)
-    (λ c. sym (set_out _ _ _ c.if1.false)))
+    (λ c. sym (set_out _ _ _ c.if-at-l.false)))

@@ -7,5 +7,5 @@ pub both_zero_spec : {M : Type 1} → statement M
 both_zero_spec =
     tie.close
     (tie.spec
-    (λ c. simp (ne_eqb _ _ c.if1.true))
-    (λ c. simp (eq-eqb _ _ c.if1.false)))
+    (λ c. simp (ne_eqb _ _ c.if-i-ne0.true))
+    (λ c. simp (eq-eqb _ _ c.if-i-ne0.false)))

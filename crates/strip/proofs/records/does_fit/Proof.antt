@@ -8,35 +8,35 @@ use Rattle.strip.proofs.RecordLaws.{fits_by_lem}
 use Rattle.strip.proofs.records.does_fit.Statement.{statement}
 use Rattle.strip.proofs.records.does_fit.Tie as tie
 
-returns : tie.Need-returns
+returns-then-s-gt-MOST_BYTES : tie.Need-returns-then-s-gt-MOST_BYTES
 unfolding fits
-returns c = simp (lt-leb _ _ c.if1.true)
+returns-then-s-gt-MOST_BYTES c = simp (lt-leb _ _ c.if-s-gt-MOST_BYTES.true)
 
 -- the tests after the shape was found
-by_shape : (c : tie.After-shape-of) {b : Bool} → b ≡ fits_by c.before.before.before.args.s.now c.before.before.before.args.r c.shape_of_lem.result → b ≡ fits c.before.before.before.args.s.now c.before.before.before.args.r
-by_shape c = fits_by_lem _ _ c.before.if1.false c.shape_of_lem.ensures.0
+by_shape : (c : tie.After-shape_of-k) {b : Bool} → b ≡ fits_by c.args.s.now c.args.r c.shape_of-k.result → b ≡ fits c.args.s.now c.args.r
+by_shape c = fits_by_lem _ _ c.if-s-gt-MOST_BYTES.false c.shape_of-k.ensures.0
 
-returns-2 : tie.Need-returns-2
-returns-2 c = let k = c.before.before in by_shape k (simp (not-true k.shape_of_lem.result.formed c.if2.true))
+returns-then-not-k : tie.Need-returns-then-not-k
+returns-then-not-k c = let k = c.before.before in by_shape k (simp (not-true c.shape_of-k.result.formed c.if-not-k.true))
 
-returns-3 : tie.Need-returns-3
-returns-3 c = let k = c.before.before.before.before.before in by_shape k (simp (not-false k.shape_of_lem.result.formed c.before.before.before.if2.false, ne_eqb _ _ c.if3.true))
+returns-then-k-r : tie.Need-returns-then-k-r
+returns-then-k-r c = let k = c.before.before.before.before.before in by_shape k (simp (not-false c.shape_of-k.result.formed c.if-not-k.false, ne_eqb _ _ c.if-k-r.true))
 
-returns-4 : tie.Need-returns-4
-returns-4 c = let k = c.before.before.before.before.before.before.before.before in by_shape k (simp (not-false k.shape_of_lem.result.formed c.before.before.before.before.before.before.if2.false, eq-eqb _ _ c.before.before.before.if3.false, ne_eqb _ _ c.if4.true))
+returns-then-k-r-2 : tie.Need-returns-then-k-r-2
+returns-then-k-r-2 c = let k = c.before.before.before.before.before.before.before.before in by_shape k (simp (not-false c.shape_of-k.result.formed c.if-not-k.false, eq-eqb _ _ c.if-k-r.false, ne_eqb _ _ c.if-k-r-2.true))
 
-returns-5 : tie.Need-returns-5
-returns-5 c = let k = c.before.before.before.before.before.before.before.before.before.before in by_shape k (simp (not-false k.shape_of_lem.result.formed c.before.before.before.before.before.before.before.before.if2.false, eq-eqb _ _ c.before.before.before.before.before.if3.false, eq-eqb _ _ c.before.before.if4.false) c.has.ensures)
+returns : tie.Need-returns
+returns c = let k = c.before.before.before.before.before.before.before.before.before.before in by_shape k (simp (not-false c.shape_of-k.result.formed c.if-not-k.false, eq-eqb _ _ c.if-k-r.false, eq-eqb _ _ c.if-k-r-2.false) c.has.ensures)
 
 pub does_fit_spec : {M : Type 1} → statement M
 does_fit_spec =
     tie.close
     (tie.spec
-    returns
+    returns-then-s-gt-MOST_BYTES
     (λ c κs. tt)
-    returns-2
-    returns-3
-    returns-4
+    returns-then-not-k
+    returns-then-k-r
+    returns-then-k-r-2
     (λ c. search rules)
     (λ c κs. tt)
-    returns-5)
+    returns)

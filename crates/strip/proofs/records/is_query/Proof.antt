@@ -7,6 +7,6 @@ pub is_query_spec : {M : Type 1} → statement M
 is_query_spec =
     tie.close
     (tie.spec
-    (λ c. simp (lt-ltb _ _ c.if1.true))
-    (λ c. simp (le-ltb _ _ c.before.if1.false, ne_eqb _ _ c.if2.true))
-    (λ c. simp (le-ltb _ _ c.before.if1.false, eq-eqb _ _ c.if2.false)))
+    (λ c. simp (lt-ltb _ _ c.if-j-lt2.true))
+    (λ c. simp (le-ltb _ _ c.if-j-lt2.false, ne_eqb _ _ c.if-j-ne2.true))
+    (λ c. simp (le-ltb _ _ c.if-j-lt2.false, eq-eqb _ _ c.if-j-ne2.false)))

@@ -5,60 +5,60 @@ use borrow.Author.Rules.{rules}
 use Rattle.strip.proofs.records.read_at.Statement.{statement}
 use Rattle.strip.proofs.records.read_at.Tie as tie
 
-returns : tie.Need-returns
-returns c = read_end _ _ c.if1.true
+returns-then-s-at : tie.Need-returns-then-s-at
+returns-then-s-at c = read_end _ _ c.if-s-at.true
 
-returns-2 : tie.Need-returns-2
-returns-2 c = read_cut _ _ c.before.if1.false c.if2.true
+returns-then-s-at-2 : tie.Need-returns-then-s-at-2
+returns-then-s-at-2 c = read_cut _ _ c.if-s-at.false c.if-s-at-2.true
 
 -- the head word that was read
-head : (c : tie.After-shape-of)
-    → Headed c.before.before.before.before.before.before.before.before.args.s.now c.before.before.before.before.before.before.before.before.args.at c.before.before.before.before.word_at.result c.before.before.before.kind-of.result c.before.before.i-of.result c.before.j-of.result c.shape_of_lem.result
+head : (c : tie.After-shape_of-k)
+    → Headed c.args.s.now c.args.at c.word_at-w.result c.kind_of-kind.result c.i_of-i.result c.j_of-j.result c.shape_of-k.result
 head c =
     record {
-      begun = c.before.before.before.before.before.before.if1.false;
-      whole = c.before.before.before.before.before.if2.false;
-      word = c.before.before.before.before.word_at.ensures.0;
-      kinds = c.before.before.before.kind-of.ensures;
-      firsts = c.before.before.i-of.ensures;
-      seconds = c.before.j-of.ensures;
-      shaped = c.shape_of_lem.ensures.0;
+      begun = c.if-s-at.false;
+      whole = c.if-s-at-2.false;
+      word = c.word_at-w.ensures.0;
+      kinds = c.kind_of-kind.ensures;
+      firsts = c.i_of-i.ensures;
+      seconds = c.j_of-j.ensures;
+      shaped = c.shape_of-k.ensures.0;
     }
 
-returns-3 : tie.Need-returns-3
-returns-3 c = read_rest (head c.before.before) c.before.rest_of.ensures c.if3.true
+returns-then-rest_of-ne0 : tie.Need-returns-then-rest_of-ne0
+returns-then-rest_of-ne0 c = read_rest (head c.before.before) c.rest_of.ensures c.if-rest_of-ne0.true
 
-returns-4 : tie.Need-returns-4
-returns-4 c = read_malformed (head c.before.before.before.before) c.before.before.before.rest_of.ensures c.before.before.if3.false (not-true _ c.if4.true)
+returns-then-not-k : tie.Need-returns-then-not-k
+returns-then-not-k c = read_malformed (head c.before.before.before.before) c.rest_of.ensures c.if-rest_of-ne0.false (not-true _ c.if-not-k.true)
 
-returns-5 : tie.Need-returns-5
-returns-5 c = read_missing (head c.before.before.before.before.before.before.before) c.before.before.before.before.before.before.rest_of.ensures c.before.before.before.before.before.if3.false (not-false _ c.before.before.before.if4.false) c.before.lists-end.ensures c.if5.true
+returns-then-next-eq0 : tie.Need-returns-then-next-eq0
+returns-then-next-eq0 c = read_missing (head c.before.before.before.before.before.before.before) c.rest_of.ensures c.if-rest_of-ne0.false (not-false _ c.if-not-k.false) c.lists_end-next.ensures c.if-next-eq0.true
 
-returns-6 : tie.Need-returns-6
-returns-6 c = read_long (head c.before.before.before.before.before.before.before.before) c.before.before.before.before.before.before.before.rest_of.ensures c.before.before.before.before.before.before.if3.false (not-false _ c.before.before.before.before.if4.false) c.before.before.lists-end.ensures c.before.if5.false c.if6.true
+returns-then-s-next : tie.Need-returns-then-s-next
+returns-then-s-next c = read_long (head c.before.before.before.before.before.before.before.before) c.rest_of.ensures c.if-rest_of-ne0.false (not-false _ c.if-not-k.false) c.lists_end-next.ensures c.if-next-eq0.false c.if-s-next.true
 
-returns-7 : tie.Need-returns-7
-returns-7 c = read_record (head c.before.before.before.before.before.before.before.before) c.before.before.before.before.before.before.before.rest_of.ensures c.before.before.before.before.before.before.if3.false (not-false _ c.before.before.before.before.if4.false) c.before.before.lists-end.ensures c.before.if5.false c.if6.false
+returns : tie.Need-returns
+returns c = read_record (head c.before.before.before.before.before.before.before.before) c.rest_of.ensures c.if-rest_of-ne0.false (not-false _ c.if-not-k.false) c.lists_end-next.ensures c.if-next-eq0.false c.if-s-next.false
 
 pub read_at_spec : {M : Type 1} → statement M
 read_at_spec =
     tie.close
     (tie.spec
-    returns
+    returns-then-s-at
     (λ c. search rules)
-    returns-2
+    returns-then-s-at-2
     (λ c κs. search rules)
     (λ c κs. tt)
     (λ c κs. tt)
     (λ c κs. tt)
     (λ c κs. tt)
     (λ c κs. tt)
-    returns-3
-    returns-4
+    returns-then-rest_of-ne0
+    returns-then-not-k
     (λ c. search rules)
     (λ c. search rules)
     (λ c. search rules)
     (λ c κs. tt)
-    returns-5
-    returns-6
-    returns-7)
+    returns-then-next-eq0
+    returns-then-s-next
+    returns)

@@ -9,8 +9,8 @@ use Rattle.strip.proofs.run.run.Tie as tie
 returns : tie.Need-returns
 unfolding short
 returns c =
-    let w = c.before.before.before.before.before.walk.ensures in
-    (run_opened _ _ _ _ c.before.before.before.before.before.before.before.before.before.before.before.open.ensures refl w.0, w.1)
+    let w = c.walk.ensures in
+    (run_opened _ _ _ _ c.open-opened.ensures refl w.0, w.1)
 
 pub run_spec : {M : Type 1} → statement M
 run_spec =

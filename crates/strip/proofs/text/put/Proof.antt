@@ -7,53 +7,57 @@ use mathlib.Core.Logic.{⊎_elim}
 use lib.ListN.{length, get_or, set, drop, length-set}
 use lib.Seq.{sets, set_out}
 use Rattle.strip.proofs.TextLaws.{put_again, put-done, put-past}
+use Rattle.strip.proofs.text.put.Lts.{then-k-room, else-k-room}
 use Rattle.strip.proofs.text.put.Statement.{statement}
 use Rattle.strip.proofs.text.put.Tie as tie
 
-abbrev invariant_loop : tie.invariant_loop
-invariant_loop out₀ at text n room k₀ out k =
+abbrev invariant-loop-k : tie.invariant-loop-k
+invariant-loop-k out₀ at text n room k₀ out k =
     (k ≤ length text) × (length out ≡ length out₀) × (sets out (at + k) (drop k text) ≡ sets out₀ at text)
 
-abbrev decreases_loop : tie.decreases_loop
-decreases_loop out₀ at text n room k₀ out k = length text - k
+abbrev decreases-loop-k : tie.decreases-loop-k
+decreases-loop-k out₀ at text n room k₀ out k = length text - k
 
-returns : tie.Need-returns invariant_loop decreases_loop
-returns c = put-past _ _ _ c.if1.true
+returns-then-out-at : tie.Need-returns-then-out-at invariant-loop-k decreases-loop-k
+returns-then-out-at c = put-past _ _ _ c.if-out-at.true
 
-loop-holds : tie.Need-loop-init invariant_loop decreases_loop
-loop-holds c = (omega arith, refl, rw (add-zero c.before.args.at))
+loop-k-init : tie.Need-loop-k-init invariant-loop-k decreases-loop-k
+loop-k-init c = (omega arith, refl, rw (add-zero c.args.at))
 
-loop-again : tie.Need-loop-preserved invariant_loop decreases_loop
-loop-again c =
-    let l = c.before.before.loop in
-    let s = c.before.before.before.before.args in
-    let h : l.k < length s.text.now = c.before.loop-test.true in
-    let e : c.if2.out ≡ set l.out (s.at + l.k) (get_or s.text.now l.k 0) =
-    ⊎_elim (λ w. w.2) (λ w. w.1 ∙ sym (set_out l.out (s.at + l.k) _ (omega (arith, w.0.left, l.invariant.1, c.before.before.before.if1.false)))) c.if2.branch in
+loop-k-preserved : tie.Need-loop-k-preserved invariant-loop-k decreases-loop-k
+loop-k-preserved c =
+    let l = c.loop-k in
+    let s = c.args in
+    let h : l.k < length s.text.now = c.loop-k-test.true in
+    let e : c.if-k-room.out ≡ set l.out (s.at + l.k) (get_or s.text.now l.k 0) =
+    elim c.if-k-room.branch [
+        | then-k-room w ↦ w.out-is
+        | else-k-room w ↦ w.out-is ∙ sym (set_out l.out (s.at + l.k) _ (omega (arith, w.if-k-room.false, l.invariant.1, c.if-out-at.false)))
+      ] in
     (omega arith, ap length e ∙ (simp length-set l.invariant.1), put_again _ l.out _ _ _ l.k h e l.invariant.2)
 
-same_length : tie.Need-same-length invariant_loop decreases_loop
-same_length c = c.before.loop.invariant.1
+shape_of-out : tie.Need-shape_of-out invariant-loop-k decreases-loop-k
+shape_of-out c = c.loop-k.invariant.1
 
-returns-2 : tie.Need-returns-2 invariant_loop decreases_loop
-returns-2 c =
-    let l = c.before.loop in
+returns : tie.Need-returns invariant-loop-k decreases-loop-k
+returns c =
+    let l = c.loop-k in
     record { long = refl; text = put-done _ _ _ _ l.k (omega arith) l.invariant.2 }
 
 pub put_spec : {M : Type 1} → statement M
 put_spec =
     tie.close
     (tie.spec
-    invariant_loop
-    decreases_loop
-    returns
+    invariant-loop-k
+    decreases-loop-k
+    returns-then-out-at
     (λ c. omega arith)
-    loop-holds
-    (λ c. omega arith)
-    (λ c. omega arith)
+    loop-k-init
     (λ c. omega arith)
     (λ c. omega arith)
     (λ c. omega arith)
-    loop-again
-    same_length
-    returns-2)
+    (λ c. omega arith)
+    (λ c. omega arith)
+    loop-k-preserved
+    shape_of-out
+    returns)

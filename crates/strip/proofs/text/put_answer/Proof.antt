@@ -7,20 +7,20 @@ use Rattle.strip.proofs.TextLaws.{put-line}
 use Rattle.strip.proofs.text.put_answer.Statement.{statement}
 use Rattle.strip.proofs.text.put_answer.Tie as tie
 
-slice-aggregate-put : tie.Need-slice-aggregate-put
-slice-aggregate-put c = let w = c.before.before.before.write-line in sym (length-take-le w.result _ (omega (arith, w.ensures.1, w.auto.0)))
+slice_bounds-put-end : tie.Need-slice_bounds-put-end
+slice_bounds-put-end c = let w = c.write_line-k in sym (length-take-le w.result _ (omega (arith, w.ensures.1, w.auto.text)))
 
 returns : tie.Need-returns
-returns c = put-line c.before.before.before.before.before.before.before.before.before.args.a _ c.before.before.before.before.before.before.write-line.ensures (omega (arith, c.before.before.before.before.before.before.write-line.ensures.1)) c.before.before.put.ensures
+returns c = put-line c.args.a _ c.write_line-k.ensures (omega (arith, c.write_line-k.ensures.1)) c.put.ensures
 
-pub put-answer_spec : {M : Type 1} → statement M
-put-answer_spec =
+pub put_answer_spec : {M : Type 1} → statement M
+put_answer_spec =
     tie.close
     (tie.spec
     (λ c. search rules)
     (λ c κs. tt)
     (λ c. search rules)
-    slice-aggregate-put
+    slice_bounds-put-end
     (λ c κs. tt)
     (λ c. search rules)
     returns)

@@ -6,10 +6,10 @@ use Rattle.strip.proofs.text.put_number.Statement.{statement}
 use Rattle.strip.proofs.text.put_number.Tie as tie
 
 returns : tie.Need-returns
-returns c = let d = c.before.before.before.before.before.decimal in put-digits c.before.before.before.before.before.before.before.before.args.n d.result (omega arith) d.ensures.1.0 d.ensures.1.1 c.before.before.put.ensures
+returns c = let d = c.decimal-k in put-digits c.args.n d.result (omega arith) d.ensures.1.0 d.ensures.1.1.0 c.put.ensures
 
-pub put-number_spec : {M : Type 1} → statement M
-put-number_spec =
+pub put_number_spec : {M : Type 1} → statement M
+put_number_spec =
     tie.close
     (tie.spec
     (λ c κs. search rules)

@@ -7,29 +7,28 @@ use Rattle.strip.proofs.TextLaws.{bits_lt, put_bits, put_nan}
 use Rattle.strip.proofs.text.put_value.Statement.{statement}
 use Rattle.strip.proofs.text.put_value.Tie as tie
 
+returns-then-v : tie.Need-returns-then-v
+returns-then-v c = put_nan c.args.v c.if-v.true c.put.ensures
+
+float_to_bits-v : tie.Need-float_to_bits-v
+float_to_bits-v c = has_bits c.args.v c.if-v.false
+
 returns : tie.Need-returns
-returns c = put_nan c.before.before.before.before.before.before.before.args.v c.before.before.before.before.before.if1.true c.before.before.put.ensures
+returns c =
+    let d = c.hex-k in
+    put_bits c.args.v d.result c.if-v.false (bits_lt _ (subst T (sym c.well_formed.1.1.0.1) tt)) d.ensures.1.0 d.ensures.1.1.0 c.put-2.ensures
 
-float-to-bits-hex : tie.Need-float-to-bits-hex
-float-to-bits-hex c = has_bits c.before.before.args.v c.if1.false
-
-returns-2 : tie.Need-returns-2
-returns-2 c =
-    let d = c.before.before.before.before.before.hex in
-    put_bits c.before.before.before.before.before.before.before.before.before.args.v d.result c.before.before.before.before.before.before.before.if1.false (bits_lt _ (subst T (sym c.before.before.before.before.before.before.before.before.before.well-formed.1.1.0.1) tt)) d.ensures.1.0 d.ensures.1.1 c.before.before.put2.ensures
-
-pub put-value_spec : {M : Type 1} → statement M
-put-value_spec =
+pub put_value_spec : {M : Type 1} → statement M
+put_value_spec =
     tie.close
     (tie.spec
-    (λ c. search rules)
     (λ c κs. tt)
     (λ c. search rules)
-    returns
-    float-to-bits-hex
+    returns-then-v
+    float_to_bits-v
     (λ c κs. search rules)
     (λ c. search rules)
     (λ c. search rules)
     (λ c κs. tt)
     (λ c. search rules)
-    returns-2)
+    returns)

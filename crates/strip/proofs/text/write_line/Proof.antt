@@ -5,62 +5,28 @@ use Rattle.strip.proofs.TextLaws.{line-done, line_refused, line-value}
 use Rattle.strip.proofs.text.write_line.Statement.{statement}
 use Rattle.strip.proofs.text.write_line.Tie as tie
 
--- ---- places: what stands before a part of the line
+overflow_add-q : tie.Need-overflow_add-q
+overflow_add-q c = omega (arith, c.put-p.ensures.long, c.put_number.ensures.1)
 
-abbrev word : tie.After-put-number → tie.After-put2
-word c = c.before.before.before.before
+overflow_add-result : tie.Need-overflow_add-result
+overflow_add-result c = omega (arith, c.put-p.ensures.long, c.put_number.ensures.1, c.put-in-Refused.ensures.long)
 
-abbrev number : tie.After-put3 → tie.After-put-number
-number c = c.before.before.before.before.before
+overflow_add-q-in-Value : tie.Need-overflow_add-q-in-Value
+overflow_add-q-in-Value c = omega (arith, c.put_value-p.ensures.1, c.put-in-Value.ensures.long)
 
-abbrev value : tie.After-put4 → tie.After-put-value
-value c = c.before.before.before.before.before
+overflow_add-e : tie.Need-overflow_add-e
+overflow_add-e c = omega (arith, c.put_value-p.ensures.1, c.put-in-Value.ensures.long, c.put_number-in-Value.ensures.1)
 
-abbrev blank : tie.After-put-number2 → tie.After-put4
-blank c = c.before.before.before.before
+overflow_add-result-in-Value : tie.Need-overflow_add-result-in-Value
+overflow_add-result-in-Value c =
+    omega (arith, c.put_value-p.ensures.1, c.put-in-Value.ensures.long, c.put_number-in-Value.ensures.1, c.put-in-Value-2.ensures.long)
 
-abbrev count : tie.After-put5 → tie.After-put-number2
-count c = c.before.before.before.before.before
+returns-in-Refused : tie.Need-returns-in-Refused
+returns-in-Refused c = line_refused _ c.in-Refused.is c.put-p.ensures c.put_number.ensures c.put-in-Refused.ensures
 
-add-q : tie.Need-overflow-add-q
-add-q c = let n = c.before.before in omega (arith, (word n).put2.ensures.long, n.put-number.ensures.1)
-
-add-result : tie.Need-overflow-add-result
-add-result c =
-    let e = c.before.before in
-    let n = number e in
-    omega (arith, (word n).put2.ensures.long, n.put-number.ensures.1, e.put3.ensures.long)
-
-add-q-2 : tie.Need-overflow-add-q-2
-add-q-2 c = let b = c.before.before in omega (arith, (value b).put-value.ensures.1, b.put4.ensures.long)
-
-add-e : tie.Need-overflow-add-e
-add-e c =
-    let n = c.before.before in
-    let b = blank n in
-    omega (arith, (value b).put-value.ensures.1, b.put4.ensures.long, n.put-number2.ensures.1)
-
-add-result-2 : tie.Need-overflow-add-result-2
-add-result-2 c =
-    let e = c.before.before in
-    let n = count e in
-    let b = blank n in
-    omega (arith, (value b).put-value.ensures.1, b.put4.ensures.long, n.put-number2.ensures.1, e.put5.ensures.long)
-
-returns-2 : tie.Need-returns-2
-returns-2 c =
-    let e = c.before.before in
-    let n = number e in
-    let w = word n in
-    line_refused _ w.before.before.before.before.a.given.1 w.put2.ensures n.put-number.ensures e.put3.ensures
-
-returns-3 : tie.Need-returns-3
-returns-3 c =
-    let e = c.before.before in
-    let n = count e in
-    let b = blank n in
-    let v = value b in
-    line-value _ _ v.before.before.before.a2.given.1 v.put-value.ensures b.put4.ensures n.put-number2.ensures e.put5.ensures
+returns-in-Value : tie.Need-returns-in-Value
+returns-in-Value c =
+    line-value _ _ c.in-Value.is c.put_value-p.ensures c.put-in-Value.ensures c.put_number-in-Value.ensures c.put-in-Value-2.ensures
 
 pub write_line_spec : {M : Type 1} → statement M
 write_line_spec =
@@ -74,23 +40,23 @@ write_line_spec =
     (λ c κs. tt)
     (λ c. search rules)
     (λ c κs. tt)
-    add-q
+    overflow_add-q
     (λ c. search rules)
     (λ c κs. tt)
-    add-result
+    overflow_add-result
     (λ c. search rules)
     (λ c κs. tt)
     (λ c. search rules)
     (λ c κs. tt)
-    add-q-2
+    overflow_add-q-in-Value
     (λ c κs. tt)
-    add-e
+    overflow_add-e
     (λ c. search rules)
     (λ c κs. tt)
-    add-result-2
+    overflow_add-result-in-Value
     (λ c. search rules)
-    (λ c. line-done c.before.before.before.before.before.enum_told.given.1 c.before.before.put.ensures)
+    (λ c. line-done c.in-Done.is c.put.ensures)
     (λ c. search rules)
-    returns-2
+    returns-in-Refused
     (λ c. search rules)
-    returns-3)
+    returns-in-Value)
