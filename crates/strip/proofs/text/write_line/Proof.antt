@@ -33,25 +33,20 @@ write_line_spec =
     tie.close
     (tie.spec
     (λ c. search rules)
-    (λ c. search rules)
     (λ c κs. tt)
-    (λ c. search rules)
     (λ c. search rules)
     (λ c κs. tt)
     (λ c. search rules)
     (λ c κs. tt)
     overflow_add-q
-    (λ c. search rules)
     (λ c κs. tt)
     overflow_add-result
     (λ c. search rules)
     (λ c κs. tt)
-    (λ c. search rules)
     (λ c κs. tt)
     overflow_add-q-in-Value
     (λ c κs. tt)
     overflow_add-e
-    (λ c. search rules)
     (λ c κs. tt)
     overflow_add-result-in-Value
     (λ c. search rules)
