@@ -4,7 +4,7 @@ ghost use Rattle.arithmetic.specs.Floats.{dec};
 ghost use Rattle.arithmetic.specs.Decimals.{leading, digit, valued};
 ghost use Rattle.arithmetic.specs.Decimals.{digits_field, pointed_field, unsigned_field, field_of};
 
-#[derive(Drop)]
+#[derive(Clone, Copy)]
 pub enum Field {
     Number(f64),
     Refused(u8),

@@ -3,7 +3,7 @@ ghost use Rattle.std.specs.Prelude.{◌≡◌, ◌*◌, ◌^◌, ◌<◌, ◌≤
 ghost use Rattle.std.specs.Float.Ieee.Nearest.{closest};
 ghost use Rattle.arithmetic.specs.Millionths.{millionths_of};
 
-#[derive(Drop)]
+#[derive(Clone, Copy)]
 pub enum Shown {
     Millionths(i64),
     Refused(u8),

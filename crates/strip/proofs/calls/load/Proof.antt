@@ -2,7 +2,6 @@
 use native.Mathlib.Omega.{arith}
 use mathlib.Core.Path.{sym, ◌∙◌}
 use lib.Seq.{length-take-le}
-use borrow.Author.Tests.{not-true, not-false}
 use borrow.Author.Rules.{rules}
 use Rattle.strip.proofs.RecordLaws.{Fitting, fitting}
 use Rattle.strip.proofs.CallLaws.{Room, has_room, load_is, made_none}

@@ -2,7 +2,6 @@
 use Prim.Native.Nat.{◌≤◌}
 use native.Mathlib.Omega.{arith}
 use mathlib.Core.Path.{sym, ◌∙◌}
-use borrow.Author.Tests.{not-true, not-false}
 use borrow.Author.Rules.{rules}
 use Rattle.strip.proofs.RecordLaws.{Fitting, fitting}
 use Rattle.strip.proofs.CallLaws.{made_none, by_load, by_fractions, by_query, by_setting}

@@ -4,7 +4,6 @@ use native.Mathlib.Omega.{arith}
 use mathlib.Core.Path.{◌≡◌, sym, ◌∙◌}
 use mathlib.Core.Bool.{true}
 use lib.ListN.{length}
-use borrow.Author.Tests.{not-true, not-false}
 use Rattle.strip.specs.GroupLists.{is_word, lists_at}
 use Rattle.strip.proofs.GroupListLaws.{word_in, i-is, ahead, no_more, no_12, one_12, no_13, one_13, Storing, store_starts, store_ends, store_12, store_13, store_kept}
 use Rattle.strip.proofs.lists.fill_lists.Statement.{statement}

@@ -1,6 +1,5 @@
 -- Whether a kind 13 stands at p with the eight bytes of its count: the word's test and the room's.
 use mathlib.Core.Path.{sym, ◌∙◌}
-use borrow.Author.Tests.{not-true, not-false}
 use Rattle.strip.proofs.GroupListLaws.{word_cut, word_pair}
 use Rattle.strip.proofs.lists.is_pair.Statement.{statement}
 use Rattle.strip.proofs.lists.is_pair.Tie as tie

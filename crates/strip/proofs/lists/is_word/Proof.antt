@@ -4,7 +4,7 @@ use mathlib.Core.Bool.{true}
 use Prim.Native.Nat.{◌+◌}
 use lib.Dec.{leb}
 use lib.ListN.{length}
-use borrow.Author.Tests.{leb-true, not-true, not-false}
+use borrow.Author.Tests.{leb-true}
 use Rattle.strip.proofs.GroupListLaws.{word_cut, word_kind, word-field, word-rest}
 use Rattle.strip.proofs.lists.is_word.Statement.{statement}
 use Rattle.strip.proofs.lists.is_word.Tie as tie

@@ -4,7 +4,6 @@ use native.Mathlib.Omega.{arith}
 use mathlib.Core.Path.{◌≡◌, refl, sym, ◌∙◌}
 use mathlib.Core.Bool.{true}
 use lib.ListN.{length}
-use borrow.Author.Tests.{not-true, not-false}
 use Rattle.strip.specs.GroupLists.{is_word, pairs_at, lists_at}
 use Rattle.strip.proofs.GroupListLaws.{word_in, i-is, ahead, no_more, no_12, one_12, no_13, one_13, ends}
 use Rattle.strip.proofs.lists.lists_end.Statement.{statement}

@@ -1,7 +1,7 @@
 -- Opens a mixture and walks along the strip: from the opening on the text is the book's.
 use mathlib.Core.Path.{refl}
 use borrow.Author.Rules.{rules}
-use Rattle.mixture.specs.Memory.{short, least_values, least_cells, least_marks}
+use Rattle.mixture.specs.Memory.{short}
 use Rattle.strip.proofs.run.RunLaws.{run_opened}
 use Rattle.strip.proofs.run.run.Statement.{statement}
 use Rattle.strip.proofs.run.run.Tie as tie

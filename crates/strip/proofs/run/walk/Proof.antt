@@ -5,7 +5,6 @@ use mathlib.Core.Path.{◌≡◌, refl, sym, ◌∙◌}
 use lib.ListN.{length}
 use borrow.Author.Rules.{rules}
 use Rattle.mixture.specs.Memory.{memory}
-use Rattle.strip.specs.Text.{broken}
 use Rattle.strip.specs.Steps.Run.{rest}
 use Rattle.strip.proofs.RecordLaws.{found, read_done}
 use Rattle.strip.proofs.CallLaws.{found_call}
@@ -74,7 +73,6 @@ walk_spec =
     (tie.spec
     invariant-loop-out
     decreases-loop-out
-    (λ c. search rules)
     (λ c κs. tt)
     (λ c. search rules)
     returns-then-s-gt-MOST_BYTES
@@ -86,7 +84,6 @@ walk_spec =
     (λ c. c.loop-out.invariant.4)
     (λ c. c.loop-out.invariant.5)
     returns-in-End
-    (λ c. search rules)
     (λ c. search rules)
     (λ c κs. tt)
     overflow_add-result

@@ -3,7 +3,6 @@ use Prim.Native.Nat.{◌+◌, ◌-◌, ◌<◌, ◌≤◌}
 use native.Mathlib.Nat.{add-zero}
 use native.Mathlib.Omega.{arith}
 use mathlib.Core.Path.{◌≡◌, refl, sym, ap, ◌∙◌}
-use mathlib.Core.Logic.{⊎_elim}
 use lib.ListN.{length, get_or, set, drop, length-set}
 use lib.Seq.{sets, set_out}
 use Rattle.strip.proofs.TextLaws.{put_again, put-done, put-past}
@@ -31,9 +30,9 @@ loop-k-preserved c =
     let h : l.k < length s.text.now = c.loop-k-test.true in
     let e : c.if-k-room.out ≡ set l.out (s.at + l.k) (get_or s.text.now l.k 0) =
     elim c.if-k-room.branch [
-        | then-k-room w ↦ w.out-is
-        | else-k-room w ↦ w.out-is ∙ sym (set_out l.out (s.at + l.k) _ (omega (arith, w.if-k-room.false, l.invariant.1, c.if-out-at.false)))
-      ] in
+      | then-k-room w ↦ w.out-is
+      | else-k-room w ↦ w.out-is ∙ sym (set_out l.out (s.at + l.k) _ (omega (arith, w.if-k-room.false, l.invariant.1, c.if-out-at.false)))
+    ] in
     (omega arith, ap length e ∙ (simp length-set l.invariant.1), put_again _ l.out _ _ _ l.k h e l.invariant.2)
 
 shape_of-out : tie.Need-shape_of-out invariant-loop-k decreases-loop-k
