@@ -1,11 +1,15 @@
 // Imports a supplier's list: `import N < list.csv` writes the entries that a load of N components begins
 // with, by rows, each as 16 hexadecimal digits on a line of its own, or `refused` and the number.
+#![tactic(auto)]
+
 ghost use Rattle.std.specs.Prelude.{◌≤◌};
 
 use arithmetic::bytes::bits_of;
-use libc::{STDIN_FILENO, STDOUT_FILENO};
 use models::limits::PAIRS;
 use models::suppliers::import;
+use reading::read_full;
+use std::io;
+use std::rt::Env;
 
 // A longer text isn't read on: no list has more than 2,592 bytes, which are 144 fields of a minus, 15 digits,
 // a point and what ends them.
@@ -50,11 +54,11 @@ fn number_of(text: &[u8], n: usize, entries: &mut [f64]) -> u8 {
     import(text, n, entries)
 }
 
-fn show(entries: &[f64]) {
+fn show(rt: &impl Print, entries: &[f64]) -> io::Result<()> {
     for k in 0..entries.len() {
-        io::print_hex(STDOUT_FILENO, bits_of(entries[k]), 16);
-        io::write_all(STDOUT_FILENO, b"\n");
+        println!(rt; "{:016x}", bits_of(entries[k]))?;
     }
+    Ok(())
 }
 
 fn square(n: usize) -> usize
@@ -65,25 +69,22 @@ fn square(n: usize) -> usize
 }
 
 // Imports the list into the entries lent, and writes what comes of it.
-fn answer(text: &[u8], n: usize, entries: &mut [f64]) {
+fn answer(rt: &impl Print, text: &[u8], n: usize, entries: &mut [f64]) -> io::Result<()> {
     let number = number_of(text, n, entries);
     if number == 0 {
-        show(entries);
-        return;
+        return show(rt, entries);
     }
-    io::write_all(STDOUT_FILENO, b"refused ");
-    io::print_decimal(STDOUT_FILENO, number as u64);
-    io::write_all(STDOUT_FILENO, b"\n");
+    println!(rt; "refused {number}")
 }
 
-fn main() {
+fn main(rt: HostRuntime) -> io::Result<()> {
     // where there is no word, or a longer one, it is empty
     let mut word = [0u8; 3];
-    let length = os::arg(1, &mut word);
+    let length = rt.arg(1, &mut word).unwrap_or(0);
     let n = count_of(&word[..length]);
     let count = square(n);
     let mut text = [0u8; MOST_BYTES + 1];
-    let read = io::read_full(STDIN_FILENO, &mut text);
+    let read = read_full(&mut rt.stdin(), &mut text)?;
     let mut entries = [0.0; PAIRS];
-    answer(&text[..read], n, &mut entries[..count]);
+    answer(&rt, &text[..read], n, &mut entries[..count])
 }
