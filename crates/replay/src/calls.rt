@@ -10,6 +10,7 @@ use models::faults::usual_tolerance;
 use models::limits::VALUES;
 use models::model::plain;
 use models::{Answer, Model, Quantity};
+use std::io::{Read, Result};
 
 // Room for the fractions or the lists of a line, and for the groups of these: for more than any model has,
 // since a line may be one that is refused for that.
@@ -35,51 +36,51 @@ fn is_stored(a: Answer, number: u64, value: u64) -> bool {
 }
 
 // The answer, held against the line's last two words.
-fn held(fd: i32, a: Answer) -> Line {
-    let Word::Bits(number) = words::next(fd, b' ') else {
-        return Line::Broken;
+fn held<R: Read>(file: &mut R, a: Answer) -> Result<Line> {
+    let Word::Bits(number) = words::next(file, b' ')? else {
+        return Ok(Line::Broken);
     };
-    let Word::Bits(value) = words::next(fd, b'\n') else {
-        return Line::Broken;
+    let Word::Bits(value) = words::next(file, b'\n')? else {
+        return Ok(Line::Broken);
     };
     if is_stored(a, number, value) {
-        Line::Same
+        Ok(Line::Same)
     } else {
-        Line::Differs
+        Ok(Line::Differs)
     }
 }
 
 // From the values on.
-fn with_lists(
-    fd: i32,
+fn with_lists<R: Read>(
+    file: &mut R,
     model: Model,
     n: usize,
     ng: usize,
     lens: &[u8],
     groups: &[u8],
     q: Quantity,
-) -> Line {
-    let count = words::count(fd);
+) -> Result<Line> {
+    let count = words::count(file)?;
     if VALUES < count {
-        return Line::Broken;
+        return Ok(Line::Broken);
     }
     let mut values = [0.0; VALUES];
-    if !words::fill_floats(fd, &mut values[..], count) {
-        return Line::Broken;
+    if !words::fill_floats(file, &mut values[..], count)? {
+        return Ok(Line::Broken);
     }
-    let Word::Bits(t) = words::next(fd, b' ') else {
-        return Line::Broken;
+    let Word::Bits(t) = words::next(file, b' ')? else {
+        return Ok(Line::Broken);
     };
-    let parts = words::count(fd);
+    let parts = words::count(file)?;
     if LINE_ROOM < parts {
-        return Line::Broken;
+        return Ok(Line::Broken);
     }
     let mut x = [0.0; LINE_ROOM];
-    if !words::fill_floats(fd, &mut x[..], parts) {
-        return Line::Broken;
+    if !words::fill_floats(file, &mut x[..], parts)? {
+        return Ok(Line::Broken);
     }
     held(
-        fd,
+        file,
         plain(
             model,
             n,
@@ -96,41 +97,47 @@ fn with_lists(
 }
 
 // From the lengths of the lists on.
-fn with_quantity(fd: i32, model: Model, n: usize, ng: usize, q: Quantity) -> Line {
-    let count = words::count(fd);
+fn with_quantity<R: Read>(
+    file: &mut R,
+    model: Model,
+    n: usize,
+    ng: usize,
+    q: Quantity,
+) -> Result<Line> {
+    let count = words::count(file)?;
     if LINE_ROOM < count {
-        return Line::Broken;
+        return Ok(Line::Broken);
     }
     let mut lens = [0u8; LINE_ROOM];
-    if !words::fill_bytes(fd, &mut lens[..], count) {
-        return Line::Broken;
+    if !words::fill_bytes(file, &mut lens[..], count)? {
+        return Ok(Line::Broken);
     }
-    let pairs = words::count(fd);
+    let pairs = words::count(file)?;
     if GROUPS_ROOM < pairs {
-        return Line::Broken;
+        return Ok(Line::Broken);
     }
     let mut groups = [0u8; GROUPS_ROOM];
-    if !words::fill_bytes(fd, &mut groups[..], pairs) {
-        return Line::Broken;
+    if !words::fill_bytes(file, &mut groups[..], pairs)? {
+        return Ok(Line::Broken);
     }
-    with_lists(fd, model, n, ng, &lens[..count], &groups[..pairs], q)
+    with_lists(file, model, n, ng, &lens[..count], &groups[..pairs], q)
 }
 
 // A line whose first word has been read.
-pub fn line(fd: i32, model: Model, asked: u64) -> Line {
-    let Word::Bits(i) = words::next(fd, b' ') else {
-        return Line::Broken;
+pub fn line<R: Read>(file: &mut R, model: Model, asked: u64) -> Result<Line> {
+    let Word::Bits(i) = words::next(file, b' ')? else {
+        return Ok(Line::Broken);
     };
-    let Word::Bits(n) = words::next(fd, b' ') else {
-        return Line::Broken;
+    let Word::Bits(n) = words::next(file, b' ')? else {
+        return Ok(Line::Broken);
     };
-    let Word::Bits(ng) = words::next(fd, b' ') else {
-        return Line::Broken;
+    let Word::Bits(ng) = words::next(file, b' ')? else {
+        return Ok(Line::Broken);
     };
     let n = n as usize;
     let ng = ng as usize;
     if 2 < asked {
-        return Line::Broken;
+        return Ok(Line::Broken);
     }
-    with_quantity(fd, model, n, ng, quantity_of(asked as usize, i as usize))
+    with_quantity(file, model, n, ng, quantity_of(asked as usize, i as usize))
 }

@@ -5,28 +5,29 @@ use crate::lists::Line;
 use crate::words;
 use crate::words::Word;
 use models::faults::check_composition;
+use std::io::{Read, Result};
 
 // The number, held against the line's last word.
-fn held(fd: i32, got: u8) -> Line {
-    let Word::Bits(number) = words::next(fd, b'\n') else {
-        return Line::Broken;
+fn held<R: Read>(file: &mut R, got: u8) -> Result<Line> {
+    let Word::Bits(number) = words::next(file, b'\n')? else {
+        return Ok(Line::Broken);
     };
     if number == got as u64 {
-        Line::Same
+        Ok(Line::Same)
     } else {
-        Line::Differs
+        Ok(Line::Differs)
     }
 }
 
 // A line whose tolerance has been read.
-pub fn line(fd: i32, tolerance: f64) -> Line {
-    let parts = words::count(fd);
+pub fn line<R: Read>(file: &mut R, tolerance: f64) -> Result<Line> {
+    let parts = words::count(file)?;
     if LINE_ROOM < parts {
-        return Line::Broken;
+        return Ok(Line::Broken);
     }
     let mut x = [0.0; LINE_ROOM];
-    if !words::fill_floats(fd, &mut x[..], parts) {
-        return Line::Broken;
+    if !words::fill_floats(file, &mut x[..], parts)? {
+        return Ok(Line::Broken);
     }
-    held(fd, check_composition(tolerance, &x[..parts]))
+    held(file, check_composition(tolerance, &x[..parts]))
 }

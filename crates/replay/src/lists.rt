@@ -3,10 +3,11 @@ use crate::words::Word;
 use crate::{calls, checks, panel, strips, suppliers, words};
 use arithmetic::bytes::{bits_of, float_of};
 use models::Model;
+use std::io::{Read, Result};
 
 const MOST_LINES: u64 = 1000000;
 
-#[derive(Drop)]
+#[derive(Clone, Copy)]
 pub enum List {
     Exp,
     Log,
@@ -17,7 +18,7 @@ pub enum List {
     Strips,
 }
 
-#[derive(Drop)]
+#[derive(Clone, Copy)]
 pub enum Line {
     Same,
     Differs,
@@ -27,7 +28,7 @@ pub enum Line {
 
 // What came of a list: how many answers it has, how many of them differ, and whether it was read to
 // its end.
-#[derive(Drop)]
+#[derive(Clone, Copy)]
 pub struct Tally {
     pub answers: u64,
     pub differ: u64,
@@ -51,34 +52,34 @@ fn held(got: f64, stored: Word) -> Line {
 
 // The rest of a line of a list, whose first word is the input, what is asked of a model, a check's tolerance,
 // a supplier's n, or a strip's length.
-fn rest_of(fd: i32, list: List, b: u64) -> Line {
+fn rest_of<R: Read>(file: &mut R, list: List, b: u64) -> Result<Line> {
     match list {
-        List::Exp => held(arithmetic::exp(float_of(b)), words::next(fd, b'\n')),
-        List::Log => held(arithmetic::log(float_of(b)), words::next(fd, b'\n')),
-        List::Plain(model) => calls::line(fd, model, b),
-        List::Millionths => panel::line(fd, float_of(b)),
-        List::Checks => checks::line(fd, float_of(b)),
-        List::Suppliers => suppliers::line(fd, b as usize),
-        List::Strips => strips::line(fd, b as usize),
+        List::Exp => Ok(held(arithmetic::exp(float_of(b)), words::next(file, b'\n')?)),
+        List::Log => Ok(held(arithmetic::log(float_of(b)), words::next(file, b'\n')?)),
+        List::Plain(model) => calls::line(file, model, b),
+        List::Millionths => panel::line(file, float_of(b)),
+        List::Checks => checks::line(file, float_of(b)),
+        List::Suppliers => suppliers::line(file, b as usize),
+        List::Strips => strips::line(file, b as usize),
     }
 }
 
-fn next_line(fd: i32, list: List) -> Line {
-    let first = words::next(fd, b' ');
+fn next_line<R: Read>(file: &mut R, list: List) -> Result<Line> {
+    let first = words::next(file, b' ')?;
     match first {
-        Word::Bits(b) => rest_of(fd, list, b),
-        Word::End => Line::End,
-        Word::Broken => Line::Broken,
+        Word::Bits(b) => rest_of(file, list, b),
+        Word::End => Ok(Line::End),
+        Word::Broken => Ok(Line::Broken),
     }
 }
 
 // Replays a list, line by line. A proved loop has to end, and nothing says that a file does: of a
 // longer list the rest counts as unread.
-pub fn replay(fd: i32, list: List) -> Tally {
+pub fn replay<R: Read>(file: &mut R, list: List) -> Result<Tally> {
     let mut answers: u64 = 0;
     let mut differ: u64 = 0;
     for _ in 0..MOST_LINES {
-        let line = next_line(fd, list);
+        let line = next_line(file, list)?;
         match line {
             Line::Same => {
                 answers += 1;
@@ -88,24 +89,24 @@ pub fn replay(fd: i32, list: List) -> Tally {
                 differ += 1;
             }
             Line::End => {
-                return Tally {
+                return Ok(Tally {
                     answers: answers,
                     differ: differ,
                     whole: true,
-                };
+                });
             }
             Line::Broken => {
-                return Tally {
+                return Ok(Tally {
                     answers: answers,
                     differ: differ,
                     whole: false,
-                };
+                });
             }
         }
     }
-    Tally {
+    Ok(Tally {
         answers: answers,
         differ: differ,
         whole: false,
-    }
+    })
 }

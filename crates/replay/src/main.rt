@@ -1,5 +1,7 @@
 // Replays the stored answers of the Rust, list by list, and writes how many there are and how many
 // differ. The lists are files in the folder that it runs in.
+#![tactic(auto)]
+
 mod calls;
 mod checks;
 mod lists;
@@ -8,46 +10,36 @@ mod strips;
 mod suppliers;
 mod words;
 
-use libc::STDOUT_FILENO;
 use lists::{List, Tally};
 use models::Model;
+use std::rt::Files;
+use std::{fs, io};
 
-fn write(text: &[u8]) {
-    io::write_all(STDOUT_FILENO, text);
-}
-
-fn write_tally(t: Tally) {
-    write(b": ");
-    io::print_decimal(STDOUT_FILENO, t.answers);
-    write(b" answers, ");
-    io::print_decimal(STDOUT_FILENO, t.differ);
-    write(b" differ");
+fn write_tally(rt: &impl Print, t: Tally) -> io::Result<()> {
+    print!(rt; ": {} answers, {} differ", t.answers, t.differ)?;
     if !t.whole {
-        write(b", and the rest cannot be read");
+        print!(rt; ", and the rest cannot be read")?;
     }
-    write(b"\n");
+    println!(rt)
 }
 
-fn replay(name: &[u8], path: &[u8], list: List) {
-    write(name);
-    let fd = os::open_read(path);
-    if fd < 0 {
-        write(b": cannot be opened\n");
-        return;
-    }
-    write_tally(lists::replay(fd, list));
-    libc::close(fd);
+fn replay(rt: &(impl Files + Print), name: &str, path: &str, list: List) -> io::Result<()> {
+    print!(rt; "{name}")?;
+    let Ok(mut file) = fs::open(rt, path) else {
+        return println!(rt; ": cannot be opened");
+    };
+    write_tally(rt, lists::replay(&mut file, list)?)
 }
 
-fn main() {
-    replay(b"exp", b"exp.txt", List::Exp);
-    replay(b"log", b"log.txt", List::Log);
-    replay(b"wilson", b"wilson.txt", List::Plain(Model::Wilson));
-    replay(b"uniquac", b"uniquac.txt", List::Plain(Model::Uniquac));
-    replay(b"nrtl", b"nrtl.txt", List::Plain(Model::Nrtl));
-    replay(b"unifac", b"unifac.txt", List::Plain(Model::Unifac));
-    replay(b"millionths", b"millionths.txt", List::Millionths);
-    replay(b"checks", b"checks.txt", List::Checks);
-    replay(b"suppliers", b"suppliers.bin", List::Suppliers);
-    replay(b"strips", b"strips.bin", List::Strips);
+fn main(rt: HostRuntime) -> io::Result<()> {
+    replay(&rt, "exp", "exp.txt", List::Exp)?;
+    replay(&rt, "log", "log.txt", List::Log)?;
+    replay(&rt, "wilson", "wilson.txt", List::Plain(Model::Wilson))?;
+    replay(&rt, "uniquac", "uniquac.txt", List::Plain(Model::Uniquac))?;
+    replay(&rt, "nrtl", "nrtl.txt", List::Plain(Model::Nrtl))?;
+    replay(&rt, "unifac", "unifac.txt", List::Plain(Model::Unifac))?;
+    replay(&rt, "millionths", "millionths.txt", List::Millionths)?;
+    replay(&rt, "checks", "checks.txt", List::Checks)?;
+    replay(&rt, "suppliers", "suppliers.bin", List::Suppliers)?;
+    replay(&rt, "strips", "strips.bin", List::Strips)
 }

@@ -6,6 +6,7 @@ use crate::lists::Line;
 use crate::words;
 use crate::words::Word;
 use arithmetic::millionths::{Shown, millionths};
+use std::io::{Read, Result};
 
 // The largest number that is shown.
 const MOST: u64 = 2048000000;
@@ -42,22 +43,22 @@ fn minus(size: u64) -> i64
 }
 
 // A line whose input has been read.
-pub fn line(fd: i32, v: f64) -> Line {
-    let Word::Bits(number) = words::next(fd, b' ') else {
-        return Line::Broken;
+pub fn line<R: Read>(file: &mut R, v: f64) -> Result<Line> {
+    let Word::Bits(number) = words::next(file, b' ')? else {
+        return Ok(Line::Broken);
     };
-    let Word::Bits(sign) = words::next(fd, b' ') else {
-        return Line::Broken;
+    let Word::Bits(sign) = words::next(file, b' ')? else {
+        return Ok(Line::Broken);
     };
-    let Word::Bits(size) = words::next(fd, b'\n') else {
-        return Line::Broken;
+    let Word::Bits(size) = words::next(file, b'\n')? else {
+        return Ok(Line::Broken);
     };
     if MOST < size {
-        return Line::Broken;
+        return Ok(Line::Broken);
     }
     match sign {
-        0 => held(millionths(v), number, size as i64),
-        1 => held(millionths(v), number, minus(size)),
-        _ => Line::Broken,
+        0 => Ok(held(millionths(v), number, size as i64)),
+        1 => Ok(held(millionths(v), number, minus(size))),
+        _ => Ok(Line::Broken),
     }
 }

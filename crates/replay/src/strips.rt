@@ -4,18 +4,20 @@ ghost use Rattle.std.specs.Prelude.{◌≡◌, ◌≤◌, length, take};
 use crate::lists::Line;
 use crate::words;
 use crate::words::Word;
+use reading::read_full;
+use std::io::{Read, Result};
 
 const MOST: usize = 4096;
 
 const MOST_TEXT: usize = 8192;
 
 // Fills the first n places, and answers whether the file had so many bytes.
-pub fn fill(fd: i32, a: &mut [u8], n: usize) -> bool
+pub fn fill<R: Read>(file: &mut R, a: &mut [u8], n: usize) -> Result<bool>
     requires { n ≤ length a.old }
     ensures { n ≡ length (take n a.new) }
 {
-    let got = io::read_full(fd, &mut a[..n]);
-    got == n
+    let got = read_full(file, &mut a[..n])?;
+    Ok(got == n)
 }
 
 // Whether the first n bytes are the same.
@@ -44,32 +46,32 @@ fn writes(strip: &[u8], text: &[u8]) -> bool {
 }
 
 // From the text on, of m bytes.
-fn with_text(fd: i32, strip: &[u8], m: usize) -> Line {
+fn with_text<R: Read>(file: &mut R, strip: &[u8], m: usize) -> Result<Line> {
     if MOST_TEXT < m {
-        return Line::Broken;
+        return Ok(Line::Broken);
     }
     let mut text = [0u8; MOST_TEXT];
-    if !fill(fd, &mut text, m) {
-        return Line::Broken;
+    if !fill(file, &mut text, m)? {
+        return Ok(Line::Broken);
     }
     if writes(strip, &text[..m]) {
-        Line::Same
+        Ok(Line::Same)
     } else {
-        Line::Differs
+        Ok(Line::Differs)
     }
 }
 
 // From the text's length on, of a strip of n bytes.
-pub fn line(fd: i32, n: usize) -> Line {
-    let Word::Bits(m) = words::next(fd, b'\n') else {
-        return Line::Broken;
+pub fn line<R: Read>(file: &mut R, n: usize) -> Result<Line> {
+    let Word::Bits(m) = words::next(file, b'\n')? else {
+        return Ok(Line::Broken);
     };
     if MOST < n {
-        return Line::Broken;
+        return Ok(Line::Broken);
     }
     let mut strip = [0u8; MOST];
-    if !fill(fd, &mut strip, n) {
-        return Line::Broken;
+    if !fill(file, &mut strip, n)? {
+        return Ok(Line::Broken);
     }
-    with_text(fd, &strip[..n], m as usize)
+    with_text(file, &strip[..n], m as usize)
 }

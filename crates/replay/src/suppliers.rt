@@ -6,6 +6,7 @@ use crate::words;
 use crate::words::Word;
 use arithmetic::bytes::bits_of;
 use models::suppliers::import;
+use std::io::{Read, Result};
 
 const MOST_TEXT: usize = 4096;
 
@@ -25,50 +26,50 @@ fn same(a: &[f64; ENTRIES_ROOM], b: &[f64; ENTRIES_ROOM]) -> bool {
 }
 
 // The number and all places, held against the second line.
-fn held(fd: i32, got: u8, entries: &[f64; ENTRIES_ROOM]) -> Line {
-    let count = words::count(fd);
+fn held<R: Read>(file: &mut R, got: u8, entries: &[f64; ENTRIES_ROOM]) -> Result<Line> {
+    let count = words::count(file)?;
     if ENTRIES_ROOM < count {
-        return Line::Broken;
+        return Ok(Line::Broken);
     }
     let mut stored = [BEFORE; ENTRIES_ROOM];
-    if !words::fill_floats(fd, &mut stored[..], count) {
-        return Line::Broken;
+    if !words::fill_floats(file, &mut stored[..], count)? {
+        return Ok(Line::Broken);
     }
-    let Word::Bits(number) = words::next(fd, b'\n') else {
-        return Line::Broken;
+    let Word::Bits(number) = words::next(file, b'\n')? else {
+        return Ok(Line::Broken);
     };
     if number != got as u64 {
-        return Line::Differs;
+        return Ok(Line::Differs);
     }
     if same(entries, &stored) {
-        Line::Same
+        Ok(Line::Same)
     } else {
-        Line::Differs
+        Ok(Line::Differs)
     }
 }
 
 // From the text on, of m bytes.
-fn with_text(fd: i32, n: usize, lent: usize, m: usize) -> Line {
+fn with_text<R: Read>(file: &mut R, n: usize, lent: usize, m: usize) -> Result<Line> {
     if ENTRIES_ROOM < lent {
-        return Line::Broken;
+        return Ok(Line::Broken);
     }
     if MOST_TEXT < m {
-        return Line::Broken;
+        return Ok(Line::Broken);
     }
     let mut text = [0u8; MOST_TEXT];
-    if !fill(fd, &mut text, m) {
-        return Line::Broken;
+    if !fill(file, &mut text, m)? {
+        return Ok(Line::Broken);
     }
     let mut entries = [BEFORE; ENTRIES_ROOM];
     let number = import(&text[..m], n, &mut entries[..lent]);
-    held(fd, number, &entries)
+    held(file, number, &entries)
 }
 
 // A list whose n has been read.
-pub fn line(fd: i32, n: usize) -> Line {
-    let lent = words::count(fd);
-    let Word::Bits(m) = words::next(fd, b'\n') else {
-        return Line::Broken;
+pub fn line<R: Read>(file: &mut R, n: usize) -> Result<Line> {
+    let lent = words::count(file)?;
+    let Word::Bits(m) = words::next(file, b'\n')? else {
+        return Ok(Line::Broken);
     };
-    with_text(fd, n, lent, m as usize)
+    with_text(file, n, lent, m as usize)
 }

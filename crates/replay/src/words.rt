@@ -3,8 +3,10 @@
 ghost use Rattle.std.specs.Prelude.{◌≡◌, ◌≤◌, length, take};
 
 use arithmetic::bytes::float_of;
+use reading::read_full;
+use std::io::{Read, Result};
 
-#[derive(Drop)]
+#[derive(Clone, Copy)]
 pub enum Word {
     Bits(u64),
     End,
@@ -44,55 +46,55 @@ fn spelt(text: &[u8; 17]) -> Word {
 }
 
 // The next word of a file, which the byte `after` follows.
-pub fn next(fd: i32, after: u8) -> Word {
+pub fn next<R: Read>(file: &mut R, after: u8) -> Result<Word> {
     let mut text = [0u8; 17];
-    let n = io::read_full(fd, &mut text);
+    let n = read_full(file, &mut text)?;
     if n == 0 {
-        return Word::End;
+        return Ok(Word::End);
     }
     if n < 17 {
-        return Word::Broken;
+        return Ok(Word::Broken);
     }
     if text[16] != after {
-        return Word::Broken;
+        return Ok(Word::Broken);
     }
-    spelt(&text)
+    Ok(spelt(&text))
 }
 
 // The next word, as the length of a row; where there is none, more than any row has.
-pub fn count(fd: i32) -> usize {
-    let Word::Bits(b) = next(fd, b' ') else {
-        return 0xffff_ffff_ffff_ffff;
+pub fn count<R: Read>(file: &mut R) -> Result<usize> {
+    let Word::Bits(b) = next(file, b' ')? else {
+        return Ok(0xffff_ffff_ffff_ffff);
     };
-    b as usize
+    Ok(b as usize)
 }
 
 // Fills the first n places of a slice from the words that follow, and answers whether all of them
 // could be read.
-pub fn fill_floats(fd: i32, a: &mut [f64], n: usize) -> bool
+pub fn fill_floats<R: Read>(file: &mut R, a: &mut [f64], n: usize) -> Result<bool>
     requires { n ≤ length a.old }
     ensures { n ≡ length (take n a.new) }
 {
     for k in 0..n {
-        let Word::Bits(b) = next(fd, b' ') else {
-            return false;
+        let Word::Bits(b) = next(file, b' ')? else {
+            return Ok(false);
         };
         a[k] = float_of(b);
     }
-    true
+    Ok(true)
 }
 
 // The same for words below 256.
-pub fn fill_bytes(fd: i32, a: &mut [u8], n: usize) -> bool
+pub fn fill_bytes<R: Read>(file: &mut R, a: &mut [u8], n: usize) -> Result<bool>
     requires { n ≤ length a.old }
     ensures { n ≡ length (take n a.new) }
 {
     for k in 0..n {
-        let b = count(fd);
+        let b = count(file)?;
         if 255 < b {
-            return false;
+            return Ok(false);
         }
         a[k] = b as u8;
     }
-    true
+    Ok(true)
 }
