@@ -1,43 +1,32 @@
 // The lines that the program writes.
 use arithmetic::bytes::bits_of;
-use libc::STDOUT_FILENO;
 use mixture::Answer;
+use std::io;
 
-fn write(text: &[u8]) {
-    io::write_all(STDOUT_FILENO, text);
-}
-
-fn write_value(v: f64) {
+fn write_value(rt: &impl Print, v: f64) -> io::Result<()> {
     if v != v {
-        write(b"nan");
-        return;
+        return print!(rt; "nan");
     }
-    io::print_hex(STDOUT_FILENO, bits_of(v), 16);
+    print!(rt; "{:016x}", bits_of(v))
 }
 
-fn write_answer(answer: Answer) {
+fn write_answer(rt: &impl Print, answer: Answer) -> io::Result<()> {
     match answer {
-        Answer::Refused(number) => {
-            write(b"refused ");
-            io::print_decimal(STDOUT_FILENO, number as u64);
-        }
-        Answer::Done => write(b"ok"),
+        Answer::Refused(number) => print!(rt; "refused {number}"),
+        Answer::Done => print!(rt; "ok"),
         Answer::Value(v, count) => {
-            write_value(v);
-            write(b" ");
-            io::print_decimal(STDOUT_FILENO, count as u64);
+            write_value(rt, v)?;
+            print!(rt; " {count}")
         }
     }
 }
 
-pub fn write_line(answer: Answer, digest: u64) {
-    write_answer(answer);
-    write(b" ");
-    io::print_hex(STDOUT_FILENO, digest, 16);
-    write(b"\n");
+pub fn write_line(rt: &impl Print, answer: Answer, digest: u64) -> io::Result<()> {
+    write_answer(rt, answer)?;
+    println!(rt; " {digest:016x}")
 }
 
 // What stands for a record that can't be read.
-pub fn write_broken() {
-    write(b"broken\n");
+pub fn write_broken(rt: &impl Print) -> io::Result<()> {
+    println!(rt; "broken")
 }

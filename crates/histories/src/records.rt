@@ -36,7 +36,7 @@ pub const ROWS_ROOM: usize = 65536;
 
 // How many places of values, cells and marks are lent; up to five numbers of the call; the lengths of the
 // rows.
-#[derive(Drop)]
+#[derive(Clone, Copy)]
 pub struct Record {
     pub kind: usize,
     pub values: usize,
