@@ -87,8 +87,9 @@ def turn_tie(walk, text, old, say):
             if key in walk.needs:
                 return "tie.Need-" + walk.needs[key]
             for a, b in (("-holds", "-init"), ("-less", "-smaller"), ("-again", "-preserved")):
-                if key.endswith(a) and key[: -len(a)] + b in walk.needs:
-                    return "tie.Need-" + walk.needs[key[: -len(a)] + b]
+                numbered = re.sub(a + r"(-\d+)?$", lambda k: b + (k.group(1) or ""), key)
+                if numbered != key and numbered in walk.needs:
+                    return "tie.Need-" + walk.needs[numbered]
             say(f"no goal {w}")
             return m.group(0)
         if kind in ("InvT", "Inv"):
