@@ -1,2 +1,4 @@
 // For the benchmark: a mixture asked again and again in one exported call.
+#![tactic(auto)]
+
 pub mod exports;

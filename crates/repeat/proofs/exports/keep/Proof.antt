@@ -9,18 +9,18 @@ use Rattle.repeat.proofs.exports.keep.Statement.{statement}
 use Rattle.repeat.proofs.exports.keep.Tie as tie
 
 -- the temperature of turn k, seen from the first turn's end
-abbrev T : tie.After-set-each → ℕ → Float
-T c k = float_at c.before.before.before.before.before.before.before.before.args.temperatures.now (8 * k)
+abbrev T : tie.After-set_each-first → ℕ → Float
+T c k = float_at c.args.temperatures.now (8 * k)
+
+returns-then-change-eq0 : tie.Need-returns-then-change-eq0
+returns-then-change-eq0 c =
+    let f = c.before.before.before.before.before.before.before.before.before.before.before.before.before.before in
+    turns-asked _ _ _ _ (T f) _ _ c.set_each-first.ensures c.if-change-eq0.true c.ask_each.ensures
 
 returns : tie.Need-returns
 returns c =
-    let f = c.before.before.before.before.before.before.before.before.before.before.before.before.before.before.before in
-    turns-asked _ _ _ _ (T f) _ _ f.set-each.ensures c.before.before.before.before.before.before.before.before.if1.true c.before.before.before.before.ask-each.ensures
-
-returns-2 : tie.Need-returns-2
-returns-2 c =
     let f = c.before.before.before.before.before.before.before.before.before.before.before.before.before.before.before.before.before.before in
-    c.value_of_lem.ensures ∙ turns-set _ _ _ _ (T f) _ _ f.set-each.ensures c.before.before.before.before.before.before.before.before.before.before.before.if1.false c.before.before.before.before.before.before.before.set-each2.ensures
+    c.value_of.ensures ∙ turns-set _ _ _ _ (T f) _ _ c.set_each-first.ensures c.if-change-eq0.false c.set_each-last.ensures
 
 pub keep_spec : {M : Type 1} → statement M
 keep_spec =
@@ -32,10 +32,10 @@ keep_spec =
     (λ c. search rules)
     (λ c. search rules)
     (λ c. search rules)
-    returns
+    returns-then-change-eq0
     (λ c κs. search rules)
     (λ c κs. tt)
     (λ c. search rules)
     (λ c. search rules)
     (λ c. search rules)
-    returns-2)
+    returns)

@@ -7,7 +7,7 @@ use Rattle.repeat.proofs.exports.kept.Statement.{statement}
 use Rattle.repeat.proofs.exports.kept.Tie as tie
 
 returns : tie.Need-returns
-returns c = kept-is _ _ _ _ _ (λ k. float_at c.before.before.before.before.before.before.before.before.before.before.before.before.before.before.before.before.before.before.before.args.temperatures.now (8 * k)) _ _ c.before.before.before.before.before.before.before.before.before.before.before.before.before.no-head.ensures c.before.before.before.before.before.before.before.before.before.begin.ensures c.before.before.before.keep.ensures
+returns c = kept-is _ _ _ _ _ (λ k. float_at c.args.temperatures.now (8 * k)) _ _ c.no_head-head.ensures c.begin-start.ensures c.keep.ensures
 
 pub kept_spec : {M : Type 1} → statement M
 kept_spec =

@@ -2,15 +2,15 @@
 use lib.Ieee.{of_bits}
 use borrow.Author.Rules.{rules}
 use Rattle.repeat.specs.Exports.{plain_value}
-use Rattle.repeat.proofs.exports.plain_value_lem.Statement.{statement}
-use Rattle.repeat.proofs.exports.plain_value_lem.Tie as tie
+use Rattle.repeat.proofs.exports.plain_value.Statement.{statement}
+use Rattle.repeat.proofs.exports.plain_value.Tie as tie
 
-pub plain-value_spec : {M : Type 1} → statement M
+pub plain_value_spec : {M : Type 1} → statement M
 unfolding plain_value of_bits
-plain-value_spec =
+plain_value_spec =
     tie.close
     (tie.spec
     (λ c. search rules)
     (λ c. search rules)
-    (λ c. rw c.before.a.given.1)
-    (λ c. rw c.enum_told.given.1))
+    (λ c. rw c.in-Value.is)
+    (λ c. rw c.in-Refused.is))

@@ -9,6 +9,6 @@ repeat_spec =
     tie.close
     (tie.spec
     (λ c κs. tt)
-    (λ c. repeated-plain _ _ _ _ _ _ _ c.before.if1.true c.plain-each.ensures)
+    (λ c. repeated-plain _ _ _ _ _ _ _ c.if-change-eq3.true c.plain_each.ensures)
     (λ c κs. search rules)
-    (λ c. repeated-kept _ _ _ _ _ _ _ c.before.if1.false c.kept.ensures))
+    (λ c. repeated-kept _ _ _ _ _ _ _ c.if-change-eq3.false c.kept.ensures))

@@ -12,66 +12,62 @@ use Rattle.repeat.proofs.exports.ExportLaws.{set-none, set_more, set-done}
 use Rattle.repeat.proofs.exports.set_each.Statement.{statement}
 use Rattle.repeat.proofs.exports.set_each.Tie as tie
 
-abbrev invariant_loop : tie.invariant_loop
-invariant_loop values₀ cells₀ marks₀ change model v q temperatures from to head₀ answer₀ k₀ values cells marks head answer k =
+abbrev invariant-loop-k : tie.invariant-loop-k
+invariant-loop-k values₀ cells₀ marks₀ change model v q temperatures from to head₀ answer₀ k₀ values cells marks head answer k =
     (from ≤ k) × (k ≤ to) × (length values ≡ length values₀) × (length cells ≡ length cells₀) × (length marks ≡ length marks₀)
     × (after (memory values cells marks) head answer ≡ set_times (k - from) change model v q (λ j. float_at temperatures (8 * (from + j))) (after (memory values₀ cells₀ marks₀) head₀ answer₀))
 
-abbrev decreases_loop : tie.decreases_loop
-decreases_loop values₀ cells₀ marks₀ change model v q temperatures from to head₀ answer₀ k₀ values cells marks head answer k = to - k
+abbrev decreases-loop-k : tie.decreases-loop-k
+decreases-loop-k values₀ cells₀ marks₀ change model v q temperatures from to head₀ answer₀ k₀ values cells marks head answer k = to - k
 
 -- the temperature of turn k
-abbrev T : tie.Start invariant_loop decreases_loop → ℕ → Float
+abbrev T : tie.Start invariant-loop-k decreases-loop-k → ℕ → Float
 T s k = float_at s.args.temperatures.now (8 * k)
 
-loop-holds : tie.Need-loop-init invariant_loop decreases_loop
-loop-holds c = (omega arith, omega arith, refl, refl, refl, set-none _ _ _ _ (T c.before.before.before.before.before) _ _)
+loop-k-init : tie.Need-loop-k-init invariant-loop-k decreases-loop-k
+loop-k-init c = (omega arith, omega arith, refl, refl, refl, set-none _ _ _ _ (T c.before.before.before.before.before) _ _)
 
-add-k : tie.Need-overflow-add-k invariant_loop decreases_loop
-add-k c = omega (arith, c.before.before.before.before.before.before.before.before.before.before.before.before.before.before.before.before.before.before.before.before.loop-test.true, c.before.before.before.before.before.before.before.before.before.before.before.before.before.before.before.before.before.before.before.before.before.before.before.before.before.before.before.well-formed)
+overflow_step-k : tie.Need-overflow_step-k invariant-loop-k decreases-loop-k
+overflow_step-k c = omega (arith, c.loop-k-test.true, c.well_formed)
 
-loop-again : tie.Need-loop-preserved invariant_loop decreases_loop
-loop-again c =
-    let ask = c.before.before.before.before.before in
-    let set = ask.before.before.before.before.before.before.before.before.before in
-    let setting = set.before.before.before.before in
-    let top = setting.before.before.before in (
-      omega arith,
-      omega arith,
-      set.set.auto.0 ∙ top.loop.invariant.2,
-      ask.query.auto.1.0 ∙ top.loop.invariant.3,
-      ask.query.auto.1.1.0 ∙ set.set.auto.1.1.0 ∙ top.loop.invariant.4,
-      set_more _ _ _ _ (T top.before.before.before.before.before.before) _ _ _ top.loop.invariant.0 top.loop.invariant.5 setting.before.Float-at.ensures setting.setting-of.ensures set.set.ensures ask.query.ensures,
-    )
+loop-k-preserved : tie.Need-loop-k-preserved invariant-loop-k decreases-loop-k
+loop-k-preserved c = (
+  omega arith,
+  omega arith,
+  c.set-set.auto.values ∙ c.loop-k.invariant.2,
+  c.query-asked.auto.cells ∙ c.loop-k.invariant.3,
+  c.query-asked.auto.marks ∙ c.set-set.auto.marks ∙ c.loop-k.invariant.4,
+  set_more _ _ _ _ (T c.before.before.before.before.before.before.before.before.before.before.before.before.before.before.before.before.before.before.before.before.before.before.before.before.before) _ _ _ c.loop-k.invariant.0 c.loop-k.invariant.5 c.float_at.ensures c.setting_of-s.ensures c.set-set.ensures c.query-asked.ensures,
+)
 
-same_length : tie.Need-same-length invariant_loop decreases_loop
-same_length c = c.before.loop.invariant.2
+shape_of-values : tie.Need-shape_of-values invariant-loop-k decreases-loop-k
+shape_of-values c = c.loop-k.invariant.2
 
-same-length-2 : tie.Need-same-length-2 invariant_loop decreases_loop
-same-length-2 c = c.before.loop.invariant.3
+shape_of-cells : tie.Need-shape_of-cells invariant-loop-k decreases-loop-k
+shape_of-cells c = c.loop-k.invariant.3
 
-same-length-3 : tie.Need-same-length-3 invariant_loop decreases_loop
-same-length-3 c = c.before.loop.invariant.4
+shape_of-marks : tie.Need-shape_of-marks invariant-loop-k decreases-loop-k
+shape_of-marks c = c.loop-k.invariant.4
 
-returns : tie.Need-returns invariant_loop decreases_loop
-returns c = set-done _ _ _ _ (T c.before.before.before.before.before.before.before) _ _ _ _ c.before.loop.invariant.5 c.before.loop.invariant.1 c.loop-test.false
+returns : tie.Need-returns invariant-loop-k decreases-loop-k
+returns c = set-done _ _ _ _ (T c.before.before.before.before.before.before.before) _ _ _ _ c.loop-k.invariant.5 c.loop-k.invariant.1 c.loop-k-test.false
 
-pub set-each_spec : {M : Type 1} → statement M
-set-each_spec =
+pub set_each_spec : {M : Type 1} → statement M
+set_each_spec =
     tie.close
     (tie.spec
-    invariant_loop
-    decreases_loop
-    loop-holds
+    invariant-loop-k
+    decreases-loop-k
+    loop-k-init
     (λ c. omega arith)
     (λ c κs. search rules)
     (λ c κs. tt)
     (λ c κs. tt)
     (λ c κs. tt)
-    add-k
+    overflow_step-k
     (λ c. omega arith)
-    loop-again
-    same_length
-    same-length-2
-    same-length-3
+    loop-k-preserved
+    shape_of-values
+    shape_of-cells
+    shape_of-marks
     returns)

@@ -11,12 +11,12 @@ unfolding setting_of of_bits
 setting_of_spec =
     tie.close
     (tie.spec
-    (λ c. simp (eq-eqb _ _ c.if1.true))
+    (λ c. simp (eq-eqb _ _ c.if-change-eq2.true))
     (λ c. search rules)
     (λ c. search rules)
     (λ c. search rules)
     (λ c. search rules)
-    (λ c. rw (ne_eqb _ _ c.before.before.if1.false, c.enum_told.given.1))
-    (λ c. rw (ne_eqb _ _ c.before.before.if1.false, c.enum-told2.given.1))
-    (λ c. rw (ne_eqb _ _ c.before.before.if1.false, c.enum-told3.given.1))
-    (λ c. rw (ne_eqb _ _ c.before.before.if1.false, c.enum-told4.given.1)))
+    (λ c. rw (ne_eqb _ _ c.if-change-eq2.false, c.in-Wilson.is))
+    (λ c. rw (ne_eqb _ _ c.if-change-eq2.false, c.in-Uniquac.is))
+    (λ c. rw (ne_eqb _ _ c.if-change-eq2.false, c.in-Nrtl.is))
+    (λ c. rw (ne_eqb _ _ c.if-change-eq2.false, c.in-Unifac.is)))
