@@ -1,9 +1,9 @@
 -- A model, form, kind or quantity that means nothing becomes an n or an index that no model has: a head that passes has at most 12
 -- components and 32 groups.
-use mathlib.Core.Path.{◌≡◌, refl, sym, ap, ◌∙◌}
+use mathlib.Core.Path.{◌≡◌, refl, ap}
 use mathlib.Core.Bool.{false}
 use mathlib.Core.Logic.{inl, inr}
-use Prim.Native.Nat.{ℕ, ◌≤◌, ◌<◌}
+use Prim.Native.Nat.{ℕ, ◌≤◌}
 use native.Mathlib.Omega.{arith}
 use lib.Dec.{eqb, leb, ltb}
 use borrow.Author.Tests.{eqb-true, leb-false, le-ltb}
@@ -13,14 +13,12 @@ use Rattle.models.specs.Answers.{first}
 use Rattle.models.specs.Faults.{index_fault, shape_fault, lists_fault, unifac_fault, data_fault}
 use Rattle.models.specs.Model.{ModelData}
 use Rattle.models.specs.declared.answers.Quantity.TheVariants.{LnGamma}
-use Rattle.mixture.specs.declared.head.Head.{Head}
 use Rattle.models.specs.declared.model.Model.{Model}
 use Rattle.models.specs.declared.model.Model.TheVariants.{Wilson, Uniquac, Nrtl, Unifac}
 use Rattle.mixture.specs.declared.setting.Setting.TheVariants.{Size}
 use Rattle.mixture.specs.Holdings.{held}
 use Rattle.mixture.specs.Cells.{width}
 use Rattle.mixture.specs.Faults.{case_fault, has_size}
-use Rattle.mixture.specs.Memory.{Memory}
 use Rattle.mixture.specs.Layout.{data_in}
 use Rattle.mixture.specs.Faults.{memory_fault, head_fault, ready_fault, load_fault, setting_fault, query_fault}
 use Rattle.mixture.proofs.CallLaws.{head_passed, ready_passed}

@@ -7,14 +7,14 @@ pub is_kind_spec : {M : Type 1} → statement M
 is_kind_spec =
     tie.close
     (tie.spec
-    (λ c. rw c.match.keys1)
-    (λ c. rw c.match.keys2)
-    (λ c. rw c.match.keys3)
-    (λ c. rw c.match.keys4)
-    (λ c. rw c.match.keys5)
-    (λ c. rw c.match.keys6)
+    (λ c. rw c.in-5.is)
+    (λ c. rw c.in-7.is)
+    (λ c. rw c.in-8.is)
+    (λ c. rw c.in-9.is)
+    (λ c. rw c.in-10.is)
+    (λ c. rw c.in-14.is)
     (λ c.
-    let r = c.match.rest in
+    let r = c.in_default.in_default-own.rest in
     simp (
       ne_eqb _ _ r.0.0.0.0.0.1,
       ne_eqb _ _ r.0.0.0.0.1,

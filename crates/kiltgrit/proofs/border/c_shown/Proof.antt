@@ -12,12 +12,12 @@ use Rattle.kiltgrit.proofs.border.c_shown.Tie as tie
 abbrev shows : ℤ → CShown
 shows z = record { millionths = z; refused = 0; unused = 0 }
 
-returns : tie.Need-returns
+returns-in-Millionths : tie.Need-returns-in-Millionths
 unfolding c_shown
-returns c = rw c.before.a.given.1 (ap shows (to_z-of_z w64 c.before.a.given.0.0 (record { sfits = c.known-told.given.0.1 })))
+returns-in-Millionths c = rw c.in-Millionths.is (ap shows (to_z-of_z w64 c.in-Millionths.n (record { sfits = c.in-Millionths.known_told-1-own.given.0.1 })))
 
-pub c-shown_spec : {M : Type 1} → statement M
+pub c_shown_spec : {M : Type 1} → statement M
 unfolding c_shown
-c-shown_spec =
+c_shown_spec =
     tie.close
-    (tie.spec (λ c. search rules) (λ c. search rules) (λ c. search rules) returns (λ c. rw c.before.a2.given.1))
+    (tie.spec (λ c. search rules) (λ c. search rules) (λ c. search rules) returns-in-Millionths (λ c. rw c.in-Refused.is))

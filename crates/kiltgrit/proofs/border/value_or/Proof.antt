@@ -5,13 +5,13 @@ use Rattle.kiltgrit.specs.Border.{value_or}
 use Rattle.kiltgrit.proofs.border.value_or.Statement.{statement}
 use Rattle.kiltgrit.proofs.border.value_or.Tie as tie
 
-pub value-or_spec : {M : Type 1} → statement M
+pub value_or_spec : {M : Type 1} → statement M
 unfolding value_or of_bits
-value-or_spec =
+value_or_spec =
     tie.close
     (tie.spec
     (λ c. search rules)
     (λ c. search rules)
     (λ c. search rules)
-    (λ c. rw c.before.a.given.1)
-    (λ c. rw c.before.a2.given.1))
+    (λ c. rw c.in-Value.is)
+    (λ c. rw c.in-Refused.is))

@@ -6,74 +6,61 @@ use Rattle.kiltgrit.proofs.by_bytes.ExportLaws.{eights_wide, eights_empty, eight
 use Rattle.kiltgrit.proofs.by_bytes.fractions_fault.Statement.{statement}
 use Rattle.kiltgrit.proofs.by_bytes.fractions_fault.Tie as tie
 
+returns-then-fault-ne0 : tie.Need-returns-then-fault-ne0
+returns-then-fault-ne0 c = (eights_wide _ _ _ _ _ c.tolerance_fault-fault.ensures c.if-fault-ne0.true, λ e. absurd (c.if-fault-ne0.true e))
+
+returns-then-x-lt8 : tie.Need-returns-then-x-lt8
+returns-then-x-lt8 c = (eights_empty _ _ _ _ _ c.tolerance_fault-fault.ensures c.if-fault-ne0.false c.if-x-lt8.true, λ e. absurd (omega arith))
+
+returns-then-fault-ne0-2 : tie.Need-returns-then-fault-ne0-2
+returns-then-fault-ne0-2 c = (
+  eights_off _ _ _ _ _ c.tolerance_fault-fault.ensures c.if-fault-ne0.false (omega arith) c.sum_floats.ensures
+      c.sum_fault-fault.ensures c.if-fault-ne0-2.true,
+  λ e. absurd (c.if-fault-ne0-2.true e),
+)
+
+returns-then-x-n : tie.Need-returns-then-x-n
+returns-then-x-n c = (
+  eights_length _ _ _ _ _ c.tolerance_fault-fault.ensures c.if-fault-ne0.false (omega arith) c.sum_floats.ensures
+      c.sum_fault-fault.ensures c.if-fault-ne0-2.false c.if-x-n.true,
+  λ e. absurd (omega arith),
+)
+
+returns-then-fault-ne0-3 : tie.Need-returns-then-fault-ne0-3
+returns-then-fault-ne0-3 c = (
+  eights_index _ _ _ _ _ c.tolerance_fault-fault.ensures c.if-fault-ne0.false (omega arith) c.sum_floats.ensures
+      c.sum_fault-fault.ensures c.if-fault-ne0-2.false c.if-x-n.false c.index_fault-fault.ensures c.if-fault-ne0-3.true,
+  λ e. absurd (c.if-fault-ne0-3.true e),
+)
+
+returns-then-x-ne0 : tie.Need-returns-then-x-ne0
+returns-then-x-ne0 c = (
+  eights_rest _ _ _ _ _ c.tolerance_fault-fault.ensures c.if-fault-ne0.false (omega arith) c.sum_floats.ensures
+      c.sum_fault-fault.ensures c.if-fault-ne0-2.false c.if-x-n.false c.index_fault-fault.ensures c.if-fault-ne0-3.false
+      (rw (ne_eqb _ _ c.if-x-ne0.true)),
+  λ e. absurd (omega arith),
+)
+
 returns : tie.Need-returns
-returns c = (eights_wide _ _ _ _ _ c.before.tolerance-fault.ensures c.if1.true, λ e. absurd (c.if1.true e))
-
-returns-2 : tie.Need-returns-2
-returns-2 c = (eights_empty _ _ _ _ _ c.before.before.tolerance-fault.ensures c.before.if1.false c.if2.true, λ e. absurd (omega arith))
-
-returns-3 : tie.Need-returns-3
-returns-3 c =
-    let sum = c.before in
-    let judged = sum.before.before.before in (
-      eights_off _ _ _ _ _ judged.before.tolerance-fault.ensures judged.if1.false (omega arith) sum.before.sum-floats.ensures
-          sum.sum-fault.ensures c.if3.true,
-      λ e. absurd (c.if3.true e),
+returns c =
+    let index = c.index_fault-fault.ensures in (
+      eights_rest _ _ _ _ _ c.tolerance_fault-fault.ensures c.if-fault-ne0.false (omega arith) c.sum_floats.ensures
+          c.sum_fault-fault.ensures c.if-fault-ne0-2.false c.if-x-n.false index c.if-fault-ne0-3.false (rw (eq-eqb _ _ c.if-x-ne0.false)),
+      λ e. (omega (arith, c.if-x-n.false, c.if-x-ne0.false), sym index ∙ c.if-fault-ne0-3.false),
     )
 
-returns-4 : tie.Need-returns-4
-returns-4 c =
-    let sum = c.before.before in
-    let judged = sum.before.before.before in (
-      eights_length _ _ _ _ _ judged.before.tolerance-fault.ensures judged.if1.false (omega arith) sum.before.sum-floats.ensures
-          sum.sum-fault.ensures c.before.if3.false c.if4.true,
-      λ e. absurd (omega arith),
-    )
-
-returns-5 : tie.Need-returns-5
-returns-5 c =
-    let length = c.before.before in
-    let sum = length.before.before in
-    let judged = sum.before.before.before in (
-      eights_index _ _ _ _ _ judged.before.tolerance-fault.ensures judged.if1.false (omega arith) sum.before.sum-floats.ensures
-          sum.sum-fault.ensures length.before.if3.false length.if4.false c.before.index-fault.ensures c.if5.true,
-      λ e. absurd (c.if5.true e),
-    )
-
-returns-6 : tie.Need-returns-6
-returns-6 c =
-    let length = c.before.before.before in
-    let sum = length.before.before in
-    let judged = sum.before.before.before in (
-      eights_rest _ _ _ _ _ judged.before.tolerance-fault.ensures judged.if1.false (omega arith) sum.before.sum-floats.ensures
-          sum.sum-fault.ensures length.before.if3.false length.if4.false c.before.before.index-fault.ensures c.before.if5.false
-          (rw (ne_eqb _ _ c.if6.true)),
-      λ e. absurd (omega arith),
-    )
-
-returns-7 : tie.Need-returns-7
-returns-7 c =
-    let length = c.before.before.before in
-    let sum = length.before.before in
-    let judged = sum.before.before.before in
-    let index = c.before.before.index-fault.ensures in (
-      eights_rest _ _ _ _ _ judged.before.tolerance-fault.ensures judged.if1.false (omega arith) sum.before.sum-floats.ensures
-          sum.sum-fault.ensures length.before.if3.false length.if4.false index c.before.if5.false (rw (eq-eqb _ _ c.if6.false)),
-      λ e. (omega (arith, length.if4.false, c.if6.false), sym index ∙ c.before.if5.false),
-    )
-
-pub fractions-fault_spec : {M : Type 1} → statement M
-fractions-fault_spec =
+pub fractions_fault_spec : {M : Type 1} → statement M
+fractions_fault_spec =
     tie.close
     (tie.spec
     (λ c κs. tt)
-    returns
-    returns-2
+    returns-then-fault-ne0
+    returns-then-x-lt8
     (λ c κs. tt)
     (λ c κs. tt)
-    returns-3
-    returns-4
+    returns-then-fault-ne0-2
+    returns-then-x-n
     (λ c κs. tt)
-    returns-5
-    returns-6
-    returns-7)
+    returns-then-fault-ne0-3
+    returns-then-x-ne0
+    returns)

@@ -6,13 +6,13 @@ use Rattle.kiltgrit.specs.Exports.{left}
 use Rattle.kiltgrit.proofs.by_bytes.give.Statement.{statement}
 use Rattle.kiltgrit.proofs.by_bytes.give.Tie as tie
 
-returns : tie.Need-returns
+returns-in-Value : tie.Need-returns-in-Value
 unfolding number_of left
-returns c = rw c.before.a.given.1 (refl, refl)
+returns-in-Value c = rw c.in-Value.is (refl, refl)
 
-returns-2 : tie.Need-returns-2
+returns-in-Refused : tie.Need-returns-in-Refused
 unfolding number_of left
-returns-2 c = rw c.before.a2.given.1 (refl, refl)
+returns-in-Refused c = rw c.in-Refused.is (refl, refl)
 
 pub give_spec : {M : Type 1} → statement M
-give_spec = tie.close (tie.spec (λ c. search rules) (λ c. search rules) (λ c. search rules) returns returns-2)
+give_spec = tie.close (tie.spec (λ c. search rules) (λ c. search rules) (λ c. search rules) returns-in-Value returns-in-Refused)

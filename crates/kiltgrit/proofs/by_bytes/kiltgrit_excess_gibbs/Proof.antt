@@ -4,7 +4,7 @@ use Rattle.kiltgrit.proofs.by_bytes.kiltgrit_excess_gibbs.Statement.{statement}
 use Rattle.kiltgrit.proofs.by_bytes.kiltgrit_excess_gibbs.Tie as tie
 
 returns : tie.Need-returns
-returns c = given_as c.before.before.before.before.before.before.before.args.value.now c.before.before.call.ensures c.give.ensures
+returns c = given_as c.args.value.now c.call.ensures c.give.ensures
 
 pub kiltgrit_excess_gibbs_spec : {M : Type 1} → statement M
 kiltgrit_excess_gibbs_spec = tie.close (tie.spec (λ c κs. tt) (λ c κs. tt) returns)

@@ -11,8 +11,8 @@ use Rattle.kiltgrit.proofs.calls.kiltgrit_mixture_load.Tie as tie
 
 returns : tie.Need-returns
 returns c =
-    let e = c.before.before.before.before.before.before.before.before.before.before.before.before.before.before.before.before.before.args in
-    replied-is (λ (h : Head) (y : ModelData). after_load (memory e.values.now e.cells.now e.marks.now) h y) e.head (load_of e.model e.form e.n e.ng e.lens.now e.groups.now e.given.now) c.before.before.before.before.before.before.before.before.head_of.ensures (load_is e.model e.form e.n c.before.before.before.before.before.before.before.model-numbered.ensures c.before.before.before.before.before.before.known-n.ensures) c.before.before.before.before.before.load.ensures c.reply-of.ensures
+    let e = c.args in
+    replied-is (λ (h : Head) (y : ModelData). after_load (memory e.values.now e.cells.now e.marks.now) h y) e.head (load_of e.model e.form e.n e.ng e.lens.now e.groups.now e.given.now) c.head_of.ensures (load_is e.model e.form e.n c.model_numbered.ensures c.known_n.ensures) c.load.ensures c.reply_of.ensures
 
 pub kiltgrit_mixture_load_spec : {M : Type 1} → statement M
 kiltgrit_mixture_load_spec =

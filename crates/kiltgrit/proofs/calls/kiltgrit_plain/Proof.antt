@@ -6,9 +6,8 @@ use Rattle.kiltgrit.proofs.calls.kiltgrit_plain.Tie as tie
 
 returns : tie.Need-returns
 returns c =
-    let asked = c.before.before in
-    c.value-or.ensures
-    ∙ ap value_or (c.before.plain.ensures ∙ rw (asked.before.before.model-numbered.ensures, asked.before.known-n.ensures, asked.quantity-asked.ensures))
+    c.value_or.ensures
+    ∙ ap value_or (c.plain.ensures ∙ rw (c.model_numbered.ensures, c.known_n.ensures, c.quantity_asked.ensures))
 
 pub kiltgrit_plain_spec : {M : Type 1} → statement M
 kiltgrit_plain_spec =
