@@ -1,9 +1,9 @@
 /* The kept mixture in a C program: examples/acetone-methanol.charge, answered in the words of the program charge.
  *
- *     rt staticlib kiltgrit
- *     gcc -std=c11 -O2 -Iinclude examples/embed.c target/staticlib/libkiltgrit.a -o target/embed_c && target/embed_c
+ *     (cd crates/kiltgrit && rt lib); mkdir -p target
+ *     gcc -std=c11 -O2 -Iinclude examples/embed.c crates/kiltgrit/out/libkiltgrit.a -o target/embed_c && target/embed_c
  *
- * Its lines are those of `examples/run --strip examples/acetone-methanol.charge | target/bin/charge`. It is C++ too. */
+ * Its lines are those of `examples/run --strip examples/acetone-methanol.charge | crates/charge/out/charge`. It is C++ too. */
 #include "kiltgrit.h"
 
 #include <inttypes.h>

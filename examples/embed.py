@@ -1,8 +1,8 @@
 #!/usr/bin/env python3
 """The kept mixture from Python: examples/acetone-methanol.charge, answered in the words of the program charge.
 
-    rt staticlib kiltgrit
-    gcc -shared -Wl,--whole-archive target/staticlib/libkiltgrit.a -Wl,--no-whole-archive -o target/libkiltgrit.so
+    (cd crates/kiltgrit && rt lib); mkdir -p target
+    gcc -shared -Wl,--whole-archive crates/kiltgrit/out/libkiltgrit.a -Wl,--no-whole-archive -o target/libkiltgrit.so
     python3 examples/embed.py target/libkiltgrit.so
 
 The structs are those of include/kiltgrit.h; the calls take and give them by value.

@@ -1,8 +1,8 @@
 //! The kept mixture in a Rust program: examples/acetone-methanol.charge, answered in the words of the program charge, and
 //! the same charge as a strip that is run whole.
 //!
-//!     rt staticlib kiltgrit
-//!     rustc --edition 2021 examples/embed.rs -L native=target/staticlib -l static=kiltgrit -o target/embed_rs
+//!     (cd crates/kiltgrit && rt lib); mkdir -p target
+//!     rustc --edition 2021 examples/embed.rs -L native=crates/kiltgrit/out -l static=kiltgrit -o target/embed_rs
 //!     examples/run --strip examples/acetone-methanol.charge >target/charge.strip && target/embed_rs target/charge.strip
 
 mod kiltgrit;

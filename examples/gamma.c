@@ -2,8 +2,8 @@
  * two solvents by UNIFAC, weighed by hand; ln gamma with the digits of a panel. The numbers are those of
  * examples/acetone-toluene-mek.table and examples/ethanol-hexane.table.
  *
- *     rt staticlib kiltgrit
- *     gcc -std=c11 -O2 -Iinclude examples/gamma.c target/staticlib/libkiltgrit.a -o target/gamma && target/gamma
+ *     (cd crates/kiltgrit && rt lib); mkdir -p target
+ *     gcc -std=c11 -O2 -Iinclude examples/gamma.c crates/kiltgrit/out/libkiltgrit.a -o target/gamma && target/gamma
  */
 #include "kiltgrit.h"
 
