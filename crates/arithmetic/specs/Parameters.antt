@@ -4,7 +4,7 @@ use Rattle.arithmetic.specs.Floats.{◌⊕◌, ◌⊗◌, ◌⊘◌}
 use Rattle.arithmetic.specs.Logarithm.{log_of}
 use Rattle.arithmetic.specs.declared.parameters.TdParam.{TdParam}
 
--- a + b/T + c·L + d·T + e/(T-as-T)
+-- a + b/T + c·L + d·T + e/(T·T)
 unfoldable pub td_by : TdParam → Float → Float → Float
 td_by p T L = p.a ⊕ p.b ⊘ T ⊕ p.c ⊗ L ⊕ p.d ⊗ T ⊕ p.e ⊘ (T ⊗ T)
 

@@ -4,7 +4,7 @@ ghost use Rattle.arithmetic.specs.Parameters.{td_at, td_by};
 
 use crate::logarithm::log;
 
-// a + b/T + c·log(T) + typeof.d.T + e/(T.T)
+// a + b/T + c·log(T) + d·T + e/(T·T)
 #[derive(Clone, Copy)]
 pub struct TdParam {
     pub a: f64,

@@ -39,7 +39,7 @@ fn answered(
     head: Head,
 ) -> Reply
     requires fitting { Fitting r }
-    requires rows_room_in_bounds { (rows_room ≤ length rows.now) × Roomy values.old cells.old marks.old }
+    requires roomy { (rows_room ≤ length rows.now) × Roomy values.old cells.old marks.old }
 {
     if r.kind == records::MEMORY {
         put_memory(rows, values, cells, marks);

@@ -36,11 +36,11 @@ get_or-written p f (a ∷ l) zero d h = refl
 get_or-written p f (a ∷ l) (suc c) d h = get_or-written (λ k. p (suc k)) (λ k. f (suc k)) l c d (omega arith)
 
 -- a place that doesn't pass is kept
-pub get_d_kept : {A : Type 0} (p : ℕ → Bool) (f : ℕ → A) (l : List A) (c : ℕ) (d : A) → p c ≡ false → get_or (written p f l) c d ≡ get_or l c d
+pub get_or_kept : {A : Type 0} (p : ℕ → Bool) (f : ℕ → A) (l : List A) (c : ℕ) (d : A) → p c ≡ false → get_or (written p f l) c d ≡ get_or l c d
 unfolding written
-get_d_kept p f [] c d h = refl
-get_d_kept p f (a ∷ l) zero d h = rw h
-get_d_kept p f (a ∷ l) (suc c) d h = get_d_kept (λ k. p (suc k)) (λ k. f (suc k)) l c d h
+get_or_kept p f [] c d h = refl
+get_or_kept p f (a ∷ l) zero d h = rw h
+get_or_kept p f (a ∷ l) (suc c) d h = get_or_kept (λ k. p (suc k)) (λ k. f (suc k)) l c d h
 
 pub written_same : {A : Type 0} (p q : ℕ → Bool) (f : ℕ → A) (l : List A) → ((c : ℕ) → p c ≡ q c) → written p f l ≡ written q f l
 unfolding written
@@ -94,10 +94,10 @@ get_or-zeros (suc m) z zero = refl
 get_or-zeros (suc m) z (suc c) = get_or-zeros m z c
 
 -- a reading that gives z past the end doesn't see z's past the end
-pub get_d_past : {A : Type 0} (m : ℕ) (z : A) (l : List A) (c : ℕ) → get_or (l ++ replicate m z) c z ≡ get_or l c z
-get_d_past m z [] c = get_or-zeros m z c
-get_d_past m z (a ∷ l) zero = refl
-get_d_past m z (a ∷ l) (suc c) = get_d_past m z l c
+pub get_or_past : {A : Type 0} (m : ℕ) (z : A) (l : List A) (c : ℕ) → get_or (l ++ replicate m z) c z ≡ get_or l c z
+get_or_past m z [] c = get_or-zeros m z c
+get_or_past m z (a ∷ l) zero = refl
+get_or_past m z (a ∷ l) (suc c) = get_or_past m z l c
 
 -- ---- counts
 

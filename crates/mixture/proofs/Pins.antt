@@ -26,7 +26,7 @@ use Rattle.mixture.specs.Layout.{place}
 use Rattle.mixture.specs.Pins.{Over, ValuesNamed, Within}
 use Rattle.mixture.proofs.PlaceLaws.{both, had, store_in, D, entry-places, size-places, count-places, td_places, td_entry_lem, entry-size, size_td, td_count, size-count, entry-count}
 use Rattle.mixture.proofs.History.RangeLaws.{sound}
-use Rattle.mixture.proofs.RowLaws.{before-table, before-lens, InRow, in_row}
+use Rattle.mixture.proofs.RowLaws.{before-table, before-lens, InRow, in_row_lem}
 
 -- ---- one setting at most
 
@@ -128,7 +128,7 @@ module _ (d : ModelData) (p : ℕ) where
 
 -- a place of a table of m rows of n is one of them
 in_table : (m n p : ℕ) → p < m * n → InRow (λ _. n) m p
-in_table m n p h = in_row (λ _. n) m p (rw (before-table n m) h)
+in_table m n p h = in_row_lem (λ _. n) m p (rw (before-table n m) h)
 
 in_place : (m n p : ℕ) (r : InRow (λ _. n) m p) → p ≡ r.i * n + r.j
 in_place m n p r = r.place ∙ rw (before-table n r.i)
@@ -218,7 +218,7 @@ module _ (d : ModelData) (p : ℕ) where
   counts-covered : counts_at ng ≤ p → p < counts_at ng + start d.lens n → Covered (D d Unifac) p
   unfolding has_count place lists
   counts-covered h g =
-      let r = in_row (λ i. get_or d.lens i 0) n (p - counts_at ng) (rw (before-lens d.lens n) (omega arith)) in
+      let r = in_row_lem (λ i. get_or d.lens i 0) n (p - counts_at ng) (rw (before-lens d.lens n) (omega arith)) in
       at_count (D d Unifac) p r.i r.j (below_both r.i n r.j (get_or d.lens r.i 0) r.row r.column)
       (omega (arith, r.place, before-lens d.lens r.i))
 

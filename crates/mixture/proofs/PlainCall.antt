@@ -44,7 +44,7 @@ use Rattle.mixture.proofs.PlaceLaws.{passed, spared, nought, below-is}
 use Rattle.mixture.proofs.History.AgreeLaws.{Agrees, set-alike}
 use Rattle.mixture.proofs.History.RangeLaws.{first_to-none, at_all, Sound, sound}
 use Rattle.mixture.proofs.History.CellLaws.{exponential-same, value_by-same, plain-is}
-use Rattle.mixture.proofs.RowLaws.{get_d_after, get_or-before, length-row, row_at, before, before_in, before-start, InRow, in_row, length-rows, rows_at, length-table, table_at, length-tds, tds-at, five-after, five-before}
+use Rattle.mixture.proofs.RowLaws.{get_or_after, get_or-before, length-row, row_at, before, before_in, before-start, InRow, in_row_lem, length-rows, rows_at, length-table, table_at, length-tds, tds-at, five-after, five-before}
 
 -- ---- the names are read back
 
@@ -85,7 +85,7 @@ module _ (d : Held) where
   in_table ys i j h g = get_or-before table ys (n * n) (i * n + j) nan (length-table n n d.entry) (cell-lt n n i j h g) ∙ table_at n n d.entry i j nan h g
 
   in_sizes : (i : ℕ) → i < n → at (table ++ sizes0 n) (n * n + i) ≡ d.size i 0
-  in_sizes i h = get_d_after table (sizes0 n) (n * n) i nan (length-table n n d.entry) ∙ row_at n (λ i. d.size i 0) i nan h
+  in_sizes i h = get_or_after table (sizes0 n) (n * n) i nan (length-table n n d.entry) ∙ row_at n (λ i. d.size i 0) i nan h
 
   in_two : (k : ℕ) → k < n * n + n → at (table ++ sizes0 n ++ sizes1 n) k ≡ at (table ++ sizes0 n) k
   in_two k h = get_or-before (table ++ sizes0 n) (sizes1 n) (n * n + n) k nan length_two h
@@ -108,7 +108,7 @@ module _ (d : Held) where
           rw e (in_two (i * n + j) (omega (arith, cell-lt n n i j b.0 b.1)) ∙ in_table (sizes0 n) i j b.0 b.1)
       go Nrtl e =
           let b = below-is i n j n (rw e at h) in
-          rw e (get_d_after (tds n) table (n * n * 5) (i * n + j) nan (length-tds n n d.td_entry) ∙ table_at n n d.entry i j nan b.0 b.1)
+          rw e (get_or_after (tds n) table (n * n * 5) (i * n + j) nan (length-tds n n d.td_entry) ∙ table_at n n d.entry i j nan b.0 b.1)
       go Unifac e = never (sym (rw e at h))
 
   td_back : (i j : ℕ) → has_td_entry d i j ≡ true → td_entries (data_of d) i j ≡ d.td_entry i j
@@ -137,7 +137,7 @@ module _ (d : Held) where
       go Uniquac e zero h = let b = below-is i n 0 2 (rw e at h) in rw e (in_two (n * n + i) (omega arith) ∙ in_sizes i b.0)
       go Uniquac e (suc zero) h =
           let b = below-is i n 1 2 (rw e at h) in
-          rw e (get_d_after (table ++ sizes0 n) (sizes1 n) (n * n + n) i nan length_two ∙ row_at n (λ i. d.size i 1) i nan b.0)
+          rw e (get_or_after (table ++ sizes0 n) (sizes1 n) (n * n + n) i nan length_two ∙ row_at n (λ i. d.size i 1) i nan b.0)
       go Uniquac e (suc (suc w)) h = let b = below-is i n (suc (suc w)) 2 (rw e at h) in absurd (omega arith)
       go Nrtl e w h = never (sym (rw e at h))
       go Unifac e zero h =
@@ -145,7 +145,7 @@ module _ (d : Held) where
           rw e (in_groups i (omega arith) ∙ get_or-before (sizes0 ng) (sizes1 ng) ng i nan (length-row ng (λ i. d.size i 0)) b.0 ∙ row_at ng (λ i. d.size i 0) i nan b.0)
       go Unifac e (suc zero) h =
           let b = below-is i ng 1 2 (rw e at h) in
-          rw e (in_groups (ng + i) (omega arith) ∙ get_d_after (sizes0 ng) (sizes1 ng) ng i nan (length-row ng (λ i. d.size i 0)) ∙ row_at ng (λ i. d.size i 1) i nan b.0)
+          rw e (in_groups (ng + i) (omega arith) ∙ get_or_after (sizes0 ng) (sizes1 ng) ng i nan (length-row ng (λ i. d.size i 0)) ∙ row_at ng (λ i. d.size i 1) i nan b.0)
       go Unifac e (suc (suc w)) h = let b = below-is i ng (suc (suc w)) 2 (rw e at h) in absurd (omega arith)
 
   -- the counts, list after list
@@ -155,7 +155,7 @@ module _ (d : Held) where
       rw e
       (from_at (sizes0 ng ++ sizes1 ng ++ tds ng ++ counts) (counts_at ng) p
       (rw (length-append (sizes0 ng ++ sizes1 ng ++ tds ng) counts, length_front, length-rows d.lists.length d.lists.count n) (omega arith))
-      ∙ get_d_after (sizes0 ng ++ sizes1 ng ++ tds ng) counts (counts_at ng) p nan length_front)
+      ∙ get_or_after (sizes0 ng ++ sizes1 ng ++ tds ng) counts (counts_at ng) p nan length_front)
 
   pub back : Agrees (held (data_of d)) d
   unfolding lists has_count
@@ -299,7 +299,7 @@ unifac-passes d e p =
       eq-eqb (length (values_in d)) (unifac_size d.ng (start (row d.n len) d.n)) (length-values d ∙ rw e),
     )
     (first_to-none (length (rows d.n len d.lists.group)) _
-    (λ r h. place-passes r (in_row len d.n r (rw (length-rows len d.lists.group d.n) at h))))
+    (λ r h. place-passes r (in_row_lem len d.n r (rw (length-rows len d.lists.group d.n) at h))))
   where
     place-passes : (r : ℕ) → InRow d.lists.length d.n r
         → place_fault d.ng (rows d.n d.lists.length d.lists.group) (from (counts_at d.ng) (values_in d)) r ≡ 0

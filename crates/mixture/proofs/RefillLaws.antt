@@ -22,7 +22,7 @@ use Rattle.models.specs.Model.{by_model, has_groups}
 use Rattle.mixture.specs.Lists.{written, how_many}
 use Rattle.mixture.specs.declared.refill.Rows.{Rows}
 use Rattle.mixture.specs.Steps.Refills.{stale_cell, cell_in, cell_of, stale_in, stale_of, RowFits, TableFits, Refilled}
-use Rattle.mixture.proofs.ListLaws.{never, length-written, length_as, get_or-written, get_d_kept, written_same, written_as, written_none, written-set, how_many-le, how_many-none, how_many-add, how_many-same}
+use Rattle.mixture.proofs.ListLaws.{never, length-written, length_as, get_or-written, get_or_kept, written_same, written_as, written_none, written-set, how_many-le, how_many-none, how_many-add, how_many-same}
 
 -- ---- a writable part, back
 
@@ -105,7 +105,7 @@ module _ (p : ℕ → Bool) (f : ℕ → Float) (cells : List Float) (marks : Li
   module _ (j : ℕ) {cells' : List Float} {marks' : List ℕ} {r : ℕ} (now : Refilled j p f cells marks cells' marks' r) where
     -- the mark that the loop reads next is still the old one
     refilled_mark : get_or marks' j 0 ≡ get_or marks j 0
-    refilled_mark = rw now.marked (get_d_kept (among j p) (λ c. 1) marks j 0 (among-past j p j (omega arith)))
+    refilled_mark = rw now.marked (get_or_kept (among j p) (λ c. 1) marks j 0 (among-past j p j (omega arith)))
 
     refilled_skip : p j ≡ false → Refilled (j + 1) p f cells marks cells' marks' r
     unfolding how_many
@@ -179,7 +179,7 @@ lent : {A : Type 0} (s : ℕ) (p : ℕ → Bool) (f : ℕ → A) (old : List A) 
     → get_or (from s l) j z ≡ get_or old (s + j) z
 lent {A} s p f old z {l} above j b =
     get_or-take (length l - s) (drop s l) j z (omega (arith, length_as (among s p) f old above))
-    ∙ (get_or-drop s l j z ∙ (ap (λ (m : List A). get_or m (s + j) z) above ∙ get_d_kept (among s p) f old (s + j) z (among-past s p (s + j) (omega arith))))
+    ∙ (get_or-drop s l j z ∙ (ap (λ (m : List A). get_or m (s + j) z) above ∙ get_or_kept (among s p) f old (s + j) z (among-past s p (s + j) (omega arith))))
 
 module _ {A : Type 0} (s w : ℕ) (p q : ℕ → Bool) (f g : ℕ → A) (old : List A) (z : A) (h : s + w ≤ length old)
     (ps : (j : ℕ) → j < w → q j ≡ p (s + j)) (fs : (j : ℕ) → j < w → g j ≡ f (s + j)) where

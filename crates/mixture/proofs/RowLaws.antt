@@ -19,8 +19,8 @@ use Rattle.mixture.specs.WrittenBack.{fives}
 
 module _ {A : Type 0} where
   -- the second of two lists
-  pub get_d_after : (xs ys : List A) (n k : ℕ) (z : A) → length xs ≡ n → get_or (xs ++ ys) (n + k) z ≡ get_or ys k z
-  get_d_after xs ys n k z e = subst (λ (m : ℕ). get_or (xs ++ ys) (m + k) z ≡ get_or ys k z) e (get_or-append-add xs ys k z)
+  pub get_or_after : (xs ys : List A) (n k : ℕ) (z : A) → length xs ≡ n → get_or (xs ++ ys) (n + k) z ≡ get_or ys k z
+  get_or_after xs ys n k z e = subst (λ (m : ℕ). get_or (xs ++ ys) (m + k) z ≡ get_or ys k z) e (get_or-append-add xs ys k z)
 
   pub get_or-before : (xs ys : List A) (n k : ℕ) (z : A) → length xs ≡ n → k < n → get_or (xs ++ ys) k z ≡ get_or xs k z
   get_or-before xs ys n k z e h = get_or-append xs ys z k (rw e h)
@@ -87,13 +87,13 @@ pub record InRow (len : ℕ → ℕ) (n p : ℕ) : Type 0 where
   pub column : j < len i
   pub place : p ≡ before len i + j
 
-pub in_row : (len : ℕ → ℕ) (n p : ℕ) → p < before len n → InRow len n p
+pub in_row_lem : (len : ℕ → ℕ) (n p : ℕ) → p < before len n → InRow len n p
 unfolding before
-in_row len zero p h = absurd (omega arith)
-in_row len (suc n) p h =
+in_row_lem len zero p h = absurd (omega arith)
+in_row_lem len (suc n) p h =
     elim (le-or (before len n) p) [
       | inl g ↦ record { i = n; j = p - before len n; row = omega arith; column = omega arith; place = omega arith }
-      | inr g ↦ let r = in_row len n p g in record { i = r.i; j = r.j; row = omega (arith, r.row); column = r.column; place = r.place }
+      | inr g ↦ let r = in_row_lem len n p g in record { i = r.i; j = r.j; row = omega (arith, r.row); column = r.column; place = r.place }
     ]
 
 module _ {A : Type 0} (len : ℕ → ℕ) (f : ℕ → ℕ → A) where
@@ -110,7 +110,7 @@ module _ {A : Type 0} (len : ℕ → ℕ) (f : ℕ → ℕ → A) where
         | inl b ↦
             let e : n ≡ i = omega arith in
             subst (λ (r : ℕ). get_or (rows n len f ++ row (len n) (f n)) (before len r + j) z ≡ f r j) e
-            (get_d_after (rows n len f) (row (len n) (f n)) (before len n) j z (length-rows n) ∙ row_at (len n) (f n) j z (subst (λ (r : ℕ). j < len r) (sym e) g))
+            (get_or_after (rows n len f) (row (len n) (f n)) (before len n) j z (length-rows n) ∙ row_at (len n) (f n) j z (subst (λ (r : ℕ). j < len r) (sym e) g))
         | inr b ↦ get_or-before (rows n len f) (row (len n) (f n)) (before len n) (before len i + j) z (length-rows n) (before_in len i n j b g) ∙ rows_at n i j z b g
       ]
 
@@ -150,15 +150,15 @@ pub five-after : (xs ys : List Float) (n q : ℕ) → length xs ≡ n → five_a
 unfolding five_at
 five-after xs ys n q e =
     rw (
-      get_d_after xs ys n q nan e,
+      get_or_after xs ys n q nan e,
       add_assoc n q 1,
-      get_d_after xs ys n (q + 1) nan e,
+      get_or_after xs ys n (q + 1) nan e,
       add_assoc n q 2,
-      get_d_after xs ys n (q + 2) nan e,
+      get_or_after xs ys n (q + 2) nan e,
       add_assoc n q 3,
-      get_d_after xs ys n (q + 3) nan e,
+      get_or_after xs ys n (q + 3) nan e,
       add_assoc n q 4,
-      get_d_after xs ys n (q + 4) nan e,
+      get_or_after xs ys n (q + 4) nan e,
     )
 
 pub five-before : (xs ys : List Float) (n q : ℕ) → length xs ≡ n → q + 5 ≤ n → five_at (xs ++ ys) q ≡ five_at xs q
@@ -203,7 +203,7 @@ module _ {A : Type 0} (v : List A) (s : ℕ) (z : A) where
       ext_get_or z (rows n len f) (take (before len n) (drop s v)) (length-rows len f n ∙ sym (length_part (before len n) h))
       (λ k b.
       let c : k < before len n = rw (length-rows len f n) at b in
-      at_place k c (in_row len n k c))
+      at_place k c (in_row_lem len n k c))
     where
       at_place : (k : ℕ) → k < before len n → InRow len n k → get_or (rows n len f) k z ≡ get_or (take (before len n) (drop s v)) k z
       at_place k c r =
@@ -250,7 +250,7 @@ tds-is v s n w f e h =
     fives-is (rows n (λ _. w) f) v s
     (λ k b.
     let c : k < n * w = rw (length-table n w f) at b in
-    at_place k (in_row (λ _. w) n k (rw (before-table w n) c)))
+    at_place k (in_row_lem (λ _. w) n k (rw (before-table w n) c)))
     (rw (length-table n w f) h)
     ∙ rw (length-table n w f)
   where

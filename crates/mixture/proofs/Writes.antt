@@ -27,7 +27,7 @@ use Rattle.mixture.specs.Faults.{memory_fault, load_fault, setting_fault, fracti
 use Rattle.mixture.specs.Book.{Open, Load, Set, Fractions, Query}
 use Rattle.mixture.specs.History.{after_call}
 use Rattle.mixture.specs.Writes.{call_fault, Numbers, Declined, held_by, places, Writes, OnlyThere, DiagonalKept}
-use Rattle.mixture.proofs.ListLaws.{length-written, get_d_kept}
+use Rattle.mixture.proofs.ListLaws.{length-written, get_or_kept}
 use Rattle.mixture.proofs.PlaceLaws.{at_away}
 use Rattle.mixture.proofs.History.RangeLaws.{first-is}
 use Rattle.mixture.proofs.CallLaws.{load_fits}
@@ -98,7 +98,7 @@ only_there m h (Load d) =
     record {
       values = λ k p. past d.values m.values k (ltb-false k (length d.values) p);
       cells = λ c p. refl;
-      marks = λ c p. get_d_kept (cell_at (held d)) (λ c. 0) m.marks c 0 (sym (and-true (cell_at (held d) c)) ∙ p);
+      marks = λ c p. get_or_kept (cell_at (held d)) (λ c. 0) m.marks c 0 (sym (and-true (cell_at (held d) c)) ∙ p);
       lengths = (
         rw (length-append d.values (drop (length d.values) m.values), length-drop (length d.values) m.values) (omega (arith, let f = first-is (memory_fault m) (data_fault d) z in (load_fits m d f.0 f.1).values)),
         refl,
@@ -111,7 +111,7 @@ only_there m h (Set s) =
     record {
       values = λ k p. at_away m.values (place (data_in m h) s) (numbers s) k (outside (place (data_in m h) s) (length (numbers s)) k p);
       cells = λ c p. refl;
-      marks = λ c p. get_d_kept (stales_at (held (data_in m h)) s) (λ c. 0) m.marks c 0 p;
+      marks = λ c p. get_or_kept (stales_at (held (data_in m h)) s) (λ c. 0) m.marks c 0 p;
       lengths = (length-sets m.values (place (data_in m h) s) (numbers s), refl, length-written (stales_at (held (data_in m h)) s) (λ c. 0) m.marks);
     })
 only_there m h (Fractions x) = writes_by _ _ _ m h (fractions_fault m h x) _ (λ z. still _ _ _ m h)
@@ -120,8 +120,8 @@ only_there m h (Query q) =
     (λ z.
     record {
       values = λ k p. refl;
-      cells = λ c p. get_d_kept (stale_at m (held (data_in m h))) _ m.cells c nan p;
-      marks = λ c p. get_d_kept (stale_at m (held (data_in m h))) (λ c. 1) m.marks c 0 p;
+      cells = λ c p. get_or_kept (stale_at m (held (data_in m h))) _ m.cells c nan p;
+      marks = λ c p. get_or_kept (stale_at m (held (data_in m h))) (λ c. 1) m.marks c 0 p;
       lengths = (refl, length-written (stale_at m (held (data_in m h))) _ m.cells, length-written (stale_at m (held (data_in m h))) (λ c. 1) m.marks);
     })
 

@@ -1,6 +1,6 @@
 -- The exported call: a mixture opened on zeros, loaded and given fractions, then T set and a query, and in each later turn what the
 -- change sets and a query; or the plain call at each temperature. Its result is the last value. Each step is the call's own definition, so
--- `history` of mixture's proofs/history/History holds of it.
+-- `history` of mixture's proofs/History/History holds of it.
 use Rattle.std.specs.Prelude.{cond, List, ℕ, zero, suc, ◌+◌, ◌-◌, ◌*◌, ◌/◌, eqb, ltb, length, replicate, Float}
 use Rattle.std.specs.Borrow.{Bor}
 use denote.Triple.Both.{Both}

@@ -23,7 +23,7 @@ use Rattle.mixture.specs.Memory.{Memory}
 use Rattle.mixture.specs.Layout.{data_in, place}
 use Rattle.mixture.specs.Calls.{loaded_head, loaded_memory}
 use Rattle.mixture.specs.Faults.{in_range}
-use Rattle.mixture.proofs.ListLaws.{never, get_d_past}
+use Rattle.mixture.proofs.ListLaws.{never, get_or_past}
 use Rattle.mixture.proofs.History.RangeLaws.{at_all, Sound}
 use Rattle.mixture.proofs.PlaceLaws.{nought, D, entry-reads, td_reads, size-reads, count-reads, entry_in, td_in, size_in, count_in_lem}
 use Rattle.mixture.proofs.History.AgreeLaws.{Alike, Agrees, at-unifac, has_entry-same, has_td_entry-same, has_size-same, has_count-same}
@@ -82,7 +82,7 @@ module _ (e d : ModelData) (alike : Alike (held e) (held d)) (starts : d.model �
 start-past : (m : ℕ) (lens : List ℕ) (i : ℕ) → start (lens ++ replicate m 0) i ≡ start lens i
 unfolding start
 start-past m lens zero = refl
-start-past m lens (suc i) = rw (start-past m lens i, get_d_past m 0 lens i)
+start-past m lens (suc i) = rw (start-past m lens i, get_or_past m 0 lens i)
 
 not_unifac : {A : Type 0} (k : Model) → by_model k true true true false ≡ true → k ≡ Unifac → A
 not_unifac k t e = never (sym (rw e at t))
@@ -116,8 +116,8 @@ module _ (m : Memory) (d : ModelData) where
         groups = λ e.
             record {
               ng = refl;
-              length = λ i h. get_d_past (12 - length lens) 0 lens i;
-              group = λ i p h g. rw (start-past (12 - length lens) lens i) (get_d_past (144 - length groups) 0 groups (start lens i + p));
+              length = λ i h. get_or_past (12 - length lens) 0 lens i;
+              group = λ i p h g. rw (start-past (12 - length lens) lens i) (get_or_past (144 - length groups) 0 groups (start lens i + p));
             };
       }
 
@@ -148,8 +148,8 @@ module _ (m : Memory) (d : ModelData) where
         le-leb 1 ng l.some,
         le-leb ng 32 l.few,
         start-past (12 - length lens) lens n,
-        at_all n (λ i. leb (get_or (padded 12 0 lens) i 0) 12) (λ i b. rw (get_d_past (12 - length lens) 0 lens i) (le-leb _ _ (l.short i b))),
-        at_all (start lens n) (λ p. ltb (get_or (padded 144 0 groups) p 0) ng) (λ p b. rw (get_d_past (144 - length groups) 0 groups p) (lt-ltb _ _ (l.group p b))),
+        at_all n (λ i. leb (get_or (padded 12 0 lens) i 0) 12) (λ i b. rw (get_or_past (12 - length lens) 0 lens i) (le-leb _ _ (l.short i b))),
+        at_all (start lens n) (λ p. ltb (get_or (padded 144 0 groups) p 0) ng) (λ p b. rw (get_or_past (144 - length groups) 0 groups p) (lt-ltb _ _ (l.group p b))),
       )
 
   pub left-number : (k : Model) → ((loaded_head (D d k)).model ≡ 0 → ⊥) × (is_model (loaded_head (D d k)).model ≡ true)
