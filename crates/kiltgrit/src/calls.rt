@@ -27,7 +27,8 @@ pub extern "C" fn kiltgrit_mixture_query(
     i: usize,
 ) -> CAnswer
     ensures { left (memory values.now cells.new marks.new) result
-        ≡ answered (after_query (memory values.now cells.old marks.old) (head_of head) (quantity_asked asked i)) }
+        ≡ answered (after_query (memory values.now cells.old marks.old) (head_of head)
+        (quantity_asked asked i)) }
 {
     let q = quantity_asked(asked, i);
     let reply = query(values, cells, marks, head_of(head), q);

@@ -64,7 +64,8 @@ pub fn load(
     groups: &[u8],
     given: &[f64],
 ) -> Reply
-    ensures { left (memory values.new cells.now marks.new) result ≡ after_load (memory values.old cells.now marks.old) head
+    ensures { left (memory values.new cells.now marks.new) result
+        ≡ after_load (memory values.old cells.now marks.old) head
         (data_given model n ng lens groups given) }
 {
     let short = memory_fault(values.len(), cells.len(), marks.len());
