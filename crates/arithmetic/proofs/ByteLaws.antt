@@ -1,13 +1,12 @@
 -- Which bit patterns are NaN, and floats decoded one after the other.
-use Rattle.std.proofs.Common.{◌≡◌, ℕ, zero, suc, ◌+◌, ◌*◌, ◌%◌, ◌<◌, ◌≤◌, true, false, not, T, List, [], ◌∷◌, ◌++◌, length, take, set, sym, refl, ap, ◌∙◌, inl, inr, true≢false, add-one, arith, length-append, take-suc-set, get_or-append-add, le-ltb, lt-ltb}
+use Rattle.std.proofs.Common.{◌≡◌, ℕ, zero, suc, ◌+◌, ◌*◌, ◌<◌, true, false, not, T, List, [], ◌∷◌, ◌++◌, length, take, set, sym, refl, ap, ◌∙◌, inl, inr, true≢false, add-one, arith, length-append, take-suc-set, get_or-append-add}
 use lib.ListN.{get_or-append}
-use lib.Ieee.{Float, nan, inf, fin, binary64, of_bits, is_nan, nan_bits, ne}
-use lib.Ieee.Bits.{nan_bits_is, nan_bits_above}
-use Rattle.arithmetic.specs.Bytes.{word_at, float_at, floats_at}
+use lib.Ieee.{Float, nan, inf, fin, binary64, of_bits, to_bits, is_nan, ne}
+use Rattle.arithmetic.specs.Bytes.{word_at, float_at, floats_at, bits_of}
 use Rattle.arithmetic.specs.Tables.{at}
 use Rattle.arithmetic.proofs.Tests.{failed, le-or}
 
-nan_is : (v : Float) → is_nan v ≡ true → v ≡ nan
+pub nan_is : (v : Float) → is_nan v ≡ true → v ≡ nan
 unfolding is_nan
 nan_is nan e = refl
 nan_is (inf s) e = absurd (true≢false (sym e))
@@ -20,15 +19,15 @@ no_nan nan e = e
 no_nan (inf s) e = refl
 no_nan (fin s m x) e = refl
 
+-- the bits with one pattern for NaN, as the library gives them
+pub bits_are : (v : Float) → to_bits binary64 v ≡ bits_of v
+unfolding bits_of is_nan to_bits
+bits_are nan = refl
+bits_are (inf s) = refl
+bits_are (fin s m x) = refl
+
 pub has_bits : (v : Float) → ne v v ≡ false → T (not (is_nan v))
 has_bits v e = failed (no_nan v e)
-
--- 9218868437227405312 is the pattern of infinity, and 9223372036854775808 that of the sign
-pub pattern_nan : (b : ℕ) → 9218868437227405312 < b % 9223372036854775808 → of_bits binary64 b ≡ nan
-pattern_nan b h = nan_is (of_bits binary64 b) (sym (nan_bits_is binary64 b) ∙ (nan_bits_above binary64 b ∙ lt-ltb 9218868437227405312 (b % 9223372036854775808) h))
-
-pub pattern_no_nan : (b : ℕ) → b % 9223372036854775808 ≤ 9218868437227405312 → T (not (nan_bits binary64 b))
-pattern_no_nan b h = failed (nan_bits_above binary64 b ∙ le-ltb 9218868437227405312 (b % 9223372036854775808) h)
 
 pub float_is : (s : List ℕ) (p low high : ℕ) (r : Float) → low ≡ word_at s p → high ≡ word_at s (p + 4) → r ≡ of_bits binary64 (low + 4294967296 * high) → r ≡ float_at s p
 unfolding float_at

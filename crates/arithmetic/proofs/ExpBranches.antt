@@ -25,9 +25,9 @@ module _ (v : Float) (n : is_nan v ≡ false) where
     exp_low l = rw (n, h, l)
 
     module _ (l : lt v lowest ≡ false) where
-      pub exp_tiny : le (fin true 1 (negsuc 27)) v ≡ true → le v (fin false 1 (negsuc 27)) ≡ true → one ⊕ v ≡ exp_of v
+      pub exp_tiny : le (fin true 1 (negsuc 27)) v && le v (fin false 1 (negsuc 27)) ≡ true → one ⊕ v ≡ exp_of v
       unfolding exp_of
-      exp_tiny a b = rw (n, h, l, abs-le v 1 (negsuc 27), a, b)
+      exp_tiny t = rw (n, h, l, abs-le v 1 (negsuc 27), t)
 
       pub exp_rest : le (fin true 1 (negsuc 27)) v && le v (fin false 1 (negsuc 27)) ≡ false → scaled (reduced v (exponent v)) (exponent v) ≡ exp_of v
       unfolding exp_of

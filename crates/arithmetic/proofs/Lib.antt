@@ -8,5 +8,6 @@ pub mod Splitting
 pub mod WorkedValues
 pub mod ByteLaws
 pub mod Within
+pub mod RefusalLaws
 pub mod ClosestLaws
 pub mod UnitLaws

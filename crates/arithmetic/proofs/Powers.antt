@@ -1,5 +1,5 @@
 -- 2 ^ k as a float, by its bit pattern, and the sums of i64 on the way.
-use Rattle.std.proofs.Common.{◌≡◌, ℕ, suc, ◌+◌, ◌-◌, ◌*◌, ◌/◌, ◌%◌, ◌<◌, ◌≤◌, Bool, true, false, ◌&&◌, T, leb, ℤ, pos, negsuc, ◌+ℤ◌, ◌-ℤ◌, nat_abs, sym, refl, ap, ◌∙◌, true≢false, arith, le→leb, leb→le, w64, SFits, to_z, of_z, ltb-false, ltb-true, le-ltb, lt-ltb, ne_eqb, le-leb}
+use Rattle.std.proofs.Common.{◌≡◌, ℕ, suc, ◌+◌, ◌-◌, ◌*◌, ◌/◌, ◌%◌, ◌<◌, ◌≤◌, Bool, true, false, ◌&&◌, T, leb, ℤ, pos, negsuc, ◌+ℤ◌, ◌-ℤ◌, nat_abs, sym, refl, ap, ◌∙◌, true≢false, arith, le→leb, leb→le, w64, SFits, to_z, of_z, ltb-true, le-ltb, lt-ltb, ne_eqb, le-leb}
 use lib.Signed.{le_z, lt_z}
 use lib.Count.{count_trailing_zeros}
 use lib.Ieee.{Float, fin, binary64, top, hid, minus, of_bits, of_fields, odd, round}
@@ -96,10 +96,6 @@ under (negsuc m) r t =
     let a : 1021 < m = ltb-true 1021 m t in
     let b : m ≤ 1499 = leb→le m 1499 (and_l (leb m 1499) true r) in
     simp (lt-ltb 1000 (suc m) (omega arith)) (normal_neg (suc m - 1001) (omega arith))
-
-pub within : (k : ℤ) → SFits w64 k → lt_z (pos 1023) k ≡ false → lt_z k (negsuc 1021) ≡ false → Normal k
-within (pos m) f t s = normal_pos m (ltb-false 1023 m t)
-within (negsuc m) f t s = normal_neg m (ltb-false 1021 m s)
 
 pub scaled-over : (y p q : Float) (k : ℤ) → lt_z (pos 1023) k ≡ true → p ≡ two^ (pos 1023) → q ≡ two^ (k -ℤ pos 1023) → y ⊗ p ⊗ q ≡ scaled y k
 unfolding scaled

@@ -1,5 +1,7 @@
 -- Places of a table by full rows, an array that a loop fills, and the entries of a part.
-use Rattle.std.proofs.Common.{◌≡◌, ℕ, ◌+◌, ◌-◌, ◌*◌, ◌/◌, ◌%◌, ◌<◌, ◌≤◌, List, ◌++◌, length, take, set, sym, refl, ap, ◌∙◌, ⊎_elim, add-zero, mul-le-mul_right, mod-eq_of_lt, suc-mul, add-mul, le_antisymm, eq-or-lt_of_le, one-mul, ne_of_gt, ne_of_lt, arith, length-drop, length-set, length-take, length-take-le, get_or-drop, get_or-set_other, get_or-take, get_or-set_same, get_or-append-add, below_more, le-ltb, lt-ltb}
+use Rattle.std.proofs.Common.{◌≡◌, ℕ, ◌+◌, ◌-◌, ◌*◌, ◌/◌, ◌%◌, ◌<◌, ◌≤◌, List, ◌++◌, length, map, take, drop, set, sym, refl, ap, ◌∙◌, ⊎_elim, add-zero, mul-le-mul_right, mod-eq_of_lt, suc-mul, add-mul, le_antisymm, eq-or-lt_of_le, one-mul, ne_of_gt, ne_of_lt, arith, length-drop, length-set, length-take, length-take-le, get_or-drop, get_or-set_other, get_or-take, get_or-set_same, get_or-append-add, below_more, le-ltb, lt-ltb}
+use Rattle.std.proofs.lemmas.List.{get_or_default, get_or-map, length-map}
+use Rattle.std.proofs.lemmas.List.Edits.{map_over_more}
 use native.Mathlib.Nat.{mul-add-div_right, mul-add-mod_self_right, div-eq_of_lt}
 use lib.ListN.{get_or-append}
 use lib.Ieee.{Float, nan}
@@ -132,6 +134,35 @@ module _ {new : ℕ → Float} {n : ℕ} {l : List Float} where
 
   pub rewriting_filled : {k : ℕ} {g : List Float} → n ≤ k → Rewriting new n l k g → Filled new n g
   rewriting_filled h f = record { each = λ j b. (rewriting_done h f).each j (omega (arith, f.room)) ∙ upto_below n new (at l) j b }
+
+-- ---- f of each place put there
+
+-- the next place in a loop over i
+pub mapped_more : (f : Float → Float) (old l : List Float) (i : ℕ) {v : Float} → i < length old → length l ≡ length old → l ≡ map f (take i old) ++ drop i old → v ≡ f (at l i) → set l i v ≡ map f (take (i + 1) old) ++ drop (i + 1) old
+mapped_more f old l i b long so e = rw e (map_over_more f old l i (at l i) b so (get_or_default l i nan (at l i) (omega arith)))
+
+-- the first n places
+pub taken_by_map : (f : Float → Float) (n : ℕ) (l : List Float) {m : List Float} → n ≤ length l → m ≡ map f (take n l) → Filled (up_to n (λ k. f (at l k)) (at l)) (length l) (m ++ drop n l)
+taken_by_map f n l {m} h e =
+    let long : length m ≡ n = ap length e ∙ length-map (take n l) f ∙ length-take-le n l h in
+    record {
+      each = λ k b.
+          ⊎_elim
+          (λ above.
+          let past : k ≡ length m + (k - n) = omega arith in
+          ap (at (m ++ drop n l)) past
+          ∙ get_or-append-add m (drop n l) (k - n) nan
+          ∙ get_or-drop n l (k - n) nan
+          ∙ ap (at l) (omega arith)
+          ∙ sym (upto_above n (λ k. f (at l k)) (at l) k above))
+          (λ below.
+          get_or-append m (drop n l) nan k (omega arith)
+          ∙ ap (λ l. at l k) e
+          ∙ get_or-map f (take n l) k nan nan (omega (arith, length-take-le n l h))
+          ∙ ap f (get_or-take n l k nan below)
+          ∙ sym (upto_below n (λ k. f (at l k)) (at l) k below))
+          (le-or n k);
+    }
 
 -- ---- parts
 

@@ -1,5 +1,5 @@
 -- What a test comes to, as a fact.
-use Rattle.std.proofs.Common.{◌≡◌, ℕ, ◌<◌, ◌≤◌, Bool, true, false, not, ◌&&◌, T, eqb, leb, ◌⊎◌, sym, refl, subst, inl, inr, arith, eqb→eq, leb→le, leb-false, leb-true}
+use Rattle.std.proofs.Common.{◌≡◌, ℕ, ◌<◌, ◌≤◌, Bool, true, false, not, T, eqb, leb, ◌⊎◌, sym, refl, subst, inl, inr, arith, eqb→eq, leb→le, leb-false, leb-true}
 use Prim.Native.Nat.{compare, Ordering}
 use lib.Dec.{is_le, compare_is_eq, nleb→lt, eqb_refl}
 use lib.Arith.{lt_of_le-ne}
@@ -9,12 +9,6 @@ passed e = subst T (sym e) tt
 
 pub failed : {b : Bool} → b ≡ false → T (not b)
 failed e = subst (λ (b : Bool). T (not b)) (sym e) tt
-
-pub first_fails : {a : Bool} (b : Bool) → a ≡ false → a && b ≡ false
-first_fails b e = rw e
-
-pub second_fails : {a b : Bool} → a ≡ true → b ≡ false → a && b ≡ false
-second_fails e f = rw (e, f)
 
 pub either : (b : Bool) → (b ≡ true) ⊎ (b ≡ false)
 either true = inl refl

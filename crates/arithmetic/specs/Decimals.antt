@@ -6,8 +6,7 @@ use Rattle.std.specs.Float.Ieee.Exact.{HasValue}
 use Rattle.std.specs.Float.Ieee.Scale.{finite}
 use Rattle.arithmetic.specs.Floats.{dec}
 use Rattle.arithmetic.specs.Units.{apart, units_of}
-use Rattle.arithmetic.specs.declared.decimals.Field.{Field}
-use Rattle.arithmetic.specs.declared.decimals.Field.TheVariants.{Number, Refused}
+use Rattle.arithmetic.specs.Refusals.{Answer, Value, Refused}
 
 -- ---- digits
 
@@ -31,37 +30,37 @@ valued a (b ∷ l) = valued (a * 10 + digit b) l
 -- ---- a field, with a minus where s is true
 
 -- the digits a, and b behind the point: 13 for more than 15 in all
-unfoldable pub digits_field : Bool → List ℕ → List ℕ → Field
+unfoldable pub digits_field : Bool → List ℕ → List ℕ → Answer Float
 digits_field s a b =
-    cond (nat_le (length a + length b) 15) (Number (dec s (valued (valued 0 a) b) (length b))) (Refused 13)
+    cond (nat_le (length a + length b) 15) (Value (dec s (valued (valued 0 a) b) (length b))) (Refused 13)
 
 -- the digits a, and b behind the point: 12 for none there, or another byte
-unfoldable pub pointed_field : Bool → List ℕ → List ℕ → Field
+unfoldable pub pointed_field : Bool → List ℕ → List ℕ → Answer Float
 pointed_field s a b =
     cond (leading b == 0) (Refused 12)
     (cond (leading b == length b) (digits_field s a b) (Refused 12))
 
 -- digits, and where they end nothing or a point (46): 12 for no digit, or another byte there
-unfoldable pub unsigned_field : Bool → List ℕ → Field
+unfoldable pub unsigned_field : Bool → List ℕ → Answer Float
 unsigned_field s l =
     cond (leading l == 0) (Refused 12)
     (cond (leading l == length l) (digits_field s l [])
     (cond (slice_index l (leading l) == 46) (pointed_field s (take (leading l) l) (drop (leading l + 1) l)) (Refused 12)))
 
 -- with or without a minus (45)
-unfoldable pub field_of : List ℕ → Field
+unfoldable pub field_of : List ℕ → Answer Float
 field_of l = cond (slice_index l 0 == 45) (unsigned_field true (drop 1 l)) (unsigned_field false l)
 
 -- ---- what is read
 
 -- 0, or the refusal's number
-unfoldable pub field_number : Field → ℕ
-field_number (Number v) = 0
+unfoldable pub field_number : Answer Float → ℕ
+field_number (Value v) = 0
 field_number (Refused k) = k
 
 -- the f64, NaN for none
-unfoldable pub field_value : Field → Float
-field_value (Number v) = v
+unfoldable pub field_value : Answer Float → Float
+field_value (Value v) = v
 field_value (Refused k) = nan
 
 -- ---- what the number is good for

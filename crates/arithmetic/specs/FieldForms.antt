@@ -2,7 +2,7 @@
 -- both sides". What is read is what this form says, and every other text is refused.
 use Rattle.std.specs.Prelude.{◌≡◌, ℕ, ◌+◌, ◌<◌, ◌≤◌, Bool, true, false, ◌⊎◌, List, [], ◌∷◌, ◌++◌, length, Float}
 use Rattle.arithmetic.specs.Decimals.{is_digit, valued, field_of, Rounded}
-use Rattle.arithmetic.specs.declared.decimals.Field.TheVariants.{Number, Refused}
+use Rattle.arithmetic.specs.Refusals.{Value, Refused}
 
 abbrev pub AllDigits : List ℕ → Type 0
 AllDigits [] = Unit {0}
@@ -23,7 +23,7 @@ pub data FieldForm : List ℕ → Bool → List ℕ → List ℕ → Type 0 wher
 abbrev pub FieldRounds : Type 0
 FieldRounds =
     (l : List ℕ) (s : Bool) (a b : List ℕ) → FieldForm l s a b → length a + length b ≤ 15
-    → (r : Float) × (field_of l ≡ Number r) × Rounded s (valued (valued 0 a) b) (length b) r
+    → (r : Float) × (field_of l ≡ Value r) × Rounded s (valued (valued 0 a) b) (length b) r
 
 -- of the form, with more: 13
 abbrev pub FieldTooLong : Type 0

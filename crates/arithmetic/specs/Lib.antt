@@ -2,6 +2,7 @@ pub mod Floats
 pub mod Exponential
 pub mod Logarithm
 pub mod Parameters
+pub mod Refusals
 pub mod Sums
 pub mod Tables
 pub mod Bytes

@@ -4,17 +4,16 @@ use Rattle.std.specs.Float.{nan, inf, fin}
 use Rattle.std.specs.Float.Ieee.{up, down}
 use Rattle.std.specs.Float.Ieee.Nearest.{closest}
 use Rattle.arithmetic.specs.Units.{apart, signed}
-use Rattle.arithmetic.specs.declared.millionths.Shown.{Shown}
-use Rattle.arithmetic.specs.declared.millionths.Shown.TheVariants.{Millionths, Refused}
+use Rattle.arithmetic.specs.Refusals.{Answer, Value, Refused}
 
 -- 11 for NaN, an infinity and a magnitude of 2048 or more; else v times 10^6, which is ±m·up e·10^6 / down e, rounded to the
 -- nearest whole number, a tie to the even one
-unfoldable pub millionths_of : Float → Shown
+unfoldable pub millionths_of : Float → Answer ℤ
 millionths_of nan = Refused 11
 millionths_of (inf s) = Refused 11
 millionths_of (fin s m e) =
     cond (nat_le (2048 * down e) (m * up e)) (Refused 11)
-    (Millionths (signed s (closest (m * up e * 1000000) (down e))))
+    (Value (signed s (closest (m * up e * 1000000) (down e))))
 
 -- ---- what the number is good for
 
@@ -32,7 +31,7 @@ ShowsOf (fin s m e) z = Shows s (m * up e) (down e) z
 
 -- so is every number that is shown ..
 abbrev pub HalfOff : Type 0
-HalfOff = (v : Float) (z : ℤ) → millionths_of v ≡ Millionths z → ShowsOf v z
+HalfOff = (v : Float) (z : ℤ) → millionths_of v ≡ Value z → ShowsOf v z
 
 -- .. and no other is
 abbrev pub OneShows : Type 0

@@ -3,38 +3,26 @@ ghost use Rattle.std.specs.Prelude.{◌≡◌, ◌+◌, ◌*◌, ◌<◌, ◌≤
 ghost use Rattle.std.specs.Float.{binary64};
 ghost use Rattle.arithmetic.specs.Bytes.{word_at, float_at, floats_at, bits_of};
 
-fn wide(x: u8) -> usize
-    ensures { (result ≡ x) × (result < 256) }
-{
-    x as usize
-}
-
 // The 32-bit word at a place.
 pub fn word_at(s: &[u8], at: usize) -> usize
     requires { at + 4 ≤ length s.now }
     ensures { (result ≡ word_at s.now at) × (result < 4294967296) }
 {
-    wide(s[at]) + 256 * wide(s[at + 1]) + 65536 * wide(s[at + 2]) + 16777216 * wide(s[at + 3])
+    u32::from_le_bytes([s[at], s[at + 1], s[at + 2], s[at + 3]]) as usize
 }
 
 // The float of a bit pattern, a NaN's too.
 pub fn float_of(b: u64) -> f64
     ensures { result ≡ from_bits binary64 b }
 {
-    if 0x7ff0_0000_0000_0000 < b % 0x8000_0000_0000_0000 {
-        return 0.0 / 0.0;
-    }
-    f64::from_bits(b)
+    std::num::f64_from_bits_with_nan(b)
 }
 
 // The bits of a float, any NaN as one pattern.
 pub fn bits_of(v: f64) -> u64
     ensures { result ≡ bits_of v }
 {
-    if v != v {
-        return 0x7ff8_0000_0000_0000;
-    }
-    f64::to_bits(v)
+    std::num::f64_to_bits_with_nan(v)
 }
 
 // The float at a place.
@@ -53,7 +41,7 @@ pub fn fill_floats(n: usize, s: &[u8], at: usize, a: &mut [f64])
     ensures { (n ≡ length (take n a.new))
         × (take n a.new ≡ floats_at s.now at n) }
 {
-    for k in 0..n {
-        a[k] = float_at(s, at + 8 * k);
+    for (k, v) in a[..n].iter_mut().enumerate() {
+        *v = float_at(s, at + 8 * k);
     }
 }

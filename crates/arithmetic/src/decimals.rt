@@ -1,44 +1,35 @@
 // A decimal field of a supplier's list as the nearest f64.
-ghost use Rattle.std.specs.Prelude.{◌≡◌, ◌+◌, ◌*◌, ◌^◌, ◌<◌, ◌≤◌, false, length};
+ghost use Rattle.std.specs.Prelude.{◌≡◌, ◌+◌, ◌*◌, ◌^◌, ◌<◌, ◌≤◌, false, length, not, position};
 ghost use Rattle.arithmetic.specs.Floats.{dec};
-ghost use Rattle.arithmetic.specs.Decimals.{leading, digit, valued};
+ghost use Rattle.arithmetic.specs.Refusals.{answer_of};
+ghost use Rattle.arithmetic.specs.Decimals.{is_digit, leading, digit, valued};
 ghost use Rattle.arithmetic.specs.Decimals.{digits_field, pointed_field, unsigned_field, field_of};
 
-#[derive(Clone, Copy)]
-pub enum Field {
-    Number(f64),
-    Refused(u8),
+use crate::refusal::Refusal;
+
+// Where the first byte stands that is no digit.
+fn first_other(s: &[u8]) -> Option<usize>
+    ensures { result ≡ position (λ b. not (is_digit b)) s.now }
+{
+    s.iter().position(|b| !b.is_ascii_digit())
 }
 
 // How many digits stand first.
 fn leading(s: &[u8]) -> usize
     ensures { result ≡ leading s.now }
 {
-    let mut i = 0;
-    while i < s.len() {
-        let b = s[i];
-        if b < b'0' {
-            return i;
-        }
-        if b > b'9' {
-            return i;
-        }
-        i += 1;
-    }
-    i
+    first_other(s).unwrap_or(s.len())
 }
 
 // 0 for another byte.
 fn digit(b: u8) -> u64
     ensures { result ≡ digit b }
 {
-    if b < b'0' {
-        return 0;
+    if b.is_ascii_digit() {
+        u64::from(b - b'0')
+    } else {
+        0
     }
-    if b > b'9' {
-        return 0;
-    }
-    (b - b'0') as u64
 }
 
 // The number that has a's digits and then those of s.
@@ -47,10 +38,8 @@ fn valued(s: &[u8], a: u64) -> u64
     ensures { result ≡ valued a s.now }
 {
     let mut v = a;
-    let mut k = 0;
-    while k < s.len() {
-        v = v * 10 + digit(s[k]);
-        k += 1;
+    for b in s {
+        v = v * 10 + digit(*b);
     }
     v
 }
@@ -81,61 +70,52 @@ fn quotient(minus: bool, n: u64, d: usize) -> f64
 }
 
 // The digits a, and b behind the point.
-fn digits(minus: bool, a: &[u8], b: &[u8]) -> Field
+fn digits(minus: bool, a: &[u8], b: &[u8]) -> Result<f64, Refusal>
     requires { 0 < length a.now }
-    ensures { result ≡ digits_field minus a.now b.now }
+    ensures { answer_of result ≡ digits_field minus a.now b.now }
 {
-    if a.len() > 15 {
-        return Field::Refused(13);
-    }
-    if b.len() > 15 - a.len() {
-        return Field::Refused(13);
+    if a.len() > 15 || b.len() > 15 - a.len() {
+        return Err(Refusal::Digits);
     }
     let n = valued(b, valued(a, 0));
-    Field::Number(quotient(minus, n, b.len()))
+    Ok(quotient(minus, n, b.len()))
 }
 
 // The digits a, and what stands behind the point.
-fn pointed(minus: bool, a: &[u8], b: &[u8]) -> Field
+fn pointed(minus: bool, a: &[u8], b: &[u8]) -> Result<f64, Refusal>
     requires { 0 < length a.now }
-    ensures { result ≡ pointed_field minus a.now b.now }
+    ensures { answer_of result ≡ pointed_field minus a.now b.now }
 {
     let f = leading(b);
-    if f == 0 {
-        return Field::Refused(12);
-    }
-    if f != b.len() {
-        return Field::Refused(12);
+    if f == 0 || f != b.len() {
+        return Err(Refusal::Form);
     }
     digits(minus, a, b)
 }
 
 // A field without its minus.
-fn unsigned(minus: bool, s: &[u8]) -> Field
-    ensures { result ≡ unsigned_field minus s.now }
+fn unsigned(minus: bool, s: &[u8]) -> Result<f64, Refusal>
+    ensures { answer_of result ≡ unsigned_field minus s.now }
 {
     let i = leading(s);
     if i == 0 {
-        return Field::Refused(12);
+        return Err(Refusal::Form);
     }
-    if i == s.len() {
-        return digits(minus, s, &s[i..]);
+    let (whole, rest) = s.split_at(i);
+    if rest.is_empty() {
+        return digits(minus, whole, rest);
     }
-    if s[i] != b'.' {
-        return Field::Refused(12);
+    match rest.strip_prefix(b".") {
+        Some(behind) => pointed(minus, whole, behind),
+        None => Err(Refusal::Form),
     }
-    let at = i + 1;
-    pointed(minus, &s[..i], &s[at..])
 }
 
-pub fn read(field: &[u8]) -> Field
-    ensures { result ≡ field_of field.now }
+pub fn read(field: &[u8]) -> Result<f64, Refusal>
+    ensures { answer_of result ≡ field_of field.now }
 {
-    if field.len() == 0 {
-        return Field::Refused(12);
+    match field.strip_prefix(b"-") {
+        Some(size) => unsigned(true, size),
+        None => unsigned(false, field),
     }
-    if field[0] == b'-' {
-        return unsigned(true, &field[1..]);
-    }
-    unsigned(false, field)
 }

@@ -1,15 +1,13 @@
 // exp on every f64.
-ghost use Rattle.std.specs.Prelude.{◌≡◌, ℕ, ◌<◌, ◌≤◌, not, ◌&&◌, T, length, ℤ, pos, negsuc, int_le, is_nan};
+ghost use Rattle.std.specs.Prelude.{◌≡◌, ◌≤◌, not, ◌&&◌, T, length, ℤ, pos, negsuc, int_le, is_nan};
 ghost use Rattle.std.specs.Float.{binary64};
 ghost use Rattle.std.specs.Float.Ieee.{lt, of_int};
 ghost use Rattle.arithmetic.specs.Floats.{two^};
-ghost use Rattle.arithmetic.specs.Steps.Nearest.{Easy};
-ghost use Rattle.arithmetic.specs.Steps.Nearest.{nearest};
-ghost use Rattle.arithmetic.specs.Tables.{at, Taken};
-ghost use Rattle.arithmetic.specs.Exponential.{exp_of, highest, lowest};
-ghost use Rattle.arithmetic.specs.Exponential.{exponent};
-ghost use Rattle.arithmetic.specs.Exponential.{correction};
-ghost use Rattle.arithmetic.specs.Exponential.{reduced, scaled};
+ghost use Rattle.arithmetic.specs.Steps.Nearest.{Easy, nearest};
+ghost use Rattle.arithmetic.specs.Tables.{Taken};
+ghost use Rattle.arithmetic.specs.Exponential.{exp_of, highest, lowest, exponent, correction, reduced, scaled};
+
+use crate::elementary::{Elementary, each, value};
 
 // P1 to P5.
 const P: [f64; 5] = [
@@ -33,73 +31,66 @@ const SHIFT: f64 = 6755399441055744.0;
 // 1/2 - 2^-30
 const MARGIN: f64 = 0.49999999906867743;
 
+// 2^-28: where v is no larger, exp of v is 1 + v.
+const TINY: f64 = 3.725290298461914e-09;
+
+// The function exp.
+struct Exponential;
+
+impl Elementary for Exponential {
+    ghost of = { exp_of };
+
+    ghost easy = { Easy };
+
+    // From -500 to 500, and v over ln 2 no closer than 2^-30 to the middle between two whole numbers.
+    fn is_easy(v: f64) -> bool {
+        let u = RECIPROCAL * v;
+        let apart = u - nearest(u);
+        v >= -500.0 && v <= 500.0 && apart > -MARGIN && apart < MARGIN
+    }
+
+    // There k is the nearest whole number, and 2^k a float.
+    fn easy_value(v: f64) -> f64 {
+        let n = nearest(RECIPROCAL * v);
+        let y = reduced(v, n) * power(i64::from(n as i32));
+        if (v >= -TINY) & (v <= TINY) {
+            1.0 + v
+        } else {
+            y
+        }
+    }
+
+    // Its k is cut toward zero.
+    fn careful_value(v: f64) -> f64 {
+        if v.is_nan() {
+            return v;
+        }
+        if v > 709.782712893383973096 {
+            return f64::INFINITY;
+        }
+        if v < -745.13321910194110842 {
+            return 0.0;
+        }
+        if (v >= -TINY) & (v <= TINY) {
+            return 1.0 + v;
+        }
+        let k = exponent(v);
+        scaled(reduced(v, std::num::nearest_i64_to_f64(k)), k)
+    }
+}
+
 pub fn exp(v: f64) -> f64
     ensures { result ≡ exp_of v }
 {
-    if hard(v) == 0 {
-        return easy_exp(v);
-    }
-    careful_exp(v)
+    value::<Exponential>(v)
 }
 
-// Puts exp of each of the first n places there; side by side where all are easy.
+// Puts exp of each of the first n places there.
 pub fn exp_each(a: &mut [f64], n: usize)
     requires { n ≤ length a.old }
     ensures { Taken exp_of n a }
 {
-    if count_hard(a, n) == 0 {
-        return each_easy(a, n);
-    }
-    each_careful(a, n)
-}
-
-// How many of the first n places are not easy.
-fn count_hard(a: &[f64], n: usize) -> u64
-    requires { n ≤ length a.now }
-    ensures { result ≡ 0 → (k : ℕ) → k < n → Easy (at a.now k) }
-{
-    let mut count: u64 = 0;
-    for k in 0..n {
-        count += hard(a[k]);
-    }
-    count
-}
-
-fn each_easy(a: &mut [f64], n: usize)
-    requires { (n ≤ length a.old) × ((k : ℕ) → k < n → Easy (at a.old k)) }
-    ensures { Taken exp_of n a }
-{
-    for k in 0..n {
-        a[k] = easy_exp(a[k]);
-    }
-}
-
-fn each_careful(a: &mut [f64], n: usize)
-    requires { n ≤ length a.old }
-    ensures { Taken exp_of n a }
-{
-    for k in 0..n {
-        a[k] = exp(a[k]);
-    }
-}
-
-// 0 where v is easy: from -500 to 500, and v over ln 2 no closer than 2^-30 to the middle between two whole
-// numbers. Else 1.
-fn hard(v: f64) -> u64
-    ensures { (result ≤ 1) × (result ≡ 0 → Easy v) }
-{
-    let u = RECIPROCAL * v;
-    let apart = u - nearest(u);
-    if v >= -500.0 {
-        if v <= 500.0 {
-            if apart > -MARGIN {
-                if apart < MARGIN {
-                    return 0;
-                }
-            }
-        }
-    }
-    1
+    each::<Exponential>(a, n);
 }
 
 // The whole number nearest to u.
@@ -109,54 +100,12 @@ fn nearest(u: f64) -> f64
     u + SHIFT - SHIFT
 }
 
-// exp of an easy v, without a branch: there k is the nearest whole number, and 2^k a float.
-fn easy_exp(v: f64) -> f64
-    requires { Easy v }
-    ensures { result ≡ exp_of v }
-{
-    let n = nearest(RECIPROCAL * v);
-    let y = reduced(v, n) * power((n as i32) as i64);
-    // 2^-28
-    if v >= -3.725290298461914e-09 {
-        if v <= 3.725290298461914e-09 {
-            return 1.0 + v;
-        }
-    }
-    y
-}
-
-// exp of any v, its k cut toward zero.
-fn careful_exp(v: f64) -> f64
-    ensures { result ≡ exp_of v }
-{
-    if v != v {
-        return v;
-    }
-    if v > 709.782712893383973096 {
-        return f64::from_bits(0x7ff0_0000_0000_0000);
-    }
-    if v < -745.13321910194110842 {
-        return 0.0;
-    }
-    // 2^-28
-    if v >= -3.725290298461914e-09 {
-        if v <= 3.725290298461914e-09 {
-            return 1.0 + v;
-        }
-    }
-    let k = exponent(v);
-    scaled(reduced(v, std::num::nearest_i64_to_f64(k)), k)
-}
-
 // k: v over ln 2, moved by a half away from zero, cut toward zero.
 fn exponent(v: f64) -> i64
     requires { T (not (is_nan v)) × T (not (lt highest v)) × T (not (lt v lowest)) }
     ensures { result ≡ exponent v }
 {
-    let mut h = 0.5;
-    if v < 0.0 {
-        h = -0.5;
-    }
+    let h = if v < 0.0 { -0.5 } else { 0.5 };
     std::num::truncating_f64_to_i64(RECIPROCAL * v + h)
 }
 

@@ -5,14 +5,17 @@
 
 pub mod bytes;
 pub mod decimals;
+mod elementary;
 pub mod exponential;
 pub mod logarithm;
 pub mod millionths;
 pub mod parameters;
+pub mod refusal;
 pub mod slices;
 pub mod sums;
 
 pub use exponential::{exp, exp_each};
 pub use logarithm::{log, log_each};
 pub use parameters::TdParam;
+pub use refusal::Refusal;
 pub use sums::{dot, sum};

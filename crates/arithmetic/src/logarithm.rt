@@ -1,10 +1,10 @@
 // log on every f64.
-ghost use Rattle.std.specs.Prelude.{◌≡◌, ℕ, ◌^◌, ◌<◌, ◌≤◌, length, pos, if◌then◌else◌, nat_lt};
-ghost use Rattle.arithmetic.specs.Tables.{at, Taken};
-ghost use Rattle.arithmetic.specs.Logarithm.{log_of, log_by};
-ghost use Rattle.arithmetic.specs.Logarithm.{remainder};
+ghost use Rattle.std.specs.Prelude.{◌≡◌, ◌^◌, ◌<◌, ◌≤◌, length, pos, if◌then◌else◌, nat_lt};
+ghost use Rattle.arithmetic.specs.Tables.{Taken};
+ghost use Rattle.arithmetic.specs.Logarithm.{log_of, log_by, remainder};
 ghost use Rattle.arithmetic.specs.Steps.Digits.{from_digits, Normal};
 
+use crate::elementary::{Elementary, each, value};
 use crate::exponential::{L1, L2};
 
 // G1 to G7.
@@ -18,112 +18,66 @@ const G: [f64; 7] = [
     1.479819860511658591e-01,
 ];
 
+// The function log.
+struct Logarithm;
+
+impl Elementary for Logarithm {
+    ghost of = { log_of };
+
+    ghost easy = { Normal };
+
+    // Positive and finite, and not subnormal.
+    fn is_easy(v: f64) -> bool {
+        v > 0.0 && v < f64::INFINITY && v.to_bits() >> 52 != 0
+    }
+
+    fn easy_value(v: f64) -> f64 {
+        let b = v.to_bits();
+        let y = from_digits(
+            b % 0x10_0000_0000_0000 + 0x10_0000_0000_0000,
+            (b >> 52) + 52,
+        );
+        if v == 1.0 { 0.0 } else { y }
+    }
+
+    fn careful_value(v: f64) -> f64 {
+        if v.is_nan() {
+            return v;
+        }
+        if v < 0.0 {
+            return f64::NAN;
+        }
+        if v == 0.0 {
+            return f64::NEG_INFINITY;
+        }
+        if v == f64::INFINITY {
+            return v;
+        }
+        if v == 1.0 {
+            return 0.0;
+        }
+        let b = v.to_bits();
+        if b >> 52 != 0 {
+            return Logarithm::easy_value(v);
+        }
+        // a subnormal: its digits are moved up until the highest is the 53rd
+        let z = u64::from(b.leading_zeros());
+        from_digits(b << (z - 11), 64 - z)
+    }
+}
+
 pub fn log(v: f64) -> f64
     ensures { result ≡ log_of v }
 {
-    if hard(v) == 0 {
-        return easy_log(v);
-    }
-    careful_log(v)
+    value::<Logarithm>(v)
 }
 
-// Puts log of each of the first n places there; side by side where all are easy.
+// Puts log of each of the first n places there.
 pub fn log_each(a: &mut [f64], n: usize)
     requires { n ≤ length a.old }
     ensures { Taken log_of n a }
 {
-    if count_hard(a, n) == 0 {
-        return each_easy(a, n);
-    }
-    each_careful(a, n)
-}
-
-// How many of the first n places are not easy.
-fn count_hard(a: &[f64], n: usize) -> u64
-    requires { n ≤ length a.now }
-    ensures { result ≡ 0 → (k : ℕ) → k < n → Normal (at a.now k) }
-{
-    let mut count: u64 = 0;
-    for k in 0..n {
-        count += hard(a[k]);
-    }
-    count
-}
-
-fn each_easy(a: &mut [f64], n: usize)
-    requires { (n ≤ length a.old) × ((k : ℕ) → k < n → Normal (at a.old k)) }
-    ensures { Taken log_of n a }
-{
-    for k in 0..n {
-        a[k] = easy_log(a[k]);
-    }
-}
-
-fn each_careful(a: &mut [f64], n: usize)
-    requires { n ≤ length a.old }
-    ensures { Taken log_of n a }
-{
-    for k in 0..n {
-        a[k] = log(a[k]);
-    }
-}
-
-// 0 where v is easy: positive and finite, and not subnormal. Else 1.
-fn hard(v: f64) -> u64
-    ensures { (result ≤ 1) × (result ≡ 0 → Normal v) }
-{
-    if v > 0.0 {
-        if v < f64::from_bits(0x7ff0_0000_0000_0000) {
-            if f64::to_bits(v) >> 52 != 0 {
-                return 0;
-            }
-        }
-    }
-    1
-}
-
-// log of an easy v, without a branch.
-fn easy_log(v: f64) -> f64
-    requires { Normal v }
-    ensures { result ≡ log_of v }
-{
-    let b = f64::to_bits(v);
-    let y = from_digits(
-        b % 0x10_0000_0000_0000 + 0x10_0000_0000_0000,
-        (b >> 52) + 52,
-    );
-    if v == 1.0 {
-        return 0.0;
-    }
-    y
-}
-
-// log of any v.
-fn careful_log(v: f64) -> f64
-    ensures { result ≡ log_of v }
-{
-    if v != v {
-        return v;
-    }
-    if v < 0.0 {
-        return 0.0 / 0.0;
-    }
-    if v == 0.0 {
-        return f64::from_bits(0xfff0_0000_0000_0000);
-    }
-    if v == f64::from_bits(0x7ff0_0000_0000_0000) {
-        return v;
-    }
-    if v == 1.0 {
-        return 0.0;
-    }
-    let b = f64::to_bits(v);
-    if b >> 52 != 0 {
-        return easy_log(v);
-    }
-    // a subnormal: its digits are moved up until the highest is the 53rd
-    let z = u64::leading_zeros(b) as u64;
-    from_digits(b << (z - 11), 64 - z)
+    each::<Logarithm>(a, n);
 }
 
 // log of q·2^-53·2^(x - 1074), q being the number's 53 digits, of which the highest is 1.
@@ -141,19 +95,17 @@ fn bias(q: u64) -> u64
         ≡ (if nat_lt q 0x16_a09e_0000_0000 then 0x3fe0_0000_0000_0000 else 0x3fd0_0000_0000_0000) }
 {
     if q < 0x16_a09e_0000_0000 {
-        return 0x3fe0_0000_0000_0000;
+        0x3fe0_0000_0000_0000
+    } else {
+        0x3fd0_0000_0000_0000
     }
-    0x3fd0_0000_0000_0000
 }
 
 // What k falls short of x by.
 fn shortfall(q: u64) -> i32
     ensures { result ≡ (if nat_lt q 0x16_a09e_0000_0000 then pos 1075 else pos 1074) }
 {
-    if q < 0x16_a09e_0000_0000 {
-        return 1075;
-    }
-    1074
+    if q < 0x16_a09e_0000_0000 { 1075 } else { 1074 }
 }
 
 // log of m·2^k, for an m near 1.

@@ -1,13 +1,10 @@
 // An f64 as the panel shows it: a whole number of millionths.
 ghost use Rattle.std.specs.Prelude.{◌≡◌, ◌*◌, ◌^◌, ◌<◌, ◌≤◌};
 ghost use Rattle.std.specs.Float.Ieee.Nearest.{closest};
+ghost use Rattle.arithmetic.specs.Refusals.{answer_of};
 ghost use Rattle.arithmetic.specs.Millionths.{millionths_of};
 
-#[derive(Clone, Copy)]
-pub enum Shown {
-    Millionths(i64),
-    Refused(u8),
-}
+use crate::refusal::Refusal;
 
 // n / 2^s to the nearest whole number, a tie to the even one.
 fn rounded(n: u64, s: u64) -> u64
@@ -42,24 +39,24 @@ fn in_millionths(q: u64, d: u64) -> u64
 
 // By the bits: from 2048 on the exponent's field is 1034 or more, and where it is below 1000 half a millionth
 // isn't reached.
-pub fn millionths(v: f64) -> Shown
-    ensures { result ≡ millionths_of v }
+pub fn millionths(v: f64) -> Result<i64, Refusal>
+    ensures { answer_of result ≡ millionths_of v }
 {
-    if v != v {
-        return Shown::Refused(11);
+    if v.is_nan() {
+        return Err(Refusal::NotShown);
     }
-    let b = f64::to_bits(v);
+    let b = v.to_bits();
     let t = b % 0x8000_0000_0000_0000;
     let x = t / 0x10_0000_0000_0000;
     if x >= 1034 {
-        return Shown::Refused(11);
+        return Err(Refusal::NotShown);
     }
     if x < 1000 {
-        return Shown::Millionths(0);
+        return Ok(0);
     }
     let n = in_millionths(b % 0x10_0000_0000_0000 + 0x10_0000_0000_0000, 1075 - x);
     if b < 0x8000_0000_0000_0000 {
-        return Shown::Millionths(n as i64);
+        return Ok(n as i64);
     }
-    Shown::Millionths(0 - (n as i64))
+    Ok(-(n as i64))
 }

@@ -1,19 +1,14 @@
 // Left folds from +0.0 over slices.
 ghost use Rattle.std.specs.Prelude.{◌≡◌, ◌≤◌, length};
 ghost use Rattle.arithmetic.specs.Floats.{◌⊗◌};
-ghost use Rattle.arithmetic.specs.Sums.{total};
-ghost use Rattle.arithmetic.specs.Sums.{sum};
+ghost use Rattle.arithmetic.specs.Sums.{total, sum};
 ghost use Rattle.arithmetic.specs.Tables.{at};
 
 // The sum of a slice.
 pub fn sum(xs: &[f64]) -> f64
     ensures { result ≡ total xs.now }
 {
-    let mut s = 0.0;
-    for k in 0..xs.len() {
-        s = s + xs[k];
-    }
-    s
+    xs.iter().fold(0.0, |s, x| s + *x)
 }
 
 // The sum of x[k]·y[k] over the first n.
@@ -22,8 +17,8 @@ pub fn dot(n: usize, x: &[f64], y: &[f64]) -> f64
     ensures { result ≡ sum n (λ k. at x.now k ⊗ at y.now k) }
 {
     let mut s = 0.0;
-    for k in 0..n {
-        s = s + x[k] * y[k];
+    for (a, b) in x[..n].iter().zip(&y[..n]) {
+        s = s + *a * *b;
     }
     s
 }

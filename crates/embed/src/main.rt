@@ -11,34 +11,27 @@ use mixture::load::load;
 use mixture::open::open;
 use mixture::query::query;
 use mixture::set::set;
-use mixture::{Answer, Model, Reply, Setting};
-use models::Quantity;
+use mixture::{Answer, Model, Outcome, Setting};
 use models::suppliers::import;
+use models::{Data, Quantity};
 use std::io;
 
-fn refuse(rt: &impl Print, number: u8) -> io::Result<()> {
-    println!(rt; "refused {number}")
-}
-
-fn show(rt: &impl Print, reply: Reply) -> io::Result<()> {
-    let answer = reply.answer;
+fn show(rt: &impl Print, answer: Answer) -> io::Result<()> {
     match answer {
-        Answer::Done => println!(rt; "done"),
-        Answer::Refused(number) => refuse(rt, number),
-        Answer::Value(value, count) => {
+        Ok(Outcome::Done) => println!(rt; "done"),
+        Ok(Outcome::Value(value, count)) => {
             println!(rt; "{:016x} from so many cells: {count}", bits_of(value))
         }
+        Err(refusal) => println!(rt; "{refusal}"),
     }
 }
 
-// Shows a reply only where the call was refused. Such a call leaves memory and head as they were.
-fn check(rt: &impl Print, reply: Reply) -> io::Result<()> {
-    let answer = reply.answer;
-    match answer {
-        Answer::Refused(_) => show(rt, reply),
-        Answer::Done => Ok(()),
-        Answer::Value(_, _) => Ok(()),
+// Shows an answer only where the call was refused. Such a call leaves memory and head as they were.
+fn check(rt: &impl Print, answer: Answer) -> io::Result<()> {
+    if answer.is_err() {
+        show(rt, answer)?;
     }
+    Ok(())
 }
 
 fn main(rt: HostRuntime) -> io::Result<()> {
@@ -47,38 +40,27 @@ fn main(rt: HostRuntime) -> io::Result<()> {
     let mut cells = [0.0; CELLS];
     let mut marks = [0u8; MARKS];
     let opened = open(&values, &cells, &marks, no_head());
-    check(&rt, opened)?;
+    check(&rt, opened.answer)?;
     // a supplier's list, in kelvin
     let mut a = [0.0; 4];
-    let number = import(b"0,-81.46\n293.43,0\n", 2, &mut a);
-    if number != 0 {
-        refuse(&rt, number)?;
+    if let Err(refusal) = import(b"0,-81.46\n293.43,0\n", 2, &mut a) {
+        println!(rt; "{refusal}")?;
     }
-    // two components, no groups and no lists; energies by rows, then the molar volumes
+    // two components; energies by rows, then the molar volumes
     let given = [a[0], a[1], a[2], a[3], 74.05, 40.73];
-    let loaded = load(
-        &mut values,
-        &cells,
-        &mut marks,
-        opened.head,
-        Model::Wilson,
-        2,
-        0,
-        b"",
-        b"",
-        &given,
-    );
-    show(&rt, loaded)?;
+    let wilson = Data::bare(Model::Wilson, 2, &given);
+    let loaded = load(&mut values, &cells, &mut marks, opened.head, wilson);
+    show(&rt, loaded.answer)?;
     let warm = Setting::Temperature(328.7);
     let heated = set(&mut values, &cells, &mut marks, loaded.head, warm);
-    check(&rt, heated)?;
+    check(&rt, heated.answer)?;
     let mixed = fractions(&values, &cells, &marks, heated.head, &[0.78, 0.22]);
-    check(&rt, mixed)?;
+    check(&rt, mixed.answer)?;
     let acetone = Quantity::LnGamma(0);
     let asked = query(&values, &mut cells, &mut marks, mixed.head, acetone);
-    show(&rt, asked)?;
+    show(&rt, asked.answer)?;
     // a third component isn't there
     let third = Quantity::LnGamma(2);
     let beyond = query(&values, &mut cells, &mut marks, asked.head, third);
-    show(&rt, beyond)
+    show(&rt, beyond.answer)
 }

@@ -1,32 +1,24 @@
 // The lines that the program writes.
+use crate::digest::Digest;
 use arithmetic::bytes::bits_of;
-use mixture::Answer;
-use std::io;
+use mixture::{Answer, Outcome};
+use std::fmt;
 
-fn write_value(rt: &impl Print, v: f64) -> io::Result<()> {
-    if v != v {
-        return print!(rt; "nan");
-    }
-    print!(rt; "{:016x}", bits_of(v))
+// The answer to a record, and the digest after it.
+#[derive(Clone, Copy)]
+pub struct Line {
+    pub answer: Answer,
+    pub digest: Digest,
 }
 
-fn write_answer(rt: &impl Print, answer: Answer) -> io::Result<()> {
-    match answer {
-        Answer::Refused(number) => print!(rt; "refused {number}"),
-        Answer::Done => print!(rt; "ok"),
-        Answer::Value(v, count) => {
-            write_value(rt, v)?;
-            print!(rt; " {count}")
+impl fmt::Display for Line {
+    fn fmt<W: fmt::Write>(&self, f: &mut fmt::Formatter<W>) -> fmt::Result {
+        match self.answer {
+            Ok(Outcome::Done) => write!(f, "ok")?,
+            Ok(Outcome::Value(v, count)) if v.is_nan() => write!(f, "nan {count}")?,
+            Ok(Outcome::Value(v, count)) => write!(f, "{:016x} {count}", bits_of(v))?,
+            Err(refusal) => write!(f, "{refusal}")?,
         }
+        write!(f, " {}", self.digest)
     }
-}
-
-pub fn write_line(rt: &impl Print, answer: Answer, digest: u64) -> io::Result<()> {
-    write_answer(rt, answer)?;
-    println!(rt; " {digest:016x}")
-}
-
-// What stands for a record that can't be read.
-pub fn write_broken(rt: &impl Print) -> io::Result<()> {
-    println!(rt; "broken")
 }

@@ -3,9 +3,9 @@
 // writes the scripts, and works out from the original what the lines have to be.
 #![tactic(auto)]
 
-mod calls;
 mod digest;
 mod lines;
+mod memory;
 mod records;
 mod script;
 

@@ -2,8 +2,9 @@
 // with, by rows, each as 16 hexadecimal digits on a line of its own, or `refused` and the number.
 #![tactic(auto)]
 
-ghost use Rattle.std.specs.Prelude.{◌≤◌};
+ghost use Rattle.std.specs.Prelude.{◌≤◌, IfSome};
 
+use arithmetic::Refusal;
 use arithmetic::bytes::bits_of;
 use models::limits::PAIRS;
 use models::suppliers::import;
@@ -15,50 +16,15 @@ use std::rt::Env;
 // a point and what ends them.
 const MOST_BYTES: usize = 65536;
 
-// From 1 to 12, or 0 for any other word, which the import refuses with 2.
-fn count_of(word: &[u8]) -> usize
-    ensures { result ≤ 12 }
+// From 1 to 12, or none for any other word.
+fn count_of(word: &[u8]) -> Option<usize>
+    ensures { IfSome result (λ n. n ≤ 12) }
 {
-    if word.len() == 1 {
-        if word[0] < b'1' {
-            return 0;
-        }
-        if b'9' < word[0] {
-            return 0;
-        }
-        return (word[0] - b'0') as usize;
+    match word {
+        [digit @ b'1'..=b'9'] => Some(usize::from(*digit - b'0')),
+        [b'1', digit @ b'0'..=b'2'] => Some(usize::from(*digit - b'0') + 10),
+        _ => None,
     }
-    if word.len() != 2 {
-        return 0;
-    }
-    if word[0] != b'1' {
-        return 0;
-    }
-    if word[1] < b'0' {
-        return 0;
-    }
-    if b'2' < word[1] {
-        return 0;
-    }
-    (word[1] - b'0' + 10) as usize
-}
-
-// The number that the list is refused with, 0 for none. 2 stands first, before a text that is too long.
-fn number_of(text: &[u8], n: usize, entries: &mut [f64]) -> u8 {
-    if n == 0 {
-        return import(text, n, entries);
-    }
-    if MOST_BYTES < text.len() {
-        return 12;
-    }
-    import(text, n, entries)
-}
-
-fn show(rt: &impl Print, entries: &[f64]) -> io::Result<()> {
-    for k in 0..entries.len() {
-        println!(rt; "{:016x}", bits_of(entries[k]))?;
-    }
-    Ok(())
 }
 
 fn square(n: usize) -> usize
@@ -68,23 +34,38 @@ fn square(n: usize) -> usize
     n * n
 }
 
-// Imports the list into the entries lent, and writes what comes of it.
-fn answer(rt: &impl Print, text: &[u8], n: usize, entries: &mut [f64]) -> io::Result<()> {
-    let number = number_of(text, n, entries);
-    if number == 0 {
-        return show(rt, entries);
+// The list's entries, which are read into those lent. 2 for the word stands first, before a text that is too
+// long.
+fn imported<'a>(
+    word: &[u8],
+    text: &[u8],
+    entries: &'a mut [f64; PAIRS],
+) -> Result<&'a [f64], Refusal> {
+    let n = count_of(word).ok_or(Refusal::Shape)?;
+    if MOST_BYTES < text.len() {
+        return Err(Refusal::Form);
     }
-    println!(rt; "refused {number}")
+    let entries = &mut entries[..square(n)];
+    import(text, n, entries)?;
+    Ok(entries)
+}
+
+fn show(rt: &impl Print, entries: &[f64]) -> io::Result<()> {
+    for entry in entries {
+        println!(rt; "{:016x}", bits_of(*entry))?;
+    }
+    Ok(())
 }
 
 fn main(rt: HostRuntime) -> io::Result<()> {
     // where there is no word, or a longer one, it is empty
     let mut word = [0u8; 3];
     let length = rt.arg(1, &mut word).unwrap_or(0);
-    let n = count_of(&word[..length]);
-    let count = square(n);
     let mut text = [0u8; MOST_BYTES + 1];
     let read = read_full(&mut rt.stdin(), &mut text)?;
     let mut entries = [0.0; PAIRS];
-    answer(&rt, &text[..read], n, &mut entries[..count])
+    match imported(&word[..length], &text[..read], &mut entries) {
+        Ok(entries) => show(&rt, entries),
+        Err(refusal) => println!(rt; "{refusal}"),
+    }
 }

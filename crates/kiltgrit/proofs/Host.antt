@@ -7,8 +7,7 @@ use lib.Dec.{eqb}
 use Rattle.arithmetic.proofs.Tests.{either}
 use Rattle.models.specs.declared.answers.Quantity.{Quantity}
 use Rattle.mixture.specs.declared.head.Head.{Head}
-use Rattle.mixture.specs.declared.answers.Answer.TheVariants.{Done}
-use Rattle.mixture.specs.Answers.{number_of, value_of}
+use Rattle.mixture.specs.Answers.{Done, number_of, value_of}
 use Rattle.mixture.specs.Memory.{Memory, After, after}
 use Rattle.mixture.specs.Layout.{data_in}
 use Rattle.mixture.specs.Calls.{outcome, no_head, loaded_head, loaded_memory, set_memory, set_head, with_fractions, answered as answered_by, after_open, after_load, after_setting, after_fractions, after_query}
@@ -25,8 +24,8 @@ use Rattle.kiltgrit.proofs.Laws.{head_crosses}
 -- what the host has is what the mixture's call leaves
 record Follows (s : Host) (a : After) : Type 0 where
   memory : s.memory ≡ a.memory
-  head : head_of s.head ≡ a.reply.head
-  told : s.told ≡ answer_of a.reply.answer
+  head : head_of s.head ≡ a.head
+  told : s.told ≡ answer_of a.answer
 
 -- a call that gives the head back: refused, the one that came; done, the one that it leaves
 follows-outcome : (m n : Memory) (c : CHead) (f : ℕ) (h : Head)
@@ -39,7 +38,7 @@ follows-outcome m n c f h =
     ]
 
 -- a query leaves the head
-pub query_keeps : (m : Memory) (h : Head) (q : Quantity) → h ≡ (after_query m h q).reply.head
+pub query_keeps : (m : Memory) (h : Head) (q : Quantity) → h ≡ (after_query m h q).head
 unfolding after_query answered_by
 query_keeps m h q =
     elim (either (eqb (query_fault m h q) 0)) [
@@ -64,7 +63,7 @@ told-all [] m c p q = refl
 told-all (k ∷ ks) m c {n} {h} p q =
     let s = follows m c k in
     rw (← p, ← q, s.told)
-    (ap (λ (z : List CAnswer). answer_of (after_call m (head_of c) (call_of k)).reply.answer ∷ z)
+    (ap (λ (z : List CAnswer). answer_of (after_call m (head_of c) (call_of k)).answer ∷ z)
     (told-all ks _ _ s.memory s.head))
 
 pub host_history : HostHistory

@@ -1,6 +1,6 @@
 -- Demand 3 for a host in C: from an opening on, no order of calls, of any arguments, can make a mixture answer wrongly.
 use Rattle.std.specs.Prelude.{◌≡◌, false, List, [], ◌∷◌, map, ℕ, Float}
-use Rattle.mixture.specs.declared.answers.Answer.TheVariants.{Done}
+use Rattle.mixture.specs.Answers.{Done}
 use Rattle.mixture.specs.Memory.{Memory, is_short}
 use Rattle.mixture.specs.Calls.{after_open, after_load, after_setting, after_fractions, after_query}
 use Rattle.mixture.specs.Book as Book

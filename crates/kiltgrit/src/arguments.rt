@@ -1,13 +1,16 @@
 // What is asked, set and loaded, by C's numbers. A number that means nothing becomes an index or an n that no
 // model has, so that the call declines it in that argument's own place.
+#![tactic(auto, unfolding(crate::specs::Arguments::known_n, crate::specs::Arguments::quantity_asked, crate::specs::Arguments::setting_of))]
+
 ghost use Rattle.std.specs.Prelude.{◌≡◌};
-ghost use Rattle.kiltgrit.specs.Arguments.{known_n, is_kind, setting_of, quantity_asked};
+ghost use Rattle.models.specs.Model.{given as data_given};
+ghost use Rattle.kiltgrit.specs.Arguments.{known_n, load_of, is_kind, setting_of, quantity_asked};
 
 use arithmetic::TdParam;
 use mixture::Setting;
-use models::Quantity;
 use models::answers::quantity_of;
-use models::model::is_model;
+use models::model::model_numbered;
+use models::{Data, Model, Quantity};
 
 // An index that no model has.
 const NO_INDEX: usize = 18446744073709551615;
@@ -36,13 +39,35 @@ pub fn quantity_asked(asked: u32, i: usize) -> Quantity
 pub fn known_n(model: u32, form: u32, n: usize) -> usize
     ensures { result ≡ known_n model form n }
 {
-    if !is_model(model as usize) {
+    if Model::try_from(model as usize).is_err() {
         return 0;
     }
     if form != 0 {
         return 0;
     }
     n
+}
+
+// What a load or a plain call is given.
+pub fn data_of<'a>(
+    model: u32,
+    form: u32,
+    n: usize,
+    ng: usize,
+    lens: &'a [u8],
+    groups: &'a [u8],
+    values: &'a [f64],
+) -> Data<'a>
+    ensures { data_given result ≡ load_of model form n ng lens.now groups.now values.now }
+{
+    Data {
+        model: model_numbered(model as usize),
+        n: known_n(model, form, n),
+        ng,
+        lens,
+        groups,
+        values,
+    }
 }
 
 // Whether a kind is a setting's.

@@ -1,11 +1,13 @@
 // The head, the reply, the answer and what the panel shows as C has them.
-ghost use Rattle.std.specs.Prelude.{◌≡◌, cond};
-ghost use Rattle.mixture.specs.Answers.{number_of};
-ghost use Rattle.kiltgrit.specs.Border.{head_of, c_head, count_of, reply_of, answer_of, value_or};
-ghost use Rattle.kiltgrit.specs.Border.{c_shown};
+#![tactic(auto, unfolding(crate::specs::Border::head_of, crate::specs::Border::value_or, crate::specs::Border::answer_of, crate::specs::Border::count_of, crate::specs::Border::c_shown, arithmetic::specs::Refusals::answer_of, arithmetic::specs::Refusals::number_of, mixture::specs::Answers::answer_of, mixture::specs::Answers::outcome_of, mixture::specs::Answers::number_of, mixture::specs::Answers::value_of))]
 
-use arithmetic::millionths::Shown;
-use mixture::answers::value_of;
+ghost use Rattle.std.specs.Prelude.{◌≡◌};
+ghost use Rattle.arithmetic.specs.Refusals.{number, number_of as number_in_words, answer_of as plain_in_words};
+ghost use Rattle.mixture.specs.Answers.{answer_of as in_words};
+ghost use Rattle.kiltgrit.specs.Border.{head_of, c_head, reply_of, answer_of, value_or, c_shown};
+
+use arithmetic::Refusal;
+use mixture::answers::Outcome;
 use mixture::{Answer, Head, Reply};
 use models::limits::{COMPONENTS, PLACES};
 
@@ -72,147 +74,151 @@ pub struct CShown {
     pub unused: u32,
 }
 
-pub fn head_of(c: CHead) -> Head
-    ensures { result ≡ head_of c }
-{
-    let lens = c.lens;
-    let groups = c.groups;
-    let x = c.x;
-    Head {
-        model: c.model,
-        n: c.n,
-        ng: c.ng,
-        lens: lens,
-        groups: groups,
-        t: c.t,
-        x: x,
-        has_t: c.has_t == 1,
-        has_x: c.has_x == 1,
-        tolerance: c.tolerance,
+impl From<CHead> for Head {
+    ghost from_gives = { λ c h. h ≡ head_of c };
+
+    fn from(c: CHead) -> Head {
+        let (lens, groups, x) = (c.lens, c.groups, c.x);
+        Head {
+            model: c.model,
+            n: c.n,
+            ng: c.ng,
+            lens,
+            groups,
+            t: c.t,
+            x,
+            has_t: c.has_t == 1,
+            has_x: c.has_x == 1,
+            tolerance: c.tolerance,
+        }
     }
 }
 
-fn flag(b: bool) -> u8
-    ensures { result ≡ cond b 1 0 }
-{
-    if b { 1 } else { 0 }
-}
+impl From<Head> for CHead {
+    ghost from_gives = { λ h c. c ≡ c_head h };
 
-fn c_head(h: Head) -> CHead
-    ensures { result ≡ c_head h }
-{
-    let lens = h.lens;
-    let groups = h.groups;
-    let x = h.x;
-    CHead {
-        model: h.model,
-        form: 0,
-        unused: [0u8; 6],
-        n: h.n,
-        ng: h.ng,
-        lens: lens,
-        groups: groups,
-        changes: 0,
-        t: h.t,
-        x: x,
-        has_t: flag(h.has_t),
-        has_x: flag(h.has_x),
-        also_unused: [0u8; 6],
-        tolerance: h.tolerance,
+    fn from(h: Head) -> CHead {
+        let (lens, groups, x) = (h.lens, h.groups, h.x);
+        CHead {
+            model: h.model,
+            form: 0,
+            unused: [0; 6],
+            n: h.n,
+            ng: h.ng,
+            lens,
+            groups,
+            changes: 0,
+            t: h.t,
+            x,
+            has_t: u8::from(h.has_t),
+            has_x: u8::from(h.has_x),
+            also_unused: [0; 6],
+            tolerance: h.tolerance,
+        }
     }
 }
 
-// The cells that a query worked out, else 0.
-fn count_of(a: Answer) -> usize
-    ensures { result ≡ count_of a }
+// Document 01's and 02's number of a refusal.
+pub fn c_refusal(refusal: Refusal) -> u32
+    ensures { result ≡ number refusal }
+{
+    u32::from(u8::from(refusal))
+}
+
+// The number of what a call is refused for, 0 for nothing.
+pub fn c_number(a: Result<(), Refusal>) -> u32
+    ensures { result ≡ number_in_words a }
 {
     match a {
-        Answer::Refused(_) => 0,
-        Answer::Done => 0,
-        Answer::Value(_, k) => k,
+        Ok(()) => 0,
+        Err(refusal) => c_refusal(refusal),
     }
 }
 
-// The number of a refusal, else 0.
-fn number_of(a: Answer) -> u32
-    ensures { result ≡ number_of a }
-{
-    match a {
-        Answer::Refused(k) => k as u32,
-        Answer::Done => 0,
-        Answer::Value(_, _) => 0,
+impl From<Answer> for CAnswer {
+    ghost from_gives = { λ a c. c ≡ answer_of (in_words a) };
+
+    fn from(a: Answer) -> CAnswer {
+        match a {
+            Ok(Outcome::Done) => CAnswer {
+                value: 0.0,
+                cells_worked: 0,
+                renewed: 0,
+                refused: 0,
+                unused: 0,
+            },
+            Ok(Outcome::Value(value, count)) => CAnswer {
+                value,
+                cells_worked: count,
+                renewed: 0,
+                refused: 0,
+                unused: 0,
+            },
+            Err(refusal) => CAnswer {
+                value: 0.0,
+                cells_worked: 0,
+                renewed: 0,
+                refused: c_refusal(refusal),
+                unused: 0,
+            },
+        }
     }
 }
 
 // A refusal gives the head back as it came.
 pub fn reply_of(came: CHead, p: Reply) -> CReply
-    ensures { result ≡ reply_of came p }
+    ensures { result ≡ reply_of came p.head (in_words p.answer) }
 {
-    let a = p.answer;
-    let number = number_of(a);
-    if number != 0 {
-        return CReply {
-            head: came,
-            value: 0.0,
-            cells_worked: 0,
-            renewed: 0,
-            refused: number,
-            unused: 0,
-        };
-    }
-    let h = p.head;
+    let told = CAnswer::from(p.answer);
+    let head = if told.refused != 0 {
+        came
+    } else {
+        CHead::from(p.head)
+    };
     CReply {
-        head: c_head(h),
-        value: value_of(a),
-        cells_worked: count_of(a),
+        head,
+        value: told.value,
+        cells_worked: told.cells_worked,
         renewed: 0,
-        refused: 0,
+        refused: told.refused,
         unused: 0,
     }
 }
 
-pub fn answer_of(a: Answer) -> CAnswer
-    ensures { result ≡ answer_of a }
-{
-    CAnswer {
-        value: value_of(a),
-        cells_worked: count_of(a),
-        renewed: 0,
-        refused: number_of(a),
-        unused: 0,
+impl From<models::Answer> for CValue {
+    ghost from_gives = { λ a c. c ≡ value_or (plain_in_words a) };
+
+    fn from(a: models::Answer) -> CValue {
+        match a {
+            Ok(v) => CValue {
+                value: v,
+                refused: 0,
+                unused: 0,
+            },
+            Err(fault) => CValue {
+                value: 0.0,
+                refused: c_refusal(fault),
+                unused: 0,
+            },
+        }
     }
 }
 
-pub fn value_or(a: models::Answer) -> CValue
-    ensures { result ≡ value_or a }
-{
-    match a {
-        models::Answer::Value(v) => CValue {
-            value: v,
-            refused: 0,
-            unused: 0,
-        },
-        models::Answer::Refused(k) => CValue {
-            value: 0.0,
-            refused: k as u32,
-            unused: 0,
-        },
-    }
-}
+impl From<Result<i64, Refusal>> for CShown {
+    ghost from_gives = { λ a c. c ≡ c_shown (plain_in_words a) };
 
-pub fn c_shown(a: Shown) -> CShown
-    ensures { result ≡ c_shown a }
-{
-    match a {
-        Shown::Millionths(n) => CShown {
-            millionths: n,
-            refused: 0,
-            unused: 0,
-        },
-        Shown::Refused(number) => CShown {
-            millionths: 0,
-            refused: number as u32,
-            unused: 0,
-        },
+    fn from(a: Result<i64, Refusal>) -> CShown {
+        match a {
+            Ok(n) => CShown {
+                millionths: n,
+                refused: 0,
+                unused: 0,
+            },
+            Err(unshown) => CShown {
+                millionths: 0,
+                refused: c_refusal(unshown),
+                unused: 0,
+            },
+        }
     }
 }

@@ -1,18 +1,19 @@
 // The plain calls by bytes, for the test host: numbers and byte slices, an f64 as eight bytes, lowest
 // first. Each answers document 01's number, 0 for none; the value goes to `value`, which a refused
 // call leaves as it was.
-ghost use Rattle.std.specs.Prelude.{◌≡◌, cond, ◌*◌, ◌%◌, eqb, length};
+ghost use Rattle.std.specs.Prelude.{◌≡◌, cond, ◌*◌, ◌%◌, eqb, length, OnOk};
 ghost use Rattle.arithmetic.specs.Bytes.{floats};
+ghost use Rattle.arithmetic.specs.Refusals.{number_of, answer_of};
 ghost use Rattle.arithmetic.specs.Sums.{total};
 ghost use Rattle.models.specs.Answers.{first};
 ghost use Rattle.models.specs.Faults.{index_fault, fractions_fault};
-ghost use Rattle.models.specs.Model.{given};
+ghost use Rattle.models.specs.Model.{given as data_given};
 ghost use Rattle.kiltgrit.specs.Exports.{plain_rest, exported_by, Gives};
 
-use arithmetic::bytes;
+use crate::border::c_refusal;
+use arithmetic::{Refusal, bytes};
 use models::limits::{COMPONENTS, VALUES};
-use models::model::{is_model, model_numbered, value_at};
-use models::{Answer, Model, Quantity, faults};
+use models::{Answer, Data, Model, Quantity, faults};
 
 // The sum of the floats in bytes.
 fn sum_floats(x: &[u8]) -> f64
@@ -26,62 +27,35 @@ fn sum_floats(x: &[u8]) -> f64
 }
 
 // 14 of the tolerance; then 5, 6 and 7 of fractions in bytes.
-fn fractions_fault(tolerance: f64, n: usize, x: &[u8], q: Quantity) -> u8
-    ensures { (result ≡ first (fractions_fault tolerance n (floats x.now) q)
-        (cond (eqb (length x.now % 8) 0) 0 7))
-        × (result ≡ 0 → (length x.now ≡ 8 * n) × (index_fault n q ≡ 0)) }
+fn fractions_fault(tolerance: f64, n: usize, x: &[u8], q: Quantity) -> Result<(), Refusal>
+    ensures refused { number_of result ≡ first (fractions_fault tolerance n (floats x.now) q)
+        (cond (eqb (length x.now % 8) 0) 0 7) }
+    ensures passed { OnOk result ((length x.now ≡ 8 * n) × (index_fault n q ≡ 0)) }
 {
-    let fault = faults::tolerance_fault(tolerance);
-    if fault != 0 {
-        return fault;
-    }
+    faults::tolerance_fault(tolerance)?;
     if x.len() < 8 {
-        return 5;
+        return Err(Refusal::Empty);
     }
-    let fault = faults::sum_fault(tolerance, sum_floats(x));
-    if fault != 0 {
-        return fault;
-    }
+    faults::sum_fault(tolerance, sum_floats(x))?;
     if x.len() / 8 != n {
-        return 7;
+        return Err(Refusal::Index);
     }
-    let fault = faults::index_fault(n, q);
-    if fault != 0 {
-        return fault;
-    }
+    faults::index_fault(n, q)?;
     if x.len() % 8 != 0 {
-        return 7;
+        return Err(Refusal::Index);
     }
-    0
+    Ok(())
 }
 
 // The plain call with the fractions in bytes.
-fn call_with(
-    model: Model,
-    n: usize,
-    ng: usize,
-    lens: &[u8],
-    groups: &[u8],
-    values: &[f64],
-    t: f64,
-    tolerance: f64,
-    x: &[u8],
-    q: Quantity,
-) -> Answer
-    ensures { result
-        ≡ plain_rest (given model n ng lens groups values) t tolerance x.now q }
+fn call_with(given: Data, t: f64, tolerance: f64, x: &[u8], q: Quantity) -> Answer
+    ensures { answer_of result ≡ plain_rest (data_given given.entry) t tolerance x.now q }
 {
-    let fault = faults::data_fault(model, n, ng, lens, groups, values);
-    if fault != 0 {
-        return Answer::Refused(fault);
-    }
-    let fault = fractions_fault(tolerance, n, x, q);
-    if fault != 0 {
-        return Answer::Refused(fault);
-    }
+    given.fault()?;
+    fractions_fault(tolerance, given.n, x, q)?;
     let mut f = [0.0; COMPONENTS];
-    bytes::fill_floats(n, x, 0, &mut f[..]);
-    Answer::Value(value_at(model, n, ng, lens, groups, values, t, &f[..n], q))
+    bytes::fill_floats(given.n, x, 0, &mut f);
+    Ok(given.value_at(t, &f[..given.n], q))
 }
 
 // The same of a model by its number, with the values in bytes.
@@ -97,34 +71,41 @@ fn call(
     x: &[u8],
     q: Quantity,
 ) -> Answer
-    ensures { result ≡ exported_by model n ng lens groups values t tolerance x q }
+    ensures { answer_of result ≡ exported_by model n ng lens groups values t tolerance x q }
 {
     if values.len() % 8 != 0 {
-        return Answer::Refused(2);
+        return Err(Refusal::Shape);
     }
-    if !is_model(model as usize) {
-        return Answer::Refused(2);
-    }
+    let Ok(model) = Model::try_from(model as usize) else {
+        return Err(Refusal::Shape);
+    };
     let count = values.len() / 8;
     if VALUES < count {
-        return Answer::Refused(2);
+        return Err(Refusal::Shape);
     }
     let mut v = [0.0; VALUES];
-    bytes::fill_floats(count, values, 0, &mut v[..]);
-    let model = model_numbered(model as usize);
-    call_with(model, n, ng, lens, groups, &v[..count], t, tolerance, x, q)
+    bytes::fill_floats(count, values, 0, &mut v);
+    let given = Data {
+        model,
+        n,
+        ng,
+        lens,
+        groups,
+        values: &v[..count],
+    };
+    call_with(given, t, tolerance, x, q)
 }
 
 // The answer's number; its value goes to `value`.
 fn give(a: Answer, value: &mut f64) -> u32
-    ensures { Gives a value result }
+    ensures { Gives (answer_of a) value result }
 {
     match a {
-        Answer::Value(v) => {
+        Ok(v) => {
             *value = v;
             0
         }
-        Answer::Refused(k) => k as u32,
+        Err(refusal) => c_refusal(refusal),
     }
 }
 

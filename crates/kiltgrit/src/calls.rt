@@ -7,14 +7,14 @@ ghost use Rattle.mixture.specs.Calls.{after_open, after_load, after_setting, aft
 ghost use Rattle.kiltgrit.specs.Border.{head_of, left, replied, answered, value_or};
 ghost use Rattle.kiltgrit.specs.Arguments.{load_of, setting_of, quantity_asked};
 
-use crate::arguments::{CSetting, known_n, quantity_asked, setting_of};
-use crate::border::{CAnswer, CHead, CReply, CValue, answer_of, head_of, reply_of, value_or};
+use crate::arguments::{CSetting, data_of, quantity_asked, setting_of};
+use crate::border::{CAnswer, CHead, CReply, CValue, reply_of};
+use mixture::Head;
 use mixture::fractions::fractions;
 use mixture::load::load;
 use mixture::open::open;
 use mixture::query::query;
 use mixture::set::set;
-use models::model::{model_numbered, plain};
 
 // A query leaves the head, so it gives the answer alone.
 #[unsafe(no_mangle)]
@@ -31,9 +31,8 @@ pub extern "C" fn kiltgrit_mixture_query(
         (quantity_asked asked i)) }
 {
     let q = quantity_asked(asked, i);
-    let reply = query(values, cells, marks, head_of(head), q);
-    let answer = reply.answer;
-    answer_of(answer)
+    let reply = query(values, cells, marks, Head::from(head), q);
+    CAnswer::from(reply.answer)
 }
 
 #[unsafe(no_mangle)]
@@ -46,7 +45,7 @@ pub extern "C" fn kiltgrit_mixture_open(
     ensures { left (memory values.now cells.now marks.now) result
         ≡ replied head (after_open (memory values.now cells.now marks.now) (head_of head)) }
 {
-    reply_of(head, open(values, cells, marks, head_of(head)))
+    reply_of(head, open(values, cells, marks, Head::from(head)))
 }
 
 #[unsafe(no_mangle)]
@@ -60,7 +59,7 @@ pub extern "C" fn kiltgrit_mixture_fractions(
     ensures { left (memory values.now cells.now marks.now) result
         ≡ replied head (after_fractions (memory values.now cells.now marks.now) (head_of head) x.now) }
 {
-    reply_of(head, fractions(values, cells, marks, head_of(head), x))
+    reply_of(head, fractions(values, cells, marks, Head::from(head), x))
 }
 
 #[unsafe(no_mangle)]
@@ -76,7 +75,7 @@ pub extern "C" fn kiltgrit_mixture_set(
 {
     reply_of(
         head,
-        set(values, cells, marks, head_of(head), setting_of(s)),
+        set(values, cells, marks, Head::from(head), setting_of(s)),
     )
 }
 
@@ -99,21 +98,8 @@ pub extern "C" fn kiltgrit_mixture_load(
         ≡ replied head (after_load (memory values.old cells.now marks.old) (head_of head)
         (load_of model form n ng lens.now groups.now given.now)) }
 {
-    reply_of(
-        head,
-        load(
-            values,
-            cells,
-            marks,
-            head_of(head),
-            model_numbered(model as usize),
-            known_n(model, form, n),
-            ng,
-            lens,
-            groups,
-            given,
-        ),
-    )
+    let given = data_of(model, form, n, ng, lens, groups, given);
+    reply_of(head, load(values, cells, marks, Head::from(head), given))
 }
 
 // The plain call: everything at once, and nothing is kept.
@@ -136,16 +122,6 @@ pub extern "C" fn kiltgrit_plain(
         (load_of model form n ng lens.now groups.now values.now)
         t tolerance x.now (quantity_asked asked i)) }
 {
-    value_or(plain(
-        model_numbered(model as usize),
-        known_n(model, form, n),
-        ng,
-        lens,
-        groups,
-        values,
-        t,
-        tolerance,
-        x,
-        quantity_asked(asked, i),
-    ))
+    let given = data_of(model, form, n, ng, lens, groups, values);
+    CValue::from(given.plain(t, tolerance, x, quantity_asked(asked, i)))
 }

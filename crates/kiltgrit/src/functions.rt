@@ -6,7 +6,7 @@ ghost use Rattle.arithmetic.specs.Millionths.{millionths_of};
 ghost use Rattle.models.specs.Faults.{check_fault};
 ghost use Rattle.kiltgrit.specs.Border.{c_shown};
 
-use crate::border::{CShown, c_shown};
+use crate::border::{CShown, c_number};
 use arithmetic::millionths::millionths;
 use models::faults::check_composition;
 
@@ -28,7 +28,7 @@ pub extern "C" fn kiltgrit_log(v: f64) -> f64
 pub extern "C" fn kiltgrit_millionths(v: f64) -> CShown
     ensures { result ≡ c_shown (millionths_of v) }
 {
-    c_shown(millionths(v))
+    CShown::from(millionths(v))
 }
 
 // 14 of the tolerance; then 5 and 6 of the composition.
@@ -36,5 +36,5 @@ pub extern "C" fn kiltgrit_millionths(v: f64) -> CShown
 pub extern "C" fn kiltgrit_check_composition(tolerance: f64, x: &[f64]) -> u32
     ensures { result ≡ check_fault tolerance x.now }
 {
-    check_composition(tolerance, x) as u32
+    c_number(check_composition(tolerance, x))
 }

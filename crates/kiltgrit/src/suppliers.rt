@@ -2,6 +2,7 @@
 ghost use Rattle.std.specs.Prelude.{◌≡◌};
 ghost use Rattle.models.specs.Suppliers.{import_fault, imported};
 
+use crate::border::c_number;
 use models::suppliers::import;
 
 #[unsafe(no_mangle)]
@@ -9,5 +10,5 @@ pub extern "C" fn kiltgrit_import(text: &[u8], n: usize, entries: &mut [f64]) ->
     ensures { (result ≡ import_fault n entries.old text.now)
         × (entries.new ≡ imported n entries.old text.now) }
 {
-    import(text, n, entries) as u32
+    c_number(import(text, n, entries))
 }

@@ -30,7 +30,7 @@ rows-lt w c some =
       | inr h ↦ lt-ltb c (w * w) (omega (arith, div-add-mod' c w, cell-lt w w (c / w) (c % w) h (mod-lt c some))) ∙ sym (lt-ltb (c / w) w h)
     ]
 
-cell-is : (d : Held) (i j : ℕ) → is_cell d i j ≡ (has_groups d.model || not (eqb i j))
+pub cell-is : (d : Held) (i j : ℕ) → is_cell d i j ≡ (has_groups d.model || not (eqb i j))
 unfolding is_cell
 cell-is d i j = go d.model refl
   where

@@ -8,14 +8,18 @@ use lib.Dec.{leb, ltb, eqb}
 use lib.ListN.{length, get_or, drop, replicate, length-replicate}
 use lib.Ieee.{Float}
 use borrow.Author.Tests.{le-leb, eqb-true, lt-ltb, eq-eqb, ne_eqb}
+use Rattle.std.specs.Prelude.{Result, Ok, Err}
+use Rattle.std.specs.Result.{IsErrAnd}
 use Rattle.arithmetic.specs.Floats.{+0}
+use Rattle.arithmetic.specs.declared.refusal.Refusal.{Refusal}
+use Rattle.arithmetic.specs.Refusals.{number}
 use Rattle.models.specs.Faults.{composition_fault, between, all_to, data_fault, mix_fault}
 use Rattle.models.specs.Values.{start}
-use Rattle.models.proofs.AnswerLaws.{first-left, first-right}
 use Rattle.mixture.specs.declared.head.Head.{Head}
 use Rattle.models.specs.declared.model.Model.{Model}
 use Rattle.models.specs.declared.model.Model.TheVariants.{Wilson, Uniquac, Nrtl, Unifac}
-use Rattle.mixture.specs.declared.answers.Answer.TheVariants.{Refused, Done}
+use Rattle.mixture.specs.declared.answers.Outcome.{Outcome}
+use Rattle.mixture.specs.Answers.{answer_of, Refused, Done}
 use Rattle.mixture.specs.Lists.{written}
 use Rattle.mixture.specs.Holdings.{held}
 use Rattle.mixture.specs.Cells.{width}
@@ -34,6 +38,14 @@ module _ (m : Memory) (h : Head) where
 
   pub done : {f : ℕ} {a b : After} → f ≡ 0 → b ≡ a → b ≡ outcome f m h a
   done {f} e s = rw (eq-eqb f 0 e) s
+
+-- ---- refusals handed on
+
+-- a call's answer too
+pub answer-handed : (a : Result Outcome Refusal) (e : Refusal) → IsErrAnd a (λ x. x ≡ e) → answer_of a ≡ Refused (number e)
+unfolding answer_of
+answer-handed (Ok o) e h = absurd h
+answer-handed (Err x) e h = rw h refl
 
 -- ---- how a head is judged
 
@@ -67,10 +79,6 @@ module _ (d : ModelData) where
   range-lists e h s = s ∙ rw (e, h)
 
 module _ (m : Memory) (h : Head) where
-  pub judged_short : {k : ℕ} → k ≡ memory_fault m → (k ≡ 0 → ⊥) → k ≡ head_fault m h
-  unfolding head_fault
-  judged_short e n = first-left _ e n
-
   module _ (long : memory_fault m ≡ 0) where
     pub judged_none : h.model ≡ 0 → 8 ≡ head_fault m h
     unfolding head_fault
@@ -83,10 +91,6 @@ module _ (m : Memory) (h : Head) where
     pub judged_by : {b : Bool} → (h.model ≡ 0 → ⊥) → is_model h.model ≡ true → b ≡ in_range (data_in m h) → cond b 0 1 ≡ head_fault m h
     unfolding head_fault
     judged_by n l e = rw (eq-eqb _ _ long, ne_eqb _ _ n, l, e)
-
-  pub ready_head : {k : ℕ} → k ≡ head_fault m h → (k ≡ 0 → ⊥) → k ≡ ready_fault m h
-  unfolding ready_fault
-  ready_head e n = first-left _ e n
 
   module _ {k : ℕ} (e : k ≡ head_fault m h) (z : k ≡ 0) where
     pub ready_no_t : h.has_t ≡ false → 9 ≡ ready_fault m h
@@ -189,17 +193,13 @@ load_fits m d e f =
       lists = λ u. let l = s.lists u in (omega (arith, l.lens, s.few), omega (arith, l.places, start-bound d.lens d.n l.short, s.few));
     }
 
+pub load_passed : (m : Memory) (d : ModelData) → load_fault m d ≡ 0 → Fits m d
+unfolding load_fault
+load_passed m d e = let f = first-is (memory_fault m) _ e in load_fits m d f.0 f.1
+
 module _ (m : Memory) (h : Head) (d : ModelData) where
-  pub load_short : {k : ℕ} → k ≡ memory_fault m → (k ≡ 0 → ⊥) → after m h (Refused k) ≡ after_load m h d
-  unfolding after_load load_fault
-  load_short e n = refused m h _ (first-left _ e n) n
-
-  pub load_refused : {k : ℕ} → memory_fault m ≡ 0 → k ≡ data_fault d → (k ≡ 0 → ⊥) → after m h (Refused k) ≡ after_load m h d
-  unfolding after_load load_fault
-  load_refused e f n = refused m h _ (first-right refl e f) n
-
-  pub load_done : {v : List Float} {k : List ℕ} {g : Head} → memory_fault m ≡ 0 → data_fault d ≡ 0
+  pub load_done : {v : List Float} {k : List ℕ} {g : Head} → load_fault m d ≡ 0
       → v ≡ d.values ++ drop (length d.values) m.values → k ≡ written (cell_at (held d)) (λ c. 0) m.marks → g ≡ loaded_head d
       → after (memory v m.cells k) g Done ≡ after_load m h d
-  unfolding after_load load_fault loaded_memory
-  load_done e f v k g = rw (eq-eqb (memory_fault m) 0 e, eq-eqb (data_fault d) 0 f, v, k, g)
+  unfolding after_load loaded_memory
+  load_done e v k g = rw (eq-eqb (load_fault m d) 0 e, v, k, g)

@@ -12,14 +12,11 @@ use lib.Ieee.{Float}
 use borrow.Author.Tests.{le-ltb, eqb-true}
 use Rattle.arithmetic.proofs.Tests.{either}
 use Rattle.models.specs.declared.answers.Quantity.{Quantity}
-use Rattle.models.specs.declared.answers.Answer.{Answer as PlainAnswer}
-use Rattle.models.specs.declared.answers.Answer.TheVariants.{Refused as Declined, Value as Plainly}
+use Rattle.arithmetic.specs.Refusals.{Answer as PlainAnswer, Refused as Declined, Value as Plainly}
 use Rattle.models.specs.Answers.{values_of as plain_values}
 use Rattle.models.specs.Faults.{index_fault}
 use Rattle.mixture.specs.declared.head.Head.{Head}
-use Rattle.mixture.specs.declared.answers.Answer.{Answer}
-use Rattle.mixture.specs.declared.answers.Answer.TheVariants.{Refused, Done, Value}
-use Rattle.mixture.specs.Answers.{values_of}
+use Rattle.mixture.specs.Answers.{Answer, Refused, Done, Value, values_of}
 use Rattle.mixture.specs.Holdings.{Held}
 use Rattle.mixture.specs.Memory.{Memory, is_short, short, least_values, least_cells, least_marks}
 use Rattle.mixture.specs.Book.{Mix, Call, Open, Query, Book, book, empty, plain, having, touched_cells, since, query_answer, book_answer, book_answers, book_of, past_of}
@@ -42,7 +39,7 @@ last-is z (b ∷ l) a = last-is b l a
 answers-more : (cs : List Call) (m : Memory) (h : Head) (c : Call) → answers m h (cs ++ c ∷ []) ≡ answers m h cs ++ answer_after m h cs c ∷ []
 unfolding answers left_by
 answers-more [] m h c = refl
-answers-more (a ∷ cs) m h c = ap (λ (l : List Answer). (after_call m h a).reply.answer ∷ l) (answers-more cs _ _ c)
+answers-more (a ∷ cs) m h c = ap (λ (l : List Answer). (after_call m h a).answer ∷ l) (answers-more cs _ _ c)
 
 -- ---- the answer to one call more is the book's
 
@@ -77,7 +74,7 @@ found b past q ne = go b.model b.T b.x b.tolerance ne
         ]
 
 -- a plain call with a value is answered with it
-plainly : (a : PlainAnswer) (v : Float) → v ∷ [] ≡ plain_values a → a ≡ Plainly v
+plainly : (a : PlainAnswer Float) (v : Float) → v ∷ [] ≡ plain_values a → a ≡ Plainly v
 unfolding plain_values
 plainly (Declined k) v e = cc
 plainly (Plainly u) v e = cc

@@ -1,10 +1,10 @@
 pub mod ListLaws
 pub mod PlaceLaws
 pub mod RowLaws
-pub mod CopyLaws
 pub mod CallLaws
 pub mod BlockLaws
 pub mod SetLaws
+pub mod InputLaws
 pub mod RefillLaws
 pub mod Writes
 pub mod PlainCall

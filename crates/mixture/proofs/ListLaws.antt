@@ -1,12 +1,16 @@
 -- Lists written at places, padded lists, and counts by rows or in one run.
 use mathlib.Core.Path.{◌≡◌, refl, sym, ap, ◌∙◌}
-use mathlib.Core.Bool.{Bool, true, false, ◌||◌, cond, or-true, or-false}
+use mathlib.Core.Bool.{Bool, true, false, ◌&&◌, ◌||◌, cond, or-true, or-false}
 use mathlib.Core.List.{List, [], ◌∷◌, ◌++◌}
 use Prim.Native.Nat.{ℕ, zero, suc, ◌+◌, ◌*◌, ◌<◌, ◌≤◌}
 use native.Mathlib.Nat.{add-zero, add-suc, suc-mul, zero-mul, add_assoc}
+use native.Mathlib.Numerals.{add-one}
 use native.Mathlib.Omega.{arith}
 use lib.Dec.{eqb, eqb-zero-suc, eqb-suc-zero, eqb-suc-suc}
-use lib.ListN.{length, get_or, set, replicate}
+use lib.ListN.{length, get_or, set, take, replicate}
+use Rattle.std.specs.List.{list_all}
+use Rattle.std.proofs.lemmas.List.Folds.{list_all_more}
+use Rattle.models.specs.Faults.{all_to}
 use Rattle.mixture.specs.Lists.{written, how_many, how_many_pairs}
 
 -- ---- cases
@@ -136,3 +140,12 @@ unfolding how_many_pairs
 how_many_pairs-same zero n p q h = refl
 how_many_pairs-same (suc m) n p q h =
     rw (how_many_pairs-same m n p q (λ i j b c. h i j (omega arith) c), how_many-same n (p m) (q m) (λ j c. h m j (omega arith) c))
+
+-- ---- all of the first places
+
+-- of a list's first items all pass
+pub all_to-list : {A : Type 0} (f : A → Bool) (z : A) (l : List A) (n : ℕ) → n ≤ length l → list_all f (take n l) ≡ all_to n (λ p. f (get_or l p z))
+unfolding all_to
+all_to-list f z l zero h = refl
+all_to-list f z l (suc n) h =
+    rw add-one at (list_all_more f l n z (omega arith)) ∙ ap (λ (b : Bool). b && f (get_or l n z)) (all_to-list f z l n (omega arith))

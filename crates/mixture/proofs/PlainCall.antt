@@ -17,7 +17,7 @@ use Rattle.arithmetic.specs.declared.parameters.TdParam.{TdParam}
 use Rattle.arithmetic.proofs.Tests.{either}
 use Rattle.arithmetic.proofs.TableLaws.{cell-lt, from_at}
 use Rattle.models.specs.declared.answers.Quantity.{Quantity}
-use Rattle.models.specs.declared.answers.Answer.TheVariants.{Value}
+use Rattle.arithmetic.specs.Refusals.{Value}
 use Rattle.models.specs.Answers.{answer, first, number_of as plain_number, values_of as plain_values}
 use Rattle.models.specs.Faults.{index_fault, shape_fault, fractions_fault, lists_fault, place_fault, groups_fault, unifac_fault, tolerance_fault, data_fault, mix_fault}
 use Rattle.models.specs.Plain.{value_at, plain_call}
@@ -28,9 +28,7 @@ use Rattle.models.specs.declared.model.Model.{Model}
 use Rattle.models.specs.declared.model.Model.TheVariants.{Wilson, Uniquac, Nrtl, Unifac}
 use Rattle.mixture.specs.declared.setting.Setting.{Setting}
 use Rattle.mixture.specs.declared.setting.Setting.TheVariants.{Temperature, Entry, TdEntry, Size, Count, Tolerance}
-use Rattle.mixture.specs.declared.answers.Answer.{Answer as MixtureAnswer}
-use Rattle.mixture.specs.declared.answers.Answer.TheVariants.{Done, Value as Answered}
-use Rattle.mixture.specs.Answers.{number_of, values_of, counts_of, unless}
+use Rattle.mixture.specs.Answers.{Answer as MixtureAnswer, Done, Value as Answered, number_of, values_of, counts_of, unless}
 use Rattle.mixture.specs.Lists.{row, rows}
 use Rattle.mixture.specs.Holdings.{Held, held, entries, td_entries, sizes}
 use Rattle.models.specs.Model.{ModelData, by_model, size_of}

@@ -4,7 +4,7 @@ use mathlib.Core.Bool.{Bool, true, false, ◌&&◌, ◌||◌, cond, and-false, o
 use mathlib.Core.List.{List, ◌++◌, append-nil}
 use mathlib.Core.Logic.{inl, inr}
 use Prim.Native.Nat.{ℕ, zero, suc, ◌+◌, ◌*◌, ◌-◌, ◌<◌, ◌≤◌}
-use native.Mathlib.Nat.{ne_of_lt, ne_of_gt, add-zero, le_antisymm, mul-le-mul, mul-le-mul_right}
+use native.Mathlib.Nat.{ne_of_lt, ne_of_gt, add-zero, le_antisymm, mul-le-mul}
 use native.Mathlib.Numerals.{add-one}
 use native.Mathlib.Omega.{arith}
 use borrow.Rule.Slice.PartMut.{put_mid}
@@ -13,21 +13,18 @@ use lib.Dec.{ltb, eqb}
 use lib.ListN.{length, get_or, set, take, drop, length-append, length-drop, drop_of_length-le, get_or-append}
 use lib.Seq.{get_or-take, get_or-drop, get_or-append-add, length-take-le, ext_get_or}
 use lib.Ieee.{Float, nan}
+use Rattle.arithmetic.specs.Exponential.{exp_of}
 use Rattle.arithmetic.specs.Tables.{from}
 use Rattle.arithmetic.proofs.Tests.{le-or}
 use Rattle.arithmetic.proofs.TableLaws.{by_place, row-end, row_next, from-length, cell_row, cell-column}
-use Rattle.models.specs.declared.model.Model.{Model}
-use Rattle.models.specs.declared.model.Model.TheVariants.{Wilson, Uniquac, Nrtl, Unifac}
-use Rattle.models.specs.Model.{by_model, has_groups}
 use Rattle.mixture.specs.Lists.{written, how_many}
-use Rattle.mixture.specs.declared.refill.Rows.{Rows}
-use Rattle.mixture.specs.Steps.Refills.{stale_cell, cell_in, cell_of, stale_in, stale_of, RowFits, TableFits, Refilled}
+use Rattle.mixture.specs.Steps.Refills.{stale_cell, cell_of, stale_in, stale_of, Refilled}
 use Rattle.mixture.proofs.ListLaws.{never, length-written, length_as, get_or-written, get_or_kept, written_same, written_as, written_none, written-set, how_many-le, how_many-none, how_many-add, how_many-same}
 
 -- ---- a writable part, back
 
 -- what comes back of `&mut l[s..]` stands after the first s
-put_is : {A : Type 0} (l : List A) (s : ℕ) → s ≤ length l → (ys : List A) → put_mid s (length l - s) l ys ≡ take s l ++ ys
+pub put_is : {A : Type 0} (l : List A) (s : ℕ) → s ≤ length l → (ys : List A) → put_mid s (length l - s) l ys ≡ take s l ++ ys
 put_is l s h ys = rw (drop_of_length-le (drop s l) {i = length l - s} (rw (length-drop s l) (omega arith)), append-nil)
 
 -- ---- the first n places
@@ -61,69 +58,62 @@ module _ {A : Type 0} (p : ℕ → Bool) (f : ℕ → A) (l : List A) (j : ℕ) 
           (λ q. rw (← q) (among_in (j + 1) p j (omega arith) ∙ (t ∙ sym (rw (eq-eqb j j refl) (or-true (among j p j))))))
           (λ d. rw (ne_eqb c j (ne_of_gt d), or-false (among j p c)) (sym (among-other j p c (λ q. omega arith))))
 
--- ---- a stale cell
-
-module _ (mark i j : ℕ) where
-  pub stale_fresh : (k : Model) → mark ≡ 1 → false ≡ stale_cell k mark i j
-  unfolding stale_cell
-  stale_fresh k e = sym (rw (eq-eqb mark 1 e, and-false))
-
-  pub stale_off : (k : Model) → (mark ≡ 1 → ⊥) → (i ≡ j → ⊥) → true ≡ stale_cell k mark i j
-  unfolding stale_cell
-  stale_off k f ne = rw (ne_eqb mark 1 f, ne_eqb i j ne) (go k)
-    where
-      go : (k : Model) → true ≡ (by_model k true true true true && true)
-      go Wilson = refl
-      go Uniquac = refl
-      go Nrtl = refl
-      go Unifac = refl
-
-  -- only UNIFAC has cells on the diagonal
-  pub stale_diagonal : (k : Model) → (mark ≡ 1 → ⊥) → i ≡ j → has_groups k ≡ stale_cell k mark i j
-  unfolding stale_cell
-  stale_diagonal k f e = rw (ne_eqb mark 1 f, eq-eqb i j e) (go k)
-    where
-      go : (k : Model) → has_groups k ≡ (has_groups k && true)
-      go Wilson = refl
-      go Uniquac = refl
-      go Nrtl = refl
-      go Unifac = refl
-
 -- ---- a row, place by place
 
-module _ (p : ℕ → Bool) (f : ℕ → Float) (cells : List Float) (marks : List ℕ) where
-  pub refilled-none : (n : ℕ) → n ≡ 0 → Refilled n p f cells marks cells marks 0
-  unfolding how_many
-  refilled-none n e =
-      rw e
-      record {
-        worked = written_none (among 0 p) f cells (λ c. among-past 0 p c (omega arith));
-        marked = written_none (among 0 p) (λ c. 1) marks (λ c. among-past 0 p c (omega arith));
-        counted = refl;
-      }
+pub refilled-none : (p : ℕ → Bool) (f : ℕ → Float) (cells : List Float) (marks : List ℕ) (n : ℕ) → n ≡ 0 → Refilled n p f cells marks cells marks 0
+unfolding how_many
+refilled-none p f cells marks n e =
+    rw e
+    record {
+      worked = written_none (among 0 p) f cells (λ c. among-past 0 p c (omega arith));
+      marked = written_none (among 0 p) (λ c. 1) marks (λ c. among-past 0 p c (omega arith));
+      counted = refl;
+    }
 
-  module _ (j : ℕ) {cells' : List Float} {marks' : List ℕ} {r : ℕ} (now : Refilled j p f cells marks cells' marks' r) where
-    -- the mark that the loop reads next is still the old one
-    refilled_mark : get_or marks' j 0 ≡ get_or marks j 0
-    refilled_mark = rw now.marked (get_or_kept (among j p) (λ c. 1) marks j 0 (among-past j p j (omega arith)))
+-- what a loop over a row keeps, Fits being what shows that f is what each stale cell takes
+pub record RowRefilling (d : Bool) (i : ℕ) (Fits : (ℕ → Float) → Type 0) (j : ℕ) (cells : List Float) (marks : List ℕ) (cells' : List Float) (marks' : List ℕ) (r : ℕ) : Type 0 where
+  pub worked : (f : ℕ → Float) → Fits f → cells' ≡ written (among j (stale_in d marks i)) f cells
+  pub marked : marks' ≡ written (among j (stale_in d marks i)) (λ c. 1) marks
+  pub counted : r ≡ how_many j (stale_in d marks i)
 
-    refilled_skip : p j ≡ false → Refilled (j + 1) p f cells marks cells' marks' r
+module _ {d : Bool} {i : ℕ} {Fits : (ℕ → Float) → Type 0} {cells : List Float} {marks : List ℕ} where
+  pub row_none : RowRefilling d i Fits 0 cells marks cells marks 0
+  row_none = let all = λ (f : ℕ → Float). refilled-none (stale_in d marks i) f cells marks 0 refl in
+      record { worked = λ f e. (all f).worked; marked = (all (λ c. nan)).marked; counted = (all (λ c. nan)).counted }
+
+  -- the loop has come to the end
+  pub row_done : {j w : ℕ} {c : List Float} {l : List ℕ} {r : ℕ} → j ≤ w → w ≤ j → RowRefilling d i Fits j cells marks c l r
+      → (f : ℕ → Float) → Fits f → Refilled w (stale_in d marks i) f cells marks c l r
+  row_done {j} {w} {c} {l} {r} a b so f e =
+      subst (λ (k : ℕ). Refilled k (stale_in d marks i) f cells marks c l r) (le_antisymm a b)
+      record { worked = so.worked f e; marked = so.marked; counted = so.counted }
+
+  -- a turn of the loop goes by what the mark says, which is still the old one
+  module _ {j : ℕ} {c : List Float} {l : List ℕ} {r : ℕ} {b : Bool} (so : RowRefilling d i Fits j cells marks c l r) (told : b ≡ stale_cell d (get_or l j 0) i j) where
+    pub row_told : b ≡ stale_cell d (get_or marks j 0) i j
+    row_told =
+        told
+        ∙ ap (λ (mark : ℕ). stale_cell d mark i j)
+        (rw so.marked (get_or_kept (among j (stale_in d marks i)) (λ c. 1) marks j 0 (among-past j (stale_in d marks i) j (omega arith))))
+
+    pub row_more : {c' : List Float} {m : List ℕ} {s : ℕ} {v : Float} → b ≡ true → ((f : ℕ → Float) → Fits f → v ≡ f j) → c' ≡ set c j v → m ≡ set l j 1 → s ≡ r + 1
+        → RowRefilling d i Fits (j + 1) cells marks c' m s
     unfolding how_many
-    refilled_skip t =
-        record {
-          worked = now.worked ∙ written_skip p f cells j t;
-          marked = now.marked ∙ written_skip p (λ c. 1) marks j t;
-          counted = now.counted ∙ rw (add-one j, t, add-zero);
-        }
+    row_more t e x y z = record {
+      worked = λ f fits. x ∙ rw (so.worked f fits) (written-more _ f cells j (sym row_told ∙ t) (e f fits));
+      marked = y ∙ rw so.marked (written-more _ (λ c. 1) marks j (sym row_told ∙ t) refl);
+      counted = z ∙ rw (so.counted, add-one j, sym row_told ∙ t);
+    }
 
-    refilled-more : {v : Float} → p j ≡ true → v ≡ f j → Refilled (j + 1) p f cells marks (set cells' j v) (set marks' j 1) (r + 1)
+    pub row_skip : {c' : List Float} {m : List ℕ} {s : ℕ} → b ≡ false → c' ≡ c → m ≡ l → s ≡ r → RowRefilling d i Fits (j + 1) cells marks c' m s
     unfolding how_many
-    refilled-more t e =
-        record {
-          worked = rw now.worked (written-more p f cells j t e);
-          marked = rw now.marked (written-more p (λ c. 1) marks j t refl);
-          counted = rw (add-one j, t, now.counted);
-        }
+    row_skip t x y z = record {
+      worked = λ f fits. x ∙ so.worked f fits ∙ written_skip _ f cells j (sym row_told ∙ t);
+      marked = y ∙ so.marked ∙ written_skip _ (λ c. 1) marks j (sym row_told ∙ t);
+      counted = z ∙ so.counted ∙ rw (add-one j, sym row_told ∙ t, add-zero);
+    }
+
+-- ---- rows
 
 -- what a loop over places keeps: those passed are refilled, no slice is longer or shorter, and the count is within the places
 pub record Refilling (j : ℕ) (p : ℕ → Bool) (f : ℕ → Float) (cells : List Float) (marks : List ℕ) (cells' : List Float) (marks' : List ℕ) (r : ℕ) : Type 0 where
@@ -139,38 +129,6 @@ refilling {j} {p} {f} {cells} {marks} now =
       long = (length_as (among j p) f cells now.worked, length_as (among j p) (λ c. 1) marks now.marked);
       few = rw now.counted (how_many-le j p);
     }
-
--- so many as pass
-pub refilled-count : {n : ℕ} {p : ℕ → Bool} {f : ℕ → Float} {cells : List Float} {marks : List ℕ} {c : List Float} {l : List ℕ} {r s : ℕ}
-    → s ≡ how_many n p → Refilled n p f cells marks c l r → Refilled n p f cells marks c l s
-refilled-count e all = record { worked = all.worked; marked = all.marked; counted = e }
-
-pub refilling-count : {j : ℕ} {p : ℕ → Bool} {f : ℕ → Float} {cells : List Float} {marks : List ℕ} {c : List Float} {l : List ℕ} {r : ℕ}
-    → Refilling j p f cells marks c l r → Refilling j p f cells marks c l (how_many j p)
-refilling-count so = refilling (refilled-count refl so.all)
-
--- a loop that counts j to w has all of them at its end
-pub refilled-end : {j w : ℕ} {p : ℕ → Bool} {f : ℕ → Float} {cells : List Float} {marks : List ℕ} {c : List Float} {l : List ℕ} {r : ℕ}
-    → j ≤ w → w ≤ j → Refilled j p f cells marks c l r → Refilled w p f cells marks c l (how_many w p)
-refilled-end {p = p} {f} {cells} {marks} {c} {l} {r} a b all = refilled-count refl (subst (λ (k : ℕ). Refilled k p f cells marks c l r) (le_antisymm a b) all)
-
--- ---- a turn of the loop over a row, which goes by what the mark says
-
-refilled-is : {n : ℕ} {p : ℕ → Bool} {f : ℕ → Float} {cells : List Float} {marks : List ℕ} {c d : List Float} {k m : List ℕ} {r s : ℕ}
-    → d ≡ c → m ≡ k → s ≡ r → Refilled n p f cells marks c k r → Refilled n p f cells marks d m s
-refilled-is e g h all = record { worked = e ∙ all.worked; marked = g ∙ all.marked; counted = h ∙ all.counted }
-
-module _ (k : Model) (i : ℕ) {f : ℕ → Float} {cells : List Float} {marks : List ℕ} {j : ℕ} {c : List Float} {l : List ℕ} {r : ℕ} {b : Bool}
-    (now : Refilling j (stale_in k marks i) f cells marks c l r) (told : b ≡ stale_cell k (get_or l j 0) i j) where
-  stale_told : b ≡ stale_cell k (get_or marks j 0) i j
-  stale_told = told ∙ ap (λ (mark : ℕ). stale_cell k mark i j) (refilled_mark _ f cells marks j now.all)
-
-  pub row_more : {d : List Float} {m : List ℕ} {s : ℕ} {v : Float} → b ≡ true → v ≡ f j → d ≡ set c j v → m ≡ set l j 1 → s ≡ r + 1
-      → Refilling (j + 1) (stale_in k marks i) f cells marks d m s
-  row_more t e x y z = refilling (refilled-is x y z (refilled-more _ f cells marks j now.all (sym stale_told ∙ t) e))
-
-  pub row_skip : {d : List Float} {m : List ℕ} {s : ℕ} → b ≡ false → d ≡ c → m ≡ l → s ≡ r → Refilling (j + 1) (stale_in k marks i) f cells marks d m s
-  row_skip t x y z = refilling (refilled-is x y z (refilled_skip _ f cells marks j now.all (sym stale_told ∙ t)))
 
 -- ---- a row that comes back in the middle
 
@@ -230,62 +188,43 @@ module _ {A : Type 0} (s w : ℕ) (p q : ℕ → Bool) (f g : ℕ → A) (old : 
         ])
 
 -- the rows above i, and row i: what it holds is what stands at its places
-module _ (k : Model) (w i : ℕ) (f g : ℕ → Float) (cells : List Float) (marks : List ℕ) (b : i < w)
+module _ (d : Bool) (w i : ℕ) (f g : ℕ → Float) (cells : List Float) (marks : List ℕ) (b : i < w)
     (hc : w * w ≤ length cells) (hm : w * w ≤ length marks) (gs : (j : ℕ) → j < w → g j ≡ f (i * w + j)) where
-  pub rows_more : {c ys : List Float} {l zs : List ℕ} {r s : ℕ} → Refilled (i * w) (stale_of k w marks) f cells marks c l r
-      → Refilled w (stale_in k (from (i * w) l) i) g (from (i * w) c) (from (i * w) l) ys zs s
-      → (i + 1 ≤ w) × Refilling ((i + 1) * w) (stale_of k w marks) f cells marks
+  rows_all : {c ys : List Float} {l zs : List ℕ} {r s : ℕ} → Refilled (i * w) (stale_of d w marks) f cells marks c l r
+      → Refilled w (stale_in d (from (i * w) l) i) g (from (i * w) c) (from (i * w) l) ys zs s
+      → Refilling ((i + 1) * w) (stale_of d w marks) f cells marks
       (put_mid (i * w) (length c - i * w) c ys) (put_mid (i * w) (length l - i * w) l zs) (r + s)
-  rows_more {c} {ys} {l} {zs} {r} {s} above row = (
-    omega arith,
-    refilling (record {
-      worked = row_back (i * w) w p q f g cells nan (omega (arith, row-end w w i b)) ps gs above.worked row.worked ∙ rw (row_next w i);
-      marked = row_back (i * w) w p q (λ c. 1) (λ c. 1) marks 0 (omega (arith, row-end w w i b)) ps (λ j b. refl) above.marked row.marked ∙ rw (row_next w i);
-      counted = rw (above.counted, row.counted, how_many-same w q (λ j. p (i * w + j)) ps, row_next w i) (sym (how_many-add (i * w) w p));
-    }),
-  )
+  rows_all {c} {ys} {l} {zs} {r} {s} above row =
+      refilling (record {
+        worked = row_back (i * w) w p q f g cells nan (omega (arith, row-end w w i b)) ps gs above.worked row.worked ∙ rw (row_next w i);
+        marked = row_back (i * w) w p q (λ c. 1) (λ c. 1) marks 0 (omega (arith, row-end w w i b)) ps (λ j b. refl) above.marked row.marked ∙ rw (row_next w i);
+        counted = rw (above.counted, row.counted, how_many-same w q (λ j. p (i * w + j)) ps, row_next w i) (sym (how_many-add (i * w) w p));
+      })
     where
       p : ℕ → Bool
-      p = stale_of k w marks
+      p = stale_of d w marks
 
       q : ℕ → Bool
-      q = stale_in k (from (i * w) l) i
+      q = stale_in d (from (i * w) l) i
 
       ps : (j : ℕ) → j < w → q j ≡ p (i * w + j)
-      ps j d =
-          rw (cell_row w i j d, cell-column w i j d)
-          (ap (λ (mark : ℕ). stale_cell k mark i j) (lent (i * w) p (λ c. 1) marks 0 above.marked j (omega (arith, row-end w w i b))))
+      ps j e =
+          rw (cell_row w i j e, cell-column w i j e)
+          (ap (λ (mark : ℕ). stale_cell d mark i j) (lent (i * w) p (λ c. 1) marks 0 above.marked j (omega (arith, row-end w w i b))))
+
+  -- row i starts at place k
+  pub rows_more : {c ys : List Float} {l zs : List ℕ} {r s k : ℕ} → k ≡ i * w → Refilling (i * w) (stale_of d w marks) f cells marks c l r
+      → Refilled w (stale_in d (from k l) i) g (from k c) (from k l) ys zs s
+      → Refilling ((i + 1) * w) (stale_of d w marks) f cells marks (put_mid k (length c - k) c ys) (put_mid k (length l - k) l zs) (r + s)
+  rows_more e above row = rw e (rows_all above.all (rw e at row))
 
 -- entry j of row i, by its place
-pub row-cells : (g : Rows) (table tau : List Float) (i j : ℕ) → j < g.w
-    → cell_in g (from (i * g.stride) table) (from (i * g.stride) tau) i j ≡ cell_of g table tau (i * g.w + j)
-row-cells g table tau i j b = rw (cell_row g.w i j b, cell-column g.w i j b)
+pub row-cells : (w : ℕ) (A : ℕ → ℕ → Float) (i j : ℕ) → j < w → exp_of (A i j) ≡ cell_of w A (i * w + j)
+row-cells w A i j b = rw (cell_row w i j b, cell-column w i j b)
 
--- ---- row i, lent as parts, lies within them
-
--- it ends within the w·w places, and starts in the inputs no later than the last
-pub row_room : (w stride i : ℕ) → w ≤ 32 → i < w → (i * w + w ≤ w * w) × (w * w ≤ 1024) × (i * stride ≤ (w - 1) * stride)
-row_room w stride i few b = (row-end w w i b, mul-le-mul few few, mul-le-mul_right stride (omega arith))
-
-pub part-long : {A : Type 0} {w i k : ℕ} (l : List A) → i < w → length l ≡ k → w * w ≤ k → w ≤ length (from (i * w) l)
-part-long {w = w} {i} l b kept h = omega (arith, from-length (i * w) l, row-end w w i b)
-
-pub row_fits : {w stride i : ℕ} {table tau out : List Float} (l : List Float) → TableFits w stride table tau out → i < w → length l ≡ length out
-    → RowFits w i (from (i * stride) table) (from (i * stride) tau) (from (i * w) l)
-row_fits {w} {stride} {i} {table} {tau} l fits b kept =
-    let e : i * stride ≤ (w - 1) * stride = mul-le-mul_right stride (omega arith) in
-    record {
-      inside = b;
-      few = fits.few;
-      fives = omega (arith, fits.fives, from-length (i * stride) table);
-      taus = omega (arith, fits.taus, from-length (i * stride) tau);
-      room = part-long l b kept fits.room;
-    }
-
--- a loop that counts i to w has all of them at its end
-pub refilled-done : (i w : ℕ) {p : ℕ → Bool} {f : ℕ → Float} {cells : List Float} {marks : List ℕ} {c : List Float} {l : List ℕ} {r : ℕ}
-    → i ≤ w → w ≤ i → Refilled (i * w) p f cells marks c l r → Refilled (w * w) p f cells marks c l r
-refilled-done i w {p} {f} {cells} {marks} {c} {l} {r} a b all = subst (λ (k : ℕ). Refilled (k * w) p f cells marks c l r) (le_antisymm a b) all
+-- ---- row i ends within the w·w places
+pub row_room : (w i : ℕ) → w ≤ 32 → i < w → (i * w + w ≤ w * w) × (w * w ≤ 1024)
+row_room w i few b = (row-end w w i b, mul-le-mul few few)
 
 -- the last of n rows ends within the table
 pub last_row : (n : ℕ) → (n - 1) * n + n ≤ n * n

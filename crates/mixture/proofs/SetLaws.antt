@@ -4,16 +4,14 @@ use mathlib.Core.Bool.{Bool, true, false, ◌&&◌, ◌||◌, cond, or-false, or
 use mathlib.Core.List.{List}
 use Prim.Native.Nat.{ℕ, ◌+◌, ◌*◌, ◌/◌, ◌%◌, ◌<◌, ◌≤◌}
 use native.Mathlib.Nat.{zero-add, zero-mul, mul-le-mul}
-use native.Mathlib.Numerals.{add-one, add-two, add-three, add-four}
 use native.Mathlib.Omega.{arith}
 use lib.Dec.{ltb, eqb}
 use lib.Seq.{sets}
-use lib.ListN.{length, get_or, set}
+use lib.ListN.{length, get_or}
 use lib.Ieee.{Float, lt}
 use borrow.Author.Tests.{le-ltb, eq-eqb, ne_eqb}
 use Rattle.arithmetic.specs.Floats.{+0}
 use Rattle.arithmetic.specs.declared.parameters.TdParam.{TdParam}
-use Rattle.arithmetic.proofs.TableLaws.{cell-lt}
 use Rattle.models.specs.Faults.{tolerance_fault}
 use Rattle.models.specs.Values.{counts_at, start, lists}
 use Rattle.models.proofs.GroupListLaws.{start_up}
@@ -22,21 +20,19 @@ use Rattle.models.specs.declared.model.Model.{Model}
 use Rattle.models.specs.declared.model.Model.TheVariants.{Wilson, Uniquac, Nrtl, Unifac}
 use Rattle.mixture.specs.declared.setting.Setting.{Setting}
 use Rattle.mixture.specs.declared.setting.Setting.TheVariants.{Temperature, Entry, TdEntry, Size, Count, Tolerance}
-use Rattle.mixture.specs.declared.answers.Answer.{Answer}
-use Rattle.mixture.specs.declared.answers.Reply.{Reply}
-use Rattle.mixture.specs.declared.answers.Answer.TheVariants.{Done}
+use Rattle.mixture.specs.Answers.{Done}
 use Rattle.mixture.specs.declared.stale.Block.{Block}
 use Rattle.mixture.specs.Lists.{written}
 use Rattle.mixture.specs.Holdings.{Held, held}
 use Rattle.mixture.specs.Cells.{width, is_cell}
 use Rattle.models.specs.Model.{by_model, table_width, has_groups, model_of}
 use Rattle.mixture.specs.Faults.{below, has_entry, has_td_entry, has_size, has_count, case_fault, in_range, head_fault, setting_fault}
-use Rattle.mixture.specs.Memory.{Memory, memory, least_values, least_marks, After, after, left}
+use Rattle.mixture.specs.Memory.{Memory, memory, least_values, least_marks, after}
 use Rattle.mixture.specs.Layout.{data_in, place, numbers, cell_at}
-use Rattle.mixture.specs.Calls.{head_with, stales, stales_at, set_memory, set_head, after_setting}
-use Rattle.mixture.specs.Steps.Blocks.{in_block, BlockFits, block, entry_block, block_of, head_only, Settable, CountFits, set_reply}
+use Rattle.mixture.specs.Calls.{stales, stales_at, set_memory, set_head, after_setting}
+use Rattle.mixture.specs.Steps.Blocks.{in_block, BlockFits, block, block_of, head_only, Settable, CountFits, set_after}
 use Rattle.mixture.proofs.ListLaws.{never, written_same}
-use Rattle.mixture.proofs.PlaceLaws.{below-is, had, five_of, store_in}
+use Rattle.mixture.proofs.PlaceLaws.{below-is, had, store_in}
 use Rattle.mixture.proofs.History.RangeLaws.{first-is, bounds}
 use Rattle.mixture.proofs.CallLaws.{refused, in_range_lem, head_passed}
 use Rattle.mixture.proofs.BlockLaws.{one_cell, one-row, no_cells, every_cell}
@@ -326,44 +322,6 @@ module _ (h : Head) {model : Model} (e : model ≡ model_of h.model) {w : ℕ} (
       let square : w * w ≤ 1024 = mul-le-mul v.1 v.1 in
       record { some = v.0; few = v.1; rows = rw q z.0; columns = rw q z.1; marked = omega arith }
 
-module _ (model : Model) (w i j : ℕ) where
-  pub row-entry : {l k : ℕ} → i ≡ j → l ≡ by_model model 0 0 j j → k ≡ by_model model w w 1 1
-      → block i 1 l k ≡ entry_block model w i j
-  row-entry e f g = rw (eq-eqb i j e, f, g)
-
-  pub cell-entry : (i ≡ j → ⊥) → block i 1 j 1 ≡ entry_block model w i j
-  cell-entry n = rw (ne_eqb i j n)
-
--- ---- numbers in turn
-
-pub put_five : (l : List Float) (at : ℕ) (p : TdParam) → set (set (set (set (set l at p.a) (at + 1) p.b) (at + 2) p.c) (at + 3) p.d) (at + 4) p.e ≡ sets l at (five_of p)
-put_five l at p = rw (add-one at, add-two at, add-three at, add-four at)
-
--- ---- a base by model
-
-module _ (a : ℕ) where
-  pub third_le : (t : Model) → by_model t 0 0 a 0 ≤ a
-  third_le Wilson = omega arith
-  third_le Uniquac = omega arith
-  third_le Nrtl = omega arith
-  third_le Unifac = omega arith
-
-  pub last-le : (t : Model) → by_model t 0 0 0 a ≤ a
-  last-le Wilson = omega arith
-  last-le Uniquac = omega arith
-  last-le Nrtl = omega arith
-  last-le Unifac = omega arith
-
-  pub first-le : (t : Model) → by_model t a a 0 0 ≤ a
-  first-le Wilson = omega arith
-  first-le Uniquac = omega arith
-  first-le Nrtl = omega arith
-  first-le Unifac = omega arith
-
--- entry i, j lies within w rows, and these within 1,024 places
-pub entry-room : {w i j : ℕ} → (w ≤ 32) × (i < w) × (j < w) → (w * w ≤ 1024) × (i * w + j < w * w)
-entry-room fits = (mul-le-mul fits.0 fits.0, cell-lt _ _ _ _ fits.1 fits.2)
-
 -- ---- a setting that passes
 
 pub record SetFits (m : Memory) (h : Head) (s : Setting) : Type 0 where
@@ -391,26 +349,9 @@ set-done m h s {a} {v} {k} {g} e p q r t =
     (ap (λ (l : List ℕ). after (memory (sets m.values (place (head_only h) s) (numbers s)) m.cells l) (set_head h s) Done)
     (r ∙ written_same _ _ (λ c. 0) m.marks (λ c. sym (stales-only m h s c))))
 
--- ---- the reply
+-- ---- what a declined setting leaves
 
 module _ (m : Memory) (h : Head) (s : Setting) where
-  pub set-refused : {k : ℕ} → k ≡ setting_fault m h s → (k ≡ 0 → ⊥) → left m (set_reply k h s) ≡ after_setting m h s
+  pub set-refused : {k : ℕ} → k ≡ setting_fault m h s → (k ≡ 0 → ⊥) → set_after m k h s ≡ after_setting m h s
   unfolding after_setting
   set-refused {k} e n = rw (ne_eqb k 0 n) (refused m h _ e n)
-
--- a setting changes of the head T, whether it is set, and the tolerance alone
-pub head_changed : (h : Head) (s : Setting) (k : ℕ) {t ε : Float} {b : Bool} → t ≡ cond (eqb k 0) (set_head h s).t h.t
-    → b ≡ cond (eqb k 0) (set_head h s).has_t h.has_t → ε ≡ cond (eqb k 0) (set_head h s).tolerance h.tolerance
-    → head_with h t b h.x h.has_x ε ≡ cond (eqb k 0) (set_head h s) h
-head_changed h s k p q r = rw (p, q, r) (go (eqb k 0))
-  where
-    go : (b : Bool) → head_with h (cond b (set_head h s).t h.t) (cond b (set_head h s).has_t h.has_t) h.x h.has_x (cond b (set_head h s).tolerance h.tolerance) ≡ cond b (set_head h s) h
-    go true = refl
-    go false = refl
-
-pub reply-is : (h : Head) (s : Setting) (k : ℕ) {g : Head} {a : Answer} → g ≡ (set_reply k h s).head → a ≡ (set_reply k h s).answer
-    → ◌≡◌ {A = Reply} (record { head = g; answer = a }) (set_reply k h s)
-reply-is h s k p q = rw (p, q)
-
-pub replied : {m : Memory} {r q : Reply} {z : After} → r ≡ q → left m q ≡ z → left m r ≡ z
-replied p e = rw p e

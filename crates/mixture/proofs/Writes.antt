@@ -34,7 +34,7 @@ use Rattle.mixture.proofs.CallLaws.{load_fits}
 
 -- ---- declined calls
 
-number_is : (k : ℕ) (m : Memory) (h : Head) (a : After) → number_of a.reply.answer ≡ 0 → number_of (outcome k m h a).reply.answer ≡ k
+number_is : (k : ℕ) (m : Memory) (h : Head) (a : After) → number_of a.answer ≡ 0 → number_of (outcome k m h a).answer ≡ k
 unfolding number_of
 number_is k m h a z =
     elim (either (eqb k 0)) [
@@ -51,7 +51,7 @@ numbers-are m h (Fractions x) = number_is (fractions_fault m h x) m h _ refl
 numbers-are m h (Query q) = number_is (query_fault m h q) m h _ refl
 
 -- a number other than 0 leaves memory and head
-declines : (k : ℕ) (m : Memory) (h : Head) (a : After) → (k ≡ 0 → ⊥) → ((outcome k m h a).memory ≡ m) × ((outcome k m h a).reply.head ≡ h)
+declines : (k : ℕ) (m : Memory) (h : Head) (a : After) → (k ≡ 0 → ⊥) → ((outcome k m h a).memory ≡ m) × ((outcome k m h a).head ≡ h)
 declines k m h a n = rw (ne_eqb k 0 n) (refl, refl)
 
 pub declined : Declined

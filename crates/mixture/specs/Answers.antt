@@ -1,8 +1,26 @@
 -- What a call answers: document 01's number, value and count for each case.
-use Rattle.std.specs.Prelude.{cond, List, [], ◌∷◌, ℕ, eqb, Float}
+use Rattle.std.specs.Prelude.{cond, List, [], ◌∷◌, ℕ, eqb, Float, Result, Ok, Err}
 use Rattle.arithmetic.specs.Floats.{+0}
-use Rattle.mixture.specs.declared.answers.Answer.{Answer}
-use Rattle.mixture.specs.declared.answers.Answer.TheVariants.{Refused, Done, Value}
+use Rattle.arithmetic.specs.declared.refusal.Refusal.{Refusal}
+use Rattle.arithmetic.specs.Refusals.{number}
+use Rattle.mixture.specs.declared.answers.Outcome.{Outcome}
+use Rattle.mixture.specs.declared.answers.Outcome.TheVariants.{Done as Finished, Value as Worked}
+
+-- an answer in document 01's words: the number of a refusal, done, or a value with the number of cells worked
+pub data Answer : Type 0 where
+  Refused : ℕ → Answer
+  Done : Answer
+  Value : Float → ℕ → Answer
+
+-- what a call that isn't refused answers, in these words
+unfoldable pub outcome_of : Outcome → Answer
+outcome_of Finished = Done
+outcome_of (Worked v count) = Value v count
+
+-- a call's result in these words
+unfoldable pub answer_of : Result Outcome Refusal → Answer
+answer_of (Ok a) = outcome_of a
+answer_of (Err r) = Refused (number r)
 
 -- the number of a refusal, 0 for none
 unfoldable pub number_of : Answer → ℕ

@@ -14,9 +14,7 @@ use Rattle.models.specs.Unifac.{unifac_at}
 use Rattle.models.specs.declared.model.Model.{Model}
 use Rattle.mixture.specs.declared.setting.Setting.{Setting}
 use Rattle.mixture.specs.declared.setting.Setting.TheVariants.{Temperature, Entry, TdEntry, Size, Count, Tolerance}
-use Rattle.mixture.specs.declared.answers.Answer.{Answer}
-use Rattle.mixture.specs.declared.answers.Answer.TheVariants.{Refused, Done, Value}
-use Rattle.mixture.specs.Answers.{number_of, unless}
+use Rattle.mixture.specs.Answers.{Answer, Refused, Done, Value, number_of, unless}
 use Rattle.mixture.specs.Lists.{any_of, how_many_pairs}
 use Rattle.mixture.specs.Holdings.{Held, held, Name, temperature, same, named}
 use Rattle.mixture.specs.Cells.{width, is_cell, inputs}

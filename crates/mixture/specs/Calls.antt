@@ -15,7 +15,7 @@ use Rattle.models.specs.Unifac.{unifac}
 use Rattle.mixture.specs.declared.head.Head.{Head}
 use Rattle.mixture.specs.declared.setting.Setting.{Setting}
 use Rattle.mixture.specs.declared.setting.Setting.TheVariants.{Temperature, Entry, TdEntry, Size, Count, Tolerance}
-use Rattle.mixture.specs.declared.answers.Answer.TheVariants.{Refused, Done, Value}
+use Rattle.mixture.specs.Answers.{Refused, Done, Value}
 use Rattle.mixture.specs.Lists.{written, padded, how_many}
 use Rattle.mixture.specs.Holdings.{Held, held}
 use Rattle.mixture.specs.Cells.{width}

@@ -3,10 +3,9 @@
 use Rattle.std.specs.Prelude.{◌≡◌, List, [], ◌∷◌, ℕ, ◌≤◌, length, Float}
 use Rattle.std.proofs.Math.Option.{some}
 use Rattle.models.specs.declared.answers.Quantity.{Quantity}
-use Rattle.models.specs.declared.answers.Answer.TheVariants.{Value as Plainly}
+use Rattle.arithmetic.specs.Refusals.{Value as Plainly}
 use Rattle.mixture.specs.declared.head.Head.{Head}
-use Rattle.mixture.specs.declared.answers.Answer.{Answer}
-use Rattle.mixture.specs.declared.answers.Answer.TheVariants.{Refused, Done, Value}
+use Rattle.mixture.specs.Answers.{Answer, Refused, Done, Value}
 use Rattle.mixture.specs.Holdings.{Held}
 use Rattle.mixture.specs.Memory.{Memory}
 use Rattle.mixture.specs.Book.{Mix, Book, Call, Open, Query, empty, touched_cells, since, book_answer, book_of, past_of}
@@ -23,10 +22,10 @@ pub record Left : Type 0 where
 
 unfoldable pub left_by : Memory → Head → List Call → Left
 left_by m h [] = record { memory = m; head = h }
-left_by m h (c ∷ cs) = left_by (after_call m h c).memory (after_call m h c).reply.head cs
+left_by m h (c ∷ cs) = left_by (after_call m h c).memory (after_call m h c).head cs
 
 abbrev pub answer_after : Memory → Head → List Call → Call → Answer
-answer_after m h calls c = (after_call (left_by m h calls).memory (left_by m h calls).head c).reply.answer
+answer_after m h calls c = (after_call (left_by m h calls).memory (left_by m h calls).head c).answer
 
 -- the book is told the calls alone
 abbrev pub book_answer_after : List Call → Call → Answer

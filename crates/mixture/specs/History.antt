@@ -2,8 +2,7 @@
 -- docs/REVIEW.md, "Demand 3", says what the two sides of the claim share, and why that is safe.
 use Rattle.std.specs.Prelude.{◌≡◌, false, List, [], ◌∷◌}
 use Rattle.mixture.specs.declared.head.Head.{Head}
-use Rattle.mixture.specs.declared.answers.Answer.{Answer}
-use Rattle.mixture.specs.declared.answers.Answer.TheVariants.{Done}
+use Rattle.mixture.specs.Answers.{Answer, Done}
 use Rattle.mixture.specs.Memory.{Memory, is_short, After}
 use Rattle.mixture.specs.Calls.{after_open, after_load, after_setting, after_fractions, after_query}
 use Rattle.mixture.specs.Book.{Call, Open, Load, Set, Fractions, Query, empty, book_answers}
@@ -19,7 +18,7 @@ after_call m h (Query q) = after_query m h q
 -- each call is lent the memory that the one before left, and gets the head that it returned
 unfoldable pub answers : Memory → Head → List Call → List Answer
 answers m h [] = []
-answers m h (c ∷ cs) = (after_call m h c).reply.answer ∷ answers (after_call m h c).memory (after_call m h c).reply.head cs
+answers m h (c ∷ cs) = (after_call m h c).answer ∷ answers (after_call m h c).memory (after_call m h c).head cs
 
 -- On memory whose slices aren't short, with any bits and any head, the opening is accepted, and from there on each answer
 -- (refusal, value and count of cells) is the book's, which never sees memory, head or an answer.

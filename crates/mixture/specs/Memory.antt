@@ -2,8 +2,8 @@
 use Rattle.std.specs.Prelude.{◌≡◌, Bool, ◌||◌, List, ℕ, ltb, length, Float}
 use Rattle.models.specs.Limits.{most_values, table_size}
 use Rattle.mixture.specs.declared.head.Head.{Head}
-use Rattle.mixture.specs.declared.answers.Answer.{Answer}
 use Rattle.mixture.specs.declared.answers.Reply.{Reply}
+use Rattle.mixture.specs.Answers.{Answer, answer_of}
 
 -- the three lent slices; a mark of 1 is fresh, any other stale
 pub record Memory : Type 0 where
@@ -38,11 +38,12 @@ is_short m = short (length m.values) (length m.cells) (length m.marks)
 -- what a call leaves: the memory, and the head and answer that it gives back
 pub record After : Type 0 where
   pub memory : Memory
-  pub reply : Reply
+  pub head : Head
+  pub answer : Answer
 
 abbrev pub after : Memory → Head → Answer → After
-after m h a = record { memory = m; reply = record { head = h; answer = a } }
+after m h a = record { memory = m; head = h; answer = a }
 
 -- the same, of the reply itself
 abbrev pub left : Memory → Reply → After
-left m r = record { memory = m; reply = r }
+left m r = after m r.head (answer_of r.answer)

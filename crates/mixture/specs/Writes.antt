@@ -25,11 +25,11 @@ call_fault m h (Query q) = query_fault m h q
 
 -- a number is returned if its condition holds and none earlier does, and otherwise never
 abbrev pub Numbers : Type 0
-Numbers = (m : Memory) (h : Head) (c : Call) → number_of (after_call m h c).reply.answer ≡ call_fault m h c
+Numbers = (m : Memory) (h : Head) (c : Call) → number_of (after_call m h c).answer ≡ call_fault m h c
 
 abbrev pub Declined : Type 0
 Declined = (m : Memory) (h : Head) (c : Call) → (call_fault m h c ≡ 0 → ⊥)
-    → ((after_call m h c).memory ≡ m) × ((after_call m h c).reply.head ≡ h)
+    → ((after_call m h c).memory ≡ m) × ((after_call m h c).head ≡ h)
 
 -- ---- the places that a call may write
 

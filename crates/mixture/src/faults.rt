@@ -1,21 +1,25 @@
-// What the calls decline, in document 01's order: 0 for nothing.
+// What the calls decline, in document 01's order.
+#![tactic(auto, unfolding(arithmetic::specs::Refusals::number_of, arithmetic::specs::Refusals::number))]
+
 ghost use Rattle.std.specs.Prelude.{◌≡◌, ◌&&◌, cond, ◌≤◌, leb, ltb, length, get_or};
 ghost use Rattle.std.specs.Float.Ieee.{lt};
 ghost use Rattle.arithmetic.specs.Floats.{+0};
+ghost use Rattle.arithmetic.specs.Refusals.{number_of};
 ghost use Rattle.models.specs.Limits.{most_components, most_groups, most_listed};
 ghost use Rattle.models.specs.Faults.{between, all_to};
 ghost use Rattle.models.specs.Model.{by_model};
 ghost use Rattle.models.specs.Values.{start};
 ghost use Rattle.mixture.specs.Holdings.{held};
-ghost use Rattle.mixture.specs.Memory.{Memory, OfLengths, short};
+ghost use Rattle.mixture.specs.Memory.{Memory, OfLengths, memory, short};
 ghost use Rattle.mixture.specs.Layout.{data_in};
 ghost use Rattle.mixture.specs.Faults.{below, case_fault, in_range, head_fault};
 ghost use Rattle.mixture.specs.Faults.{setting_fault, fractions_fault, ready_fault, query_fault};
 
 use crate::head::Head;
 use crate::setting::Setting;
+use arithmetic::Refusal;
 use models::limits::{COMPONENTS, GROUPS, PLACES, TABLE};
-use models::model::{by_model, is_model, model_of, table_width};
+use models::model::{by_model, model_of, table_width};
 use models::{Model, Quantity};
 
 // The least lengths of the three lent slices.
@@ -25,20 +29,37 @@ pub const CELLS: usize = TABLE;
 
 pub const MARKS: usize = TABLE;
 
+// How long the three lent slices are. They are lent apart, since each call writes others of them.
+#[derive(Clone, Copy)]
+pub struct Lengths {
+    pub values: usize,
+    pub cells: usize,
+    pub marks: usize,
+}
+
+impl Lengths {
+    // Of three slices.
+    pub fn of(values: &[f64], cells: &[f64], marks: &[u8]) -> Lengths
+        ensures { OfLengths result.values result.cells result.marks
+            (memory values.now cells.now marks.now) }
+    {
+        Lengths {
+            values: values.len(),
+            cells: cells.len(),
+            marks: marks.len(),
+        }
+    }
+}
+
 // 1: a lent slice is short.
-pub fn memory_fault(lv: usize, lc: usize, lm: usize) -> u8
-    ensures { result ≡ cond (short lv lc lm) 1 0 }
+#[tactic(auto, unfolding(arithmetic::specs::Refusals::number_of, arithmetic::specs::Refusals::number, crate::specs::Memory::short))]
+pub fn memory_fault(lent: Lengths) -> Result<(), Refusal>
+    ensures { number_of result ≡ cond (short lent.values lent.cells lent.marks) 1 0 }
 {
-    if lv < VALUES {
-        return 1;
+    if lent.values < VALUES || lent.cells < CELLS || lent.marks < MARKS {
+        return Err(Refusal::Memory);
     }
-    if lc < CELLS {
-        return 1;
-    }
-    if lm < MARKS {
-        return 1;
-    }
-    0
+    Ok(())
 }
 
 // Whether the first groups, as many as there are places, are below ng.
@@ -46,12 +67,7 @@ fn groups_below(groups: &[u8], places: usize, ng: usize) -> bool
     requires { places ≤ length groups.now }
     ensures { result ≡ all_to places (λ p. ltb (get_or groups.now p 0) ng) }
 {
-    for p in 0..places {
-        if ng <= (groups[p] as usize) {
-            return false;
-        }
-    }
-    true
+    groups[..places].iter().all(|group| (*group as usize) < ng)
 }
 
 // Whether ng, the lengths of n lists and their groups are in range.
@@ -61,13 +77,7 @@ fn lists_in_range(n: usize, ng: usize, lens: [u8; COMPONENTS], groups: [u8; PLAC
         && all_to n (λ i. leb (get_or lens i 0) most_listed)
         && all_to (start lens n) (λ p. ltb (get_or groups p 0) ng)) }
 {
-    if ng < 1 {
-        return false;
-    }
-    if GROUPS < ng {
-        return false;
-    }
-    if !models::faults::lists_within(&lens[..], n) {
+    if ng < 1 || GROUPS < ng || !models::faults::lists_within(&lens[..], n) {
         return false;
     }
     let places = models::groups::start_of(&lens[..], n);
@@ -79,77 +89,67 @@ fn in_range(head: Head) -> bool
     ensures { (m : Memory) → result ≡ in_range (data_in m head) }
 {
     let n = head.n;
-    if n < 1 {
+    if n < 1 || COMPONENTS < n {
         return false;
     }
-    if COMPONENTS < n {
-        return false;
-    }
-    let model = model_of(head.model);
-    match model {
-        Model::Wilson => true,
-        Model::Uniquac => true,
-        Model::Nrtl => true,
-        Model::Unifac => {
-            let lens = head.lens;
-            let groups = head.groups;
-            lists_in_range(n, head.ng, lens, groups)
-        }
+    match model_of(head.model) {
+        Model::Wilson | Model::Uniquac | Model::Nrtl => true,
+        Model::Unifac => lists_in_range(n, head.ng, head.lens, head.groups),
     }
 }
 
 // 1: a lent slice is short or the head is out of range. 8: no model. Memory counts by its lengths alone.
-pub fn head_fault(lv: usize, lc: usize, lm: usize, head: Head) -> u8
-    ensures { (m : Memory) → OfLengths lv lc lm m → result ≡ head_fault m head }
+pub fn head_fault(lent: Lengths, head: Head) -> Result<(), Refusal>
+    ensures { (m : Memory) → OfLengths lent.values lent.cells lent.marks m
+        → number_of result ≡ head_fault m head }
 {
-    let fault = memory_fault(lv, lc, lm);
-    if fault != 0 {
-        return fault;
-    }
+    memory_fault(lent)?;
     if head.model == 0 {
-        return 8;
+        return Err(Refusal::NoModel);
     }
-    if !is_model(head.model as usize) {
-        return 1;
+    let known = Model::try_from(usize::from(head.model)).is_ok();
+    if known && in_range(head) {
+        return Ok(());
     }
-    if in_range(head) {
-        return 0;
-    }
-    1
+    Err(Refusal::Memory)
 }
 
 // 10: i isn't below m or j isn't below n.
-fn pair_fault(i: usize, m: usize, j: usize, n: usize) -> u8
-    ensures { result ≡ cond (below i m j n) 0 10 }
+fn pair_fault(i: usize, m: usize, j: usize, n: usize) -> Result<(), Refusal>
+    ensures { number_of result ≡ cond (below i m j n) 0 10 }
 {
-    if i < m {
-        if j < n {
-            return 0;
-        }
+    if i < m && j < n {
+        return Ok(());
     }
-    10
+    Err(Refusal::NoSuchCase)
 }
 
 // 10: i isn't below k, or j isn't within the list of i. 4: the count is below 0.
-fn count_fault(lens: &[u8], k: usize, i: usize, j: usize, v: f64) -> u8
+fn count_fault(lens: &[u8], k: usize, i: usize, j: usize, v: f64) -> Result<(), Refusal>
     requires { k ≤ length lens.now }
-    ensures { result ≡ cond (below i k j (get_or lens.now i 0)) (cond (lt v +0) 4 0) 10 }
+    ensures { number_of result
+        ≡ cond (below i k j (get_or lens.now i 0)) (cond (lt v +0) 4 0) 10 }
 {
-    if i < k {
-        if j < (lens[i] as usize) {
-            if v < 0.0 {
-                return 4;
-            }
-            return 0;
+    if i < k && j < lens[i] as usize {
+        if v < 0.0 {
+            return Err(Refusal::Count);
         }
+        return Ok(());
     }
-    10
+    Err(Refusal::NoSuchCase)
 }
 
 // 4 and 10 of a count, for a head whose n is in range.
-fn list_fault(n: usize, lens: [u8; COMPONENTS], model: Model, i: usize, j: usize, v: f64) -> u8
+fn list_fault(
+    n: usize,
+    lens: [u8; COMPONENTS],
+    model: Model,
+    i: usize,
+    j: usize,
+    v: f64,
+) -> Result<(), Refusal>
     requires { n ≤ most_components }
-    ensures { result
+    ensures { number_of result
         ≡ cond (below i (by_model model 0 0 0 n) j (get_or lens i 0)) (cond (lt v +0) 4 0) 10 }
 {
     let k = by_model(model, 0, 0, 0, n);
@@ -158,14 +158,14 @@ fn list_fault(n: usize, lens: [u8; COMPONENTS], model: Model, i: usize, j: usize
 
 // 10: no such case or index for this model. 4: a count is below 0. 14: a tolerance is out of range. The lent
 // values don't count.
-fn case_fault(head: Head, s: Setting) -> u8
+fn case_fault(head: Head, s: Setting) -> Result<(), Refusal>
     requires { head.n ≤ most_components }
-    ensures { (m : Memory) → result ≡ case_fault (held (data_in m head)) s }
+    ensures { (m : Memory) → number_of result ≡ case_fault (held (data_in m head)) s }
 {
     let model = model_of(head.model);
     let w = table_width(model, head.n, head.ng);
     match s {
-        Setting::Temperature(_) => 0,
+        Setting::Temperature(_) => Ok(()),
         Setting::Entry(i, j, _) => {
             let k = by_model(model, w, w, w, 0);
             pair_fault(i, k, j, k)
@@ -178,62 +178,47 @@ fn case_fault(head: Head, s: Setting) -> u8
             let k = by_model(model, 1, 2, 0, 2);
             pair_fault(i, w, which, k)
         }
-        Setting::Count(i, j, v) => {
-            let lens = head.lens;
-            list_fault(head.n, lens, model, i, j, v)
-        }
+        Setting::Count(i, j, v) => list_fault(head.n, head.lens, model, i, j, v),
         Setting::Tolerance(e) => models::faults::tolerance_fault(e),
     }
 }
 
 // What a setting is declined for. Memory counts by its lengths alone.
-pub fn setting_fault(lv: usize, lc: usize, lm: usize, head: Head, s: Setting) -> u8
-    ensures { (m : Memory) → OfLengths lv lc lm m → result ≡ setting_fault m head s }
+pub fn setting_fault(lent: Lengths, head: Head, s: Setting) -> Result<(), Refusal>
+    ensures { (m : Memory) → OfLengths lent.values lent.cells lent.marks m
+        → number_of result ≡ setting_fault m head s }
 {
-    let fault = head_fault(lv, lc, lm, head);
-    if fault != 0 {
-        return fault;
-    }
+    head_fault(lent, head)?;
     case_fault(head, s)
 }
 
 // What fractions are declined for. Memory counts by its lengths alone.
-pub fn fractions_fault(lv: usize, lc: usize, lm: usize, head: Head, x: &[f64]) -> u8
-    ensures { (m : Memory) → OfLengths lv lc lm m
-        → result ≡ fractions_fault m head x.now }
+pub fn fractions_fault(lent: Lengths, head: Head, x: &[f64]) -> Result<(), Refusal>
+    ensures { (m : Memory) → OfLengths lent.values lent.cells lent.marks m
+        → number_of result ≡ fractions_fault m head x.now }
 {
-    let fault = head_fault(lv, lc, lm, head);
-    if fault != 0 {
-        return fault;
-    }
+    head_fault(lent, head)?;
     models::faults::mix_fault(head.tolerance, head.n, x)
 }
 
 // Whether a model, T and fractions are there: 1 and 8; 9, T unset; 9, fractions unset. Memory counts by its
 // lengths alone.
-pub fn ready_fault(lv: usize, lc: usize, lm: usize, head: Head) -> u8
-    ensures { (m : Memory) → OfLengths lv lc lm m → result ≡ ready_fault m head }
+pub fn ready_fault(lent: Lengths, head: Head) -> Result<(), Refusal>
+    ensures { (m : Memory) → OfLengths lent.values lent.cells lent.marks m
+        → number_of result ≡ ready_fault m head }
 {
-    let fault = head_fault(lv, lc, lm, head);
-    if fault != 0 {
-        return fault;
+    head_fault(lent, head)?;
+    if head.has_t && head.has_x {
+        return Ok(());
     }
-    if !head.has_t {
-        return 9;
-    }
-    if !head.has_x {
-        return 9;
-    }
-    0
+    Err(Refusal::Unset)
 }
 
 // What a query is declined for; 7 comes last, no component i. Memory counts by its lengths alone.
-pub fn query_fault(lv: usize, lc: usize, lm: usize, head: Head, q: Quantity) -> u8
-    ensures { (m : Memory) → OfLengths lv lc lm m → result ≡ query_fault m head q }
+pub fn query_fault(lent: Lengths, head: Head, q: Quantity) -> Result<(), Refusal>
+    ensures { (m : Memory) → OfLengths lent.values lent.cells lent.marks m
+        → number_of result ≡ query_fault m head q }
 {
-    let fault = ready_fault(lv, lc, lm, head);
-    if fault != 0 {
-        return fault;
-    }
+    ready_fault(lent, head)?;
     models::faults::index_fault(head.n, q)
 }

@@ -1,16 +1,16 @@
 // The head, which goes in and comes back by value.
 ghost use Rattle.std.specs.Prelude.{◌≡◌, [], ◌≤◌, length};
-ghost use Rattle.arithmetic.specs.Floats.{+0};
 ghost use Rattle.models.specs.Faults.{usual_tolerance};
 ghost use Rattle.models.specs.Limits.{most_components, most_places};
 ghost use Rattle.mixture.specs.Lists.{padded};
-ghost use Rattle.mixture.specs.Calls.{unset_head, fresh_head, no_head, head_with};
+ghost use Rattle.mixture.specs.Calls.{fresh_head, no_head};
 
-use arithmetic::slices::copy_bytes;
 use models::faults::usual_tolerance;
 use models::limits::{COMPONENTS, PLACES};
 
 // The model's number is 0 for none, 1 Wilson, 2 UNIQUAC, 3 NRTL, 4 UNIFAC. Groups stand list after list.
+// The model is a number, and T and the fractions have a flag beside them: any head of C's is taken, and given
+// back bit for bit where a call is declined (`Declined` in specs/Writes.antt).
 #[derive(Clone, Copy)]
 pub struct Head {
     pub model: u8,
@@ -25,56 +25,44 @@ pub struct Head {
     pub tolerance: f64,
 }
 
-// The fractions, with 0 in the places past them.
-pub fn pad_fractions(s: &[f64]) -> [f64; COMPONENTS]
-    requires { length s.now ≤ most_components }
-    ensures { result ≡ padded most_components +0 s.now }
+// The items, with one more in the places past them.
+pub fn padded<T: Copy, const N: usize>(items: &[T], rest: T) -> [T; N]
+    requires { length items.now ≤ N }
+    ensures { result ≡ padded N rest items.now }
 {
-    let mut r = [0.0; COMPONENTS];
-    for k in 0..s.len() {
-        r[k] = s[k];
-    }
-    r
-}
-
-// A head with a tolerance, T and fractions unset.
-fn unset_head(
-    tolerance: f64,
-    model: u8,
-    n: usize,
-    ng: usize,
-    lens: [u8; COMPONENTS],
-    groups: [u8; PLACES],
-) -> Head
-    ensures { result ≡ unset_head tolerance model n ng lens groups }
-{
-    Head {
-        model: model,
-        n: n,
-        ng: ng,
-        lens: lens,
-        groups: groups,
-        t: 0.0,
-        x: [0.0; COMPONENTS],
-        has_t: false,
-        has_x: false,
-        tolerance: tolerance,
-    }
+    let mut all = [rest; N];
+    all[..items.len()].copy_from_slice(items);
+    all
 }
 
 // The head without a model.
 pub fn no_head() -> Head
     ensures { result ≡ no_head }
 {
-    unset_head(0.0, 0, 0, 0, [0u8; COMPONENTS], [0u8; PLACES])
+    Head {
+        model: 0,
+        n: 0,
+        ng: 0,
+        lens: [0; COMPONENTS],
+        groups: [0; PLACES],
+        t: 0.0,
+        x: [0.0; COMPONENTS],
+        has_t: false,
+        has_x: false,
+        tolerance: 0.0,
+    }
 }
 
 // The head of a load without lists.
 pub fn bare_head(model: u8, n: usize) -> Head
     ensures { result ≡ fresh_head usual_tolerance model n 0 [] [] }
 {
-    let tolerance = usual_tolerance();
-    unset_head(tolerance, model, n, 0, [0u8; COMPONENTS], [0u8; PLACES])
+    Head {
+        model,
+        n,
+        tolerance: usual_tolerance(),
+        ..no_head()
+    }
 }
 
 // The same with lists.
@@ -83,37 +71,10 @@ pub fn listed_head(model: u8, n: usize, ng: usize, lens: &[u8], groups: &[u8]) -
     ensures { result
         ≡ fresh_head usual_tolerance model n ng lens.now groups.now }
 {
-    let mut all_lens = [0u8; COMPONENTS];
-    copy_bytes(lens, &mut all_lens);
-    let mut all_groups = [0u8; PLACES];
-    copy_bytes(groups, &mut all_groups);
-    let tolerance = usual_tolerance();
-    unset_head(tolerance, model, n, ng, all_lens, all_groups)
-}
-
-// The head with another T, other fractions and another tolerance.
-pub fn head_with(
-    head: Head,
-    t: f64,
-    has_t: bool,
-    x: [f64; COMPONENTS],
-    has_x: bool,
-    tolerance: f64,
-) -> Head
-    ensures { result ≡ head_with head t has_t x has_x tolerance }
-{
-    let lens = head.lens;
-    let groups = head.groups;
     Head {
-        model: head.model,
-        n: head.n,
-        ng: head.ng,
-        lens: lens,
-        groups: groups,
-        t: t,
-        x: x,
-        has_t: has_t,
-        has_x: has_x,
-        tolerance: tolerance,
+        ng,
+        lens: padded(lens, 0),
+        groups: padded(groups, 0),
+        ..bare_head(model, n)
     }
 }

@@ -5,6 +5,7 @@ pub mod answers;
 pub mod faults;
 pub mod fractions;
 pub mod head;
+pub mod inputs;
 pub mod load;
 pub mod open;
 pub mod query;
@@ -13,7 +14,7 @@ pub mod set;
 pub mod setting;
 pub mod stale;
 
-pub use answers::{Answer, Reply};
+pub use answers::{Answer, Outcome, Reply};
 pub use head::Head;
 pub use models::Model;
 pub use setting::Setting;

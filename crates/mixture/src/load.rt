@@ -1,22 +1,24 @@
 // Loading a model: document 01, "Mixture".
-ghost use Rattle.std.specs.Prelude.{◌≡◌, List, ◌≤◌, length, Float};
+ghost use Rattle.std.specs.Prelude.{◌≡◌, ◌≤◌, ◌++◌, drop, length};
 ghost use Rattle.models.specs.declared.model.Model.TheVariants.{Unifac};
 ghost use Rattle.mixture.specs.Lists.{written};
 ghost use Rattle.mixture.specs.Holdings.{held};
 ghost use Rattle.models.specs.Limits.{most_components, most_groups, most_places};
-ghost use Rattle.models.specs.Model.{table_width, ModelData, model_data};
+ghost use Rattle.models.specs.Model.{table_width, ModelData};
 ghost use Rattle.models.specs.Model.{given as data_given};
-ghost use Rattle.mixture.specs.Memory.{memory, left, least_marks};
+ghost use Rattle.arithmetic.specs.Refusals.{number_of};
+ghost use Rattle.mixture.specs.Faults.{load_fault};
+ghost use Rattle.mixture.specs.Memory.{Memory, OfLengths, memory, left, least_marks};
 ghost use Rattle.mixture.specs.Layout.{cell_at};
 ghost use Rattle.mixture.specs.Calls.{loaded_head, after_load};
 
-use crate::answers::{Answer, Reply};
-use crate::faults::memory_fault;
+use crate::answers::{Outcome, Reply};
+use crate::faults::{Lengths, memory_fault};
 use crate::head::{Head, bare_head, listed_head};
 use crate::stale::{Block, stale};
-use arithmetic::slices::copy;
-use models::Model;
-use models::model::{has_groups, model_number, table_width};
+use arithmetic::Refusal;
+use models::model::{has_groups, table_width};
+use models::{Data, Model};
 
 // Writes 0 to the marks of all the model's cells.
 fn stale_cells(model: Model, n: usize, ng: usize, marks: &mut [u8])
@@ -38,54 +40,55 @@ fn stale_cells(model: Model, n: usize, ng: usize, marks: &mut [u8])
 }
 
 // The head of a load that is accepted, with 0 in its unset and unused fields.
-fn loaded_head(model: Model, n: usize, ng: usize, lens: &[u8], groups: &[u8]) -> Head
-    requires { model ≡ Unifac → (length lens.now ≤ most_components)
-        × (length groups.now ≤ most_places) }
-    ensures { (v : List Float) → result
-        ≡ loaded_head (model_data model n ng lens.now groups.now v) }
+fn loaded_head(given: Data) -> Head
+    requires { given.model ≡ Unifac → (length given.lens.now ≤ most_components)
+        × (length given.groups.now ≤ most_places) }
+    ensures { result ≡ loaded_head (data_given given.entry) }
 {
-    let number = model_number(model);
-    if has_groups(model) {
-        return listed_head(number, n, ng, lens, groups);
+    let number = u8::from(given.model);
+    if has_groups(given.model) {
+        return listed_head(number, given.n, given.ng, given.lens, given.groups);
     }
-    bare_head(number, n)
+    bare_head(number, given.n)
+}
+
+// 1, a lent slice is short; then what the models decline. Memory counts by its lengths alone.
+fn load_fault(lent: Lengths, given: Data) -> Result<(), Refusal>
+    ensures { (m : Memory) → OfLengths lent.values lent.cells lent.marks m
+        → number_of result ≡ load_fault m (data_given given.entry) }
+{
+    memory_fault(lent)?;
+    given.fault()
+}
+
+// Puts the values in the first places; the others stay. A loop, since the library's copy of a slice asks the
+// host for memmove, which nothing else here needs.
+fn store(from: &[f64], to: &mut [f64])
+    requires { length from.now ≤ length to.old }
+    ensures { to.new ≡ from.now ++ drop (length from.now) to.old }
+{
+    for k in 0..from.len() {
+        to[k] = from[k];
+    }
 }
 
 // Writes the model's values, unsets T and fractions and makes all cells stale.
-pub fn load(
-    values: &mut [f64],
-    cells: &[f64],
-    marks: &mut [u8],
-    head: Head,
-    model: Model,
-    n: usize,
-    ng: usize,
-    lens: &[u8],
-    groups: &[u8],
-    given: &[f64],
-) -> Reply
+pub fn load(values: &mut [f64], cells: &[f64], marks: &mut [u8], head: Head, given: Data) -> Reply
     ensures { left (memory values.new cells.now marks.new) result
-        ≡ after_load (memory values.old cells.now marks.old) head
-        (data_given model n ng lens groups given) }
+        ≡ after_load (memory values.old cells.now marks.old) head (data_given given.entry) }
 {
-    let short = memory_fault(values.len(), cells.len(), marks.len());
-    if short != 0 {
-        return Reply {
-            head: head,
-            answer: Answer::Refused(short),
-        };
-    }
-    let fault = models::faults::data_fault(model, n, ng, lens, groups, given);
-    if fault != 0 {
-        return Reply {
-            head: head,
-            answer: Answer::Refused(fault),
-        };
-    }
-    copy(given, values);
-    stale_cells(model, n, ng, marks);
-    Reply {
-        head: loaded_head(model, n, ng, lens, groups),
-        answer: Answer::Done,
+    match load_fault(Lengths::of(values, cells, marks), given) {
+        Ok(()) => {
+            store(given.values, values);
+            stale_cells(given.model, given.n, given.ng, marks);
+            Reply {
+                head: loaded_head(given),
+                answer: Ok(Outcome::Done),
+            }
+        }
+        Err(refusal) => Reply {
+            head,
+            answer: Err(refusal),
+        },
     }
 }

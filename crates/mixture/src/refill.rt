@@ -1,93 +1,45 @@
 // A query's stale cells: each is worked out from its inputs, and marked 1.
-ghost use Rattle.std.specs.Prelude.{◌≡◌, true, false, ◌+◌, ◌*◌, ◌-◌, ◌≤◌, ◌<◌, length};
-ghost use Rattle.arithmetic.specs.Tables.{at, Filled};
+ghost use Rattle.std.specs.Prelude.{◌≡◌, Bool, true, false, ℕ, ◌+◌, ◌*◌, ◌-◌, ◌≤◌, ◌<◌, length};
+ghost use Rattle.arithmetic.specs.Exponential.{exp_of};
+ghost use Rattle.arithmetic.specs.Tables.{at, flat, Filled, Vector};
 ghost use Rattle.models.specs.Limits.{most_components, most_groups, table_size};
-ghost use Rattle.models.specs.Model.{has_groups};
 ghost use Rattle.mixture.specs.Lists.{how_many};
-ghost use Rattle.mixture.specs.Steps.Refills.{argument_in, argument_of, cell_in, packed};
-ghost use Rattle.mixture.specs.Steps.Refills.{row_count, stale_cell, stale_in, table_count, unmarked};
-ghost use Rattle.mixture.specs.Steps.Refills.{AllStale, Laid, Lifted, OffDiagonalTaken, RowFits};
-ghost use Rattle.mixture.specs.Steps.Refills.{RowGathered, RowRefilled, RowTaken, SquareFits};
-ghost use Rattle.mixture.specs.Steps.Refills.{TableFits, TableRefilled, TableTaken, TakeFits};
+ghost use Rattle.mixture.specs.Steps.Refills.{cell_of, row_count, stale_cell, stale_in, table_count, unmarked};
+ghost use Rattle.mixture.specs.Steps.Refills.{AllStale, Gathered, OffDiagonalTaken, RowFits, RowRefilled};
+ghost use Rattle.mixture.specs.Steps.Refills.{SquareFits, Swapped, TableFits, TableRefilled, Takes};
 
-use models::Model;
+use crate::inputs::Inputs;
 use models::limits::{COMPONENTS, GROUPS, PAIRS};
-use models::model::has_groups;
-
-// What goes with every row of a table: the model, the number w of rows, how far apart they start in the
-// inputs, T, and log(T), which only UNIFAC reads.
-#[derive(Clone, Copy)]
-pub struct Rows {
-    pub model: Model,
-    pub w: usize,
-    pub stride: usize,
-    pub t: f64,
-    pub ln: f64,
-}
 
 // The mark of a fresh cell.
 const FRESH: u8 = 1;
 
-// What entry j of row i is the exp of. `row` starts at the row's energies, α or td entries; `tau` at its τ
-// at T, which only NRTL reads.
-fn argument(rows: Rows, row: &[f64], tau: &[f64], i: usize, j: usize) -> f64
-    requires { (i < length row.now) × (j * 5 + 5 ≤ length row.now) × (j < length tau.now) }
-    ensures { result ≡ argument_in rows row.now tau.now i j }
+// Whether i, j is a cell with a mark other than 1, `diagonal` being whether there are cells on the diagonal.
+fn is_stale(diagonal: bool, mark: u8, i: usize, j: usize) -> bool
+    ensures { result ≡ stale_cell diagonal mark i j }
 {
-    let model = rows.model;
-    match model {
-        Model::Wilson => models::exponentials::argument(row, rows.t, i, j),
-        Model::Uniquac => models::exponentials::argument(row, rows.t, i, j),
-        Model::Nrtl => models::nrtl::argument(row[j], tau[j]),
-        Model::Unifac => models::unifac::argument(row, rows.t, rows.ln, j),
-    }
+    mark != FRESH && (diagonal || i != j)
 }
 
-// Entry j of row i. The slices are those of `argument`.
-fn exponential(rows: Rows, row: &[f64], tau: &[f64], i: usize, j: usize) -> f64
-    requires { (i < length row.now) × (j * 5 + 5 ≤ length row.now) × (j < length tau.now) }
-    ensures { result ≡ cell_in rows row.now tau.now i j }
-{
-    let model = rows.model;
-    match model {
-        Model::Wilson => models::exponentials::energy(row, rows.t, i, j),
-        Model::Uniquac => models::exponentials::energy(row, rows.t, i, j),
-        Model::Nrtl => models::nrtl::exponential(row[j], tau[j]),
-        Model::Unifac => models::unifac::psi(row, rows.t, rows.ln, j),
-    }
-}
-
-// Whether i, j is a cell with a mark other than 1. Only UNIFAC has cells on the diagonal.
-fn is_stale(model: Model, mark: u8, i: usize, j: usize) -> bool
-    ensures { result ≡ stale_cell model mark i j }
-{
-    if mark == FRESH {
-        return false;
-    }
-    if i != j {
-        return true;
-    }
-    has_groups(model)
-}
-
-// Works out the stale cells of row i one by one, and counts them. All four slices start at that row.
-fn refill_cells(
-    rows: Rows,
-    row: &[f64],
-    tau: &[f64],
+// Each stale cell of row i takes its value and the mark 1; the answer is their number. The value goes by the
+// column and by how many cells before it are stale. Both slices start at the row.
+fn fill_stale<I: Inputs, F: Fn(usize, usize) -> f64>(
+    inputs: I,
     i: usize,
     cells: &mut [f64],
     marks: &mut [u8],
+    value: F,
 ) -> usize
-    requires { RowFits rows.w i row.now tau.now cells.old
-        × (rows.w ≤ length marks.old) }
-    ensures { RowRefilled rows row tau i cells marks result }
+    requires fits { RowFits (I.rows inputs) i cells.old marks.old }
+    requires asked { (j k : ℕ) → j < I.rows inputs → k ≤ j → F.pre value j k }
+    ensures { (f : Vector)
+        → Takes (I.rows inputs) (stale_in I.diagonal marks.old i) (F.post value) f
+        → RowRefilled I.diagonal (I.rows inputs) f i cells marks result }
 {
-    let model = rows.model;
     let mut count: usize = 0;
-    for j in 0..rows.w {
-        if is_stale(model, marks[j], i, j) {
-            cells[j] = exponential(rows, row, tau, i, j);
+    for j in 0..inputs.rows() {
+        if is_stale(inputs.has_diagonal(), marks[j], i, j) {
+            cells[j] = value(j, count);
             marks[j] = FRESH;
             count += 1;
         }
@@ -95,14 +47,29 @@ fn refill_cells(
     count
 }
 
-// How many of the first n marks are other than 1.
-fn count_unmarked(n: usize, marks: &[u8]) -> u16
-    requires { (n ≤ table_size) × (n ≤ length marks.now) }
-    ensures { result ≡ how_many n (unmarked marks.now) }
+// Works out the stale cells of row i one by one.
+fn refill_cells<I: Inputs>(inputs: I, i: usize, cells: &mut [f64], marks: &mut [u8]) -> usize
+    requires { RowFits (I.rows inputs) i cells.old marks.old }
+    ensures { RowRefilled I.diagonal (I.rows inputs) (λ j. exp_of (I.argument inputs i j)) i
+        cells marks result }
+{
+    fill_stale(
+        inputs,
+        i,
+        cells,
+        marks,
+        |j, _| arithmetic::exp(inputs.argument(i, j)),
+    )
+}
+
+// How many marks are other than 1. The count has two bytes, so that more marks are counted side by side.
+fn count_unmarked(marks: &[u8]) -> u16
+    requires { length marks.now ≤ table_size }
+    ensures { result ≡ how_many (length marks.now) (unmarked marks.now) }
 {
     let mut count: u16 = 0;
-    for c in 0..n {
-        if marks[c] != FRESH {
+    for mark in marks {
+        if *mark != FRESH {
             count += 1;
         }
     }
@@ -110,74 +77,42 @@ fn count_unmarked(n: usize, marks: &[u8]) -> u16
 }
 
 // Writes what the stale cells of row i are the exp of, one after the other.
-fn gather(rows: Rows, row: &[f64], tau: &[f64], marks: &[u8], i: usize, out: &mut [f64])
-    requires { RowFits rows.w i row.now tau.now out.old × (rows.w ≤ length marks.now) }
-    ensures { let count = row_count rows.model rows.w marks.now i in
-        RowGathered rows row tau marks i out count }
+fn gather<I: Inputs>(inputs: I, i: usize, marks: &[u8], out: &mut [f64])
+    requires { RowFits (I.rows inputs) i out.old marks.now }
+    ensures { Gathered (I.rows inputs) (stale_in I.diagonal marks.now i) (I.argument inputs i) out.new
+        (row_count I.diagonal (I.rows inputs) marks.now i) }
 {
-    let model = rows.model;
     let mut count: usize = 0;
-    for j in 0..rows.w {
-        if is_stale(model, marks[j], i, j) {
-            out[count] = argument(rows, row, tau, i, j);
+    for j in 0..inputs.rows() {
+        if is_stale(inputs.has_diagonal(), marks[j], i, j) {
+            out[count] = inputs.argument(i, j);
             count += 1;
         }
     }
 }
 
-// The same, `count` being their number. Where each place of the row is a stale cell, which only UNIFAC's can
-// be, they are written without a test for each.
-fn gather_row(
-    rows: Rows,
-    row: &[f64],
-    tau: &[f64],
-    marks: &[u8],
-    i: usize,
-    count: usize,
-    out: &mut [f64],
-)
-    requires { RowFits rows.w i row.now tau.now out.old
-        × (rows.w ≤ length marks.now)
-        × (count ≡ row_count rows.model rows.w marks.now i) }
-    ensures { RowGathered rows row tau marks i out count }
+// The same, `count` being their number. Where each place of the row is a stale cell they are written without
+// a test for each.
+fn gather_row<I: Inputs>(inputs: I, i: usize, marks: &[u8], count: usize, out: &mut [f64])
+    requires { RowFits (I.rows inputs) i out.old marks.now
+        × (count ≡ row_count I.diagonal (I.rows inputs) marks.now i) }
+    ensures { Gathered (I.rows inputs) (stale_in I.diagonal marks.now i) (I.argument inputs i) out.new
+        count }
 {
-    let model = rows.model;
-    if has_groups(model) {
-        if count == rows.w {
-            return models::unifac::fill_arguments(row, rows.t, rows.ln, rows.w, out);
-        }
-    }
-    gather(rows, row, tau, marks, i, out)
-}
-
-// Puts what was gathered to the stale cells of row i, one after the other.
-fn put_stale(model: Model, w: usize, worked: &[f64], i: usize, cells: &mut [f64], marks: &mut [u8])
-    requires { (w ≤ length worked.now)
-        × (w ≤ length cells.old)
-        × (w ≤ length marks.old) }
-    ensures { let stale = stale_in model marks.old i in
-        RowTaken model w (packed stale worked.now) i cells marks }
-{
-    let mut count: usize = 0;
-    for j in 0..w {
-        if is_stale(model, marks[j], i, j) {
-            cells[j] = worked[count];
-            marks[j] = FRESH;
-            count += 1;
-        }
+    if count == inputs.rows() {
+        inputs.fill_arguments(i, out);
+    } else {
+        gather(inputs, i, marks, out);
     }
 }
 
 // How many cells of row i are stale.
-fn count_row(model: Model, w: usize, marks: &[u8], i: usize) -> usize
-    requires { (i < w) × (w ≤ most_groups) × (w ≤ length marks.now) }
-    ensures { result ≡ row_count model w marks.now i }
+fn count_row<I: Inputs>(inputs: I, i: usize, marks: &[u8]) -> usize
+    requires { (i < I.rows inputs) × (I.rows inputs ≤ length marks.now) }
+    ensures { result ≡ row_count I.diagonal (I.rows inputs) marks.now i }
 {
-    let count = count_unmarked(w, marks) as usize;
-    if has_groups(model) {
-        return count;
-    }
-    if marks[i] == FRESH {
+    let count = count_unmarked(&marks[..inputs.rows()]) as usize;
+    if inputs.has_diagonal() || marks[i] == FRESH {
         return count;
     }
     count - 1
@@ -185,51 +120,35 @@ fn count_row(model: Model, w: usize, marks: &[u8], i: usize) -> usize
 
 // Works out the stale cells of row i, and answers with their number: exp runs over so many places, side by
 // side. A short row goes one by one.
-fn refill_row(
-    rows: Rows,
-    row: &[f64],
-    tau: &[f64],
-    i: usize,
-    cells: &mut [f64],
-    marks: &mut [u8],
-) -> usize
-    requires { RowFits rows.w i row.now tau.now cells.old
-        × (rows.w ≤ length marks.old) }
-    ensures { RowRefilled rows row tau i cells marks result }
+fn refill_row<I: Inputs>(inputs: I, i: usize, cells: &mut [f64], marks: &mut [u8]) -> usize
+    requires { RowFits (I.rows inputs) i cells.old marks.old }
+    ensures { RowRefilled I.diagonal (I.rows inputs) (λ j. exp_of (I.argument inputs i j)) i
+        cells marks result }
 {
-    let model = rows.model;
-    if rows.w < 4 {
-        return refill_cells(rows, row, tau, i, cells, marks);
+    if inputs.rows() < 4 {
+        return refill_cells(inputs, i, cells, marks);
     }
-    let count = count_row(model, rows.w, marks, i);
+    let count = count_row(inputs, i, marks);
     if count == 0 {
         return 0;
     }
     let mut worked = [0.0; GROUPS];
-    gather_row(rows, row, tau, marks, i, count, &mut worked[..]);
+    gather_row(inputs, i, marks, count, &mut worked[..]);
     arithmetic::exp_each(&mut worked[..], count);
-    put_stale(model, rows.w, &worked[..], i, cells, marks);
-    count
+    fill_stale(inputs, i, cells, marks, |_, k| worked[k])
 }
 
-// Works out every stale cell, row by row, and counts them. Row i of `table` and of `tau` starts at i·stride.
-fn refill_rows(rows: Rows, table: &[f64], tau: &[f64], cells: &mut [f64], marks: &mut [u8]) -> usize
-    requires { TableFits rows.w rows.stride table.now tau.now cells.old
-        × (rows.w * rows.w ≤ length marks.old) }
-    ensures { TableRefilled rows table tau cells marks result }
+// Works out every stale cell, row by row, and counts them.
+fn refill_rows<I: Inputs>(inputs: I, cells: &mut [f64], marks: &mut [u8]) -> usize
+    requires { TableFits (I.rows inputs) cells.old marks.old }
+    ensures { TableRefilled I.diagonal (I.rows inputs) (cell_of (I.rows inputs) (I.argument inputs))
+        cells marks result }
 {
+    let w = inputs.rows();
     let mut count: usize = 0;
-    for i in 0..rows.w {
-        let place = i * rows.w;
-        let start = i * rows.stride;
-        count += refill_row(
-            rows,
-            &table[start..],
-            &tau[start..],
-            i,
-            &mut cells[place..],
-            &mut marks[place..],
-        );
+    for i in 0..w {
+        let place = i * w;
+        count += refill_row(inputs, i, &mut cells[place..], &mut marks[place..]);
     }
     count
 }
@@ -249,193 +168,123 @@ fn count_diagonal(w: usize, marks: &[u8]) -> u16
 }
 
 // How many cells are stale: marks other than 1, less those on a diagonal that has no cells.
-fn count_table(model: Model, w: usize, marks: &[u8]) -> usize
-    requires { (w ≤ most_groups) × (w * w ≤ length marks.now) }
-    ensures { result ≡ table_count model w marks.now }
+fn count_table<I: Inputs>(inputs: I, marks: &[u8]) -> usize
+    requires { I.rows inputs * I.rows inputs ≤ length marks.now }
+    ensures { result ≡ table_count I.diagonal (I.rows inputs) marks.now }
 {
-    let count = count_unmarked(w * w, marks) as usize;
-    if has_groups(model) {
+    let w = inputs.rows();
+    let count = count_unmarked(&marks[..w * w]) as usize;
+    if inputs.has_diagonal() {
         return count;
     }
     count - (count_diagonal(w, marks) as usize)
 }
 
-// Writes what the exponentials of row i are the exp of, at the diagonal as well, so that the row runs without
-// a test. The slices are those of `argument`.
-fn fill_arguments(rows: Rows, row: &[f64], tau: &[f64], i: usize, out: &mut [f64])
-    requires { RowFits rows.w i row.now tau.now out.old }
-    ensures { let each = argument_in rows row.now tau.now i in
-        Filled each rows.w out.new }
+// Writes what each exponential is the exp of, at its place in a table by full rows.
+fn fill_table<I: Inputs>(inputs: I, out: &mut [f64])
+    requires { I.rows inputs * I.rows inputs ≤ length out.old }
+    ensures { Filled (flat (I.rows inputs) (I.argument inputs)) (I.rows inputs * I.rows inputs) out.new }
 {
-    let model = rows.model;
-    match model {
-        Model::Wilson => models::exponentials::fill_arguments(row, rows.t, rows.w, i, out),
-        Model::Uniquac => models::exponentials::fill_arguments(row, rows.t, rows.w, i, out),
-        Model::Nrtl => models::nrtl::fill_arguments(row, tau, rows.w, out),
-        Model::Unifac => models::unifac::fill_arguments(row, rows.t, rows.ln, rows.w, out),
-    }
-}
-
-// The same for w rows, each at its place in a table by full rows. Row i of `table` and of `tau` starts at
-// i·stride.
-fn fill_table(rows: Rows, table: &[f64], tau: &[f64], out: &mut [f64])
-    requires { TableFits rows.w rows.stride table.now tau.now out.old }
-    ensures { let each = argument_of rows table.now tau.now in
-        Filled each (rows.w * rows.w) out.new }
-{
-    for i in 0..rows.w {
-        let at = i * rows.w;
-        let row = i * rows.stride;
-        fill_arguments(rows, &table[row..], &tau[row..], i, &mut out[at..]);
-    }
-}
-
-// Puts the last row of a table by rows of w, but for its own diagonal, on the diagonal of the rows above it.
-fn lay_last(w: usize, a: &mut [f64])
-    requires { SquareFits w a.old }
-    ensures { Laid w a.old a.new }
-{
-    let last = (w - 1) * w;
-    for i in 0..w - 1 {
-        a[i * w + i] = a[last + i];
-    }
-}
-
-// Takes it back from there.
-fn lift_last(w: usize, a: &mut [f64])
-    requires { SquareFits w a.old }
-    ensures { Lifted w a.old a.new }
-{
-    let last = (w - 1) * w;
-    for i in 0..w - 1 {
-        a[last + i] = a[i * w + i];
-    }
-}
-
-// Each place off the diagonal takes its exp; there are `count`. Meanwhile the last row stands on the diagonal
-// of the others, so that exp runs over so many places in one go, and over no other.
-fn exp_off_diagonal(w: usize, count: usize, a: &mut [f64])
-    requires { SquareFits w a.old × (count ≡ (w - 1) * w) }
-    ensures { OffDiagonalTaken w a.old a.new }
-{
-    lay_last(w, a);
-    arithmetic::exp_each(a, count);
-    lift_last(w, a)
-}
-
-// Takes the stale cells of row i over from its exponentials.
-fn take_stale(model: Model, w: usize, worked: &[f64], i: usize, cells: &mut [f64], marks: &mut [u8])
-    requires { (w ≤ length worked.now)
-        × (w ≤ length cells.old)
-        × (w ≤ length marks.old) }
-    ensures { RowTaken model w (at worked.now) i cells marks }
-{
-    for j in 0..w {
-        if is_stale(model, marks[j], i, j) {
-            cells[j] = worked[j];
-            marks[j] = FRESH;
-        }
-    }
-}
-
-// The same for w rows.
-fn take_rows(model: Model, w: usize, worked: &[f64], cells: &mut [f64], marks: &mut [u8])
-    requires { TakeFits w worked.now cells.old marks.old }
-    ensures { TableTaken model w (at worked.now) cells marks }
-{
+    let w = inputs.rows();
     for i in 0..w {
         let at = i * w;
-        take_stale(
-            model,
-            w,
-            &worked[at..],
-            i,
-            &mut cells[at..],
-            &mut marks[at..],
-        );
+        inputs.fill_arguments(i, &mut out[at..]);
     }
 }
 
-// Works out all cells of a model without any on the diagonal, all of them stale: every argument first, in the
-// table `out`, then exp of those off the diagonal. `count` is their number, and the answer.
-fn refill_table(
-    rows: Rows,
-    table: &[f64],
-    tau: &[f64],
-    count: usize,
-    out: &mut [f64],
-    cells: &mut [f64],
-    marks: &mut [u8],
-) -> usize
-    requires { AllStale rows marks.old count
-        × TableFits rows.w rows.stride table.now tau.now out.old
-        × (rows.w * rows.w ≤ length cells.old)
-        × (rows.w * rows.w ≤ length marks.old) }
-    ensures { TableRefilled rows table tau cells marks result }
+// Of a table by rows of w, the last row's entries, but for its own diagonal, change places with those on the
+// diagonal of the rows above it.
+fn swap_last(w: usize, a: &mut [f64])
+    requires { SquareFits w a.old }
+    ensures { Swapped w (w - 1) a.old a.new }
 {
-    let model = rows.model;
-    fill_table(rows, table, tau, out);
-    exp_off_diagonal(rows.w, count, out);
-    take_rows(model, rows.w, out, cells, marks);
+    let last = (w - 1) * w;
+    for i in 0..w - 1 {
+        a.swap(last + i, i * w + i);
+    }
+}
+
+// Each place off the diagonal takes its exp. Meanwhile the last row stands on the diagonal of the others, so
+// that exp runs over so many places in one go, and over no other.
+fn exp_off_diagonal(w: usize, a: &mut [f64])
+    requires { SquareFits w a.old }
+    ensures { OffDiagonalTaken w a.old a.new }
+{
+    swap_last(w, a);
+    arithmetic::exp_each(a, (w - 1) * w);
+    swap_last(w, a);
+}
+
+// Takes the stale cells over from their exponentials, row by row, and counts them.
+fn take_rows<I: Inputs>(inputs: I, worked: &[f64], cells: &mut [f64], marks: &mut [u8]) -> usize
+    requires { TableFits (I.rows inputs) cells.old marks.old
+        × (I.rows inputs * I.rows inputs ≤ length worked.now) }
+    ensures { TableRefilled I.diagonal (I.rows inputs) (at worked.now) cells marks result }
+{
+    let w = inputs.rows();
+    let mut count: usize = 0;
+    for i in 0..w {
+        let place = i * w;
+        let row = &worked[place..];
+        count += fill_stale(
+            inputs,
+            i,
+            &mut cells[place..],
+            &mut marks[place..],
+            |j, _| row[j],
+        );
+    }
     count
 }
 
-// The same. Up to four rows take a small table.
-fn refill_whole(
-    rows: Rows,
-    table: &[f64],
-    tau: &[f64],
-    count: usize,
-    cells: &mut [f64],
-    marks: &mut [u8],
-) -> usize
-    requires { AllStale rows marks.old count
-        × TableFits rows.w rows.stride table.now tau.now cells.old
-        × (rows.w * rows.w ≤ length marks.old) }
-    ensures { TableRefilled rows table tau cells marks result }
+// Works out all cells of a table without any on the diagonal, all of them stale, and counts them: every
+// argument first, in a table of its own, then exp of those off the diagonal.
+fn refill_whole<I: Inputs, const N: usize>(inputs: I, cells: &mut [f64], marks: &mut [u8]) -> usize
+    requires { AllStale I.diagonal (I.rows inputs) marks.old
+        × TableFits (I.rows inputs) cells.old marks.old
+        × (I.rows inputs * I.rows inputs ≤ N)
+        × (N ≤ table_size) }
+    ensures { TableRefilled I.diagonal (I.rows inputs) (cell_of (I.rows inputs) (I.argument inputs))
+        cells marks result }
 {
-    if rows.w < 5 {
-        let mut few = [0.0; 16];
-        return refill_table(rows, table, tau, count, &mut few[..], cells, marks);
-    }
-    let mut worked = [0.0; PAIRS];
-    refill_table(rows, table, tau, count, &mut worked[..], cells, marks)
+    let mut worked = [0.0; N];
+    fill_table(inputs, &mut worked[..]);
+    exp_off_diagonal(inputs.rows(), &mut worked[..]);
+    take_rows(inputs, &worked[..], cells, marks)
 }
 
-// Whether `count` stale cells are all cells there are, in a model of at most 12 rows with none on the
+// Whether `count` stale cells are all cells there are, in a table of at most 12 rows with none on the
 // diagonal.
-fn is_whole(model: Model, w: usize, count: usize) -> bool
-    requires { (1 ≤ w) × (w ≤ most_groups) }
-    ensures { result ≡ true → (w ≤ most_components)
-        × (count ≡ (w - 1) * w)
-        × (has_groups model ≡ false) }
+fn is_whole<I: Inputs>(inputs: I, count: usize) -> bool
+    requires { 1 ≤ I.rows inputs }
+    ensures { result ≡ true → (I.rows inputs ≤ most_components)
+        × (count ≡ (I.rows inputs - 1) * I.rows inputs)
+        × (I.diagonal ≡ false) }
 {
-    if has_groups(model) {
-        return false;
-    }
-    if COMPONENTS < w {
-        return false;
-    }
-    count == (w - 1) * w
+    let w = inputs.rows();
+    !inputs.has_diagonal() && w <= COMPONENTS && count == (w - 1) * w
 }
 
 // Works out every stale cell, and answers with their number: no row is gone through where no cell is stale, a
-// table of E or G that is stale as a whole goes in one run, and any other row by row. Fewer than four rows
-// aren't counted beforehand.
-pub fn refill(rows: Rows, table: &[f64], tau: &[f64], cells: &mut [f64], marks: &mut [u8]) -> usize
-    requires { TableFits rows.w rows.stride table.now tau.now cells.old
-        × (rows.w * rows.w ≤ length marks.old) }
-    ensures { TableRefilled rows table tau cells marks result }
+// table of E or G that is stale as a whole goes in one run, a small one in a small table, and any other row by
+// row. Fewer than four rows aren't counted beforehand.
+pub fn refill<I: Inputs>(inputs: I, cells: &mut [f64], marks: &mut [u8]) -> usize
+    requires { TableFits (I.rows inputs) cells.old marks.old }
+    ensures { TableRefilled I.diagonal (I.rows inputs) (cell_of (I.rows inputs) (I.argument inputs))
+        cells marks result }
 {
-    let model = rows.model;
-    if 3 < rows.w {
-        let count = count_table(model, rows.w, marks);
+    let w = inputs.rows();
+    if 3 < w {
+        let count = count_table(inputs, marks);
         if count == 0 {
             return 0;
         }
-        if is_whole(model, rows.w, count) {
-            return refill_whole(rows, table, tau, count, cells, marks);
+        if is_whole(inputs, count) {
+            if w < 5 {
+                return refill_whole::<I, 16>(inputs, cells, marks);
+            }
+            return refill_whole::<I, PAIRS>(inputs, cells, marks);
         }
     }
-    refill_rows(rows, table, tau, cells, marks)
+    refill_rows(inputs, cells, marks)
 }

@@ -1,23 +1,23 @@
 // Settings: document 01, "Mixture".
-ghost use Rattle.std.specs.Prelude.{◌≡◌, cond, ◌+◌, ◌*◌, ◌<◌, ◌≤◌, eqb, length};
+ghost use Rattle.std.specs.Prelude.{◌≡◌, ◌+◌, ◌*◌, ◌<◌, ◌≤◌, length};
 ghost use Rattle.std.proofs.lemmas.List.Edits.{sets};
 ghost use Rattle.models.specs.Limits.{most_groups};
 ghost use Rattle.models.specs.Values.{counts_at, start};
-ghost use Rattle.mixture.specs.declared.answers.Answer.TheVariants.{Done};
-ghost use Rattle.mixture.specs.Answers.{unless};
 ghost use Rattle.mixture.specs.Holdings.{held};
 ghost use Rattle.models.specs.Model.{by_model};
-ghost use Rattle.mixture.specs.Memory.{memory, left, least_marks};
+ghost use Rattle.arithmetic.specs.Refusals.{number_of};
+ghost use Rattle.mixture.specs.Memory.{Memory, memory, left, least_marks};
 ghost use Rattle.mixture.specs.Layout.{numbers, place};
 ghost use Rattle.mixture.specs.Calls.{stales_at, set_head, after_setting};
 ghost use Rattle.mixture.specs.Steps.Blocks.{Staled, entry_block, block_of};
-ghost use Rattle.mixture.specs.Steps.Blocks.{head_only, Settable, CountFits, set_reply};
+ghost use Rattle.mixture.specs.Steps.Blocks.{head_only, Settable, CountFits, set_after};
 
-use crate::answers::{Answer, Reply};
-use crate::faults::setting_fault;
+use crate::answers::{Outcome, Reply};
+use crate::faults::{Lengths, setting_fault};
 use crate::head::Head;
 use crate::setting::Setting;
 use crate::stale::{Block, stale};
+use arithmetic::Refusal;
 use models::Model;
 use models::limits::COMPONENTS;
 use models::model::{by_model, has_groups, model_of, table_width};
@@ -63,15 +63,11 @@ fn store_at(head: Head, s: Setting) -> usize
     let model = model_of(head.model);
     let w = table_width(model, head.n, head.ng);
     match s {
-        Setting::Temperature(_) => 0,
+        Setting::Temperature(_) | Setting::Tolerance(_) => 0,
         Setting::Entry(i, j, _) => entry_at(model, w, i, j),
         Setting::TdEntry(i, j, _) => td_at(model, w, i, j),
         Setting::Size(i, which, _) => size_at(model, w, i, which),
-        Setting::Count(i, j, _) => {
-            let lens = head.lens;
-            count_at(lens, head.ng, i, j)
-        }
-        Setting::Tolerance(_) => 0,
+        Setting::Count(i, j, _) => count_at(head.lens, head.ng, i, j),
     }
 }
 
@@ -81,8 +77,8 @@ fn put(s: Setting, at: usize, values: &mut [f64])
     ensures { values.new ≡ sets values.old at (numbers s) }
 {
     match s {
-        Setting::Temperature(_) => {}
-        Setting::Entry(_, _, v) => {
+        Setting::Temperature(_) | Setting::Tolerance(_) => {}
+        Setting::Entry(_, _, v) | Setting::Size(_, _, v) | Setting::Count(_, _, v) => {
             values[at] = v;
         }
         Setting::TdEntry(_, _, p) => {
@@ -92,15 +88,15 @@ fn put(s: Setting, at: usize, values: &mut [f64])
             values[at + 3] = p.d;
             values[at + 4] = p.e;
         }
-        Setting::Size(_, _, v) => {
-            values[at] = v;
-        }
-        Setting::Count(_, _, v) => {
-            values[at] = v;
-        }
-        Setting::Tolerance(_) => {}
     }
 }
+
+const NO_CELLS: Block = Block {
+    top: 0,
+    rows: 0,
+    left: 0,
+    columns: 0,
+};
 
 // The block of the cells that an entry is an input of: its own, and row i's for an energy a_ii.
 fn entry_block(model: Model, w: usize, i: usize, j: usize) -> Block
@@ -112,8 +108,8 @@ fn entry_block(model: Model, w: usize, i: usize, j: usize) -> Block
         return Block {
             top: i,
             rows: 1,
-            left: left,
-            columns: columns,
+            left,
+            columns,
         };
     }
     Block {
@@ -142,24 +138,7 @@ fn block_of(model: Model, w: usize, s: Setting) -> Block
             left: j,
             columns: 1,
         },
-        Setting::Size(_, _, _) => Block {
-            top: 0,
-            rows: 0,
-            left: 0,
-            columns: 0,
-        },
-        Setting::Count(_, _, _) => Block {
-            top: 0,
-            rows: 0,
-            left: 0,
-            columns: 0,
-        },
-        Setting::Tolerance(_) => Block {
-            top: 0,
-            rows: 0,
-            left: 0,
-            columns: 0,
-        },
+        Setting::Size(..) | Setting::Count(..) | Setting::Tolerance(_) => NO_CELLS,
     }
 }
 
@@ -175,94 +154,52 @@ fn stale_by(head: Head, s: Setting, marks: &mut [u8])
     stale(w, diagonal, block, marks);
 }
 
-// The head's T after a setting that may have been declined.
-fn t_after(head: Head, fault: u8, s: Setting) -> f64
-    ensures { result ≡ cond (eqb fault 0) (set_head head s).t head.t }
+// The head after an accepted setting.
+fn head_after(head: Head, s: Setting) -> Head
+    ensures { result ≡ set_head head s }
 {
-    if fault != 0 {
-        return head.t;
-    }
     match s {
-        Setting::Temperature(t) => t,
-        Setting::Entry(_, _, _) => head.t,
-        Setting::TdEntry(_, _, _) => head.t,
-        Setting::Size(_, _, _) => head.t,
-        Setting::Count(_, _, _) => head.t,
-        Setting::Tolerance(_) => head.t,
+        Setting::Temperature(t) => Head {
+            t,
+            has_t: true,
+            ..head
+        },
+        Setting::Tolerance(tolerance) => Head { tolerance, ..head },
+        Setting::Entry(..) | Setting::TdEntry(..) | Setting::Size(..) | Setting::Count(..) => head,
     }
 }
 
-// Whether T is set after a setting that may have been declined.
-fn has_t_after(head: Head, fault: u8, s: Setting) -> bool
-    ensures { result ≡ cond (eqb fault 0) (set_head head s).has_t head.has_t }
-{
-    if fault != 0 {
-        return head.has_t;
-    }
-    match s {
-        Setting::Temperature(_) => true,
-        Setting::Entry(_, _, _) => head.has_t,
-        Setting::TdEntry(_, _, _) => head.has_t,
-        Setting::Size(_, _, _) => head.has_t,
-        Setting::Count(_, _, _) => head.has_t,
-        Setting::Tolerance(_) => head.has_t,
-    }
-}
-
-// The head's tolerance after a setting that may have been declined.
-fn tolerance_after(head: Head, fault: u8, s: Setting) -> f64
-    ensures { result ≡ cond (eqb fault 0) (set_head head s).tolerance head.tolerance }
-{
-    if fault != 0 {
-        return head.tolerance;
-    }
-    match s {
-        Setting::Temperature(_) => head.tolerance,
-        Setting::Entry(_, _, _) => head.tolerance,
-        Setting::TdEntry(_, _, _) => head.tolerance,
-        Setting::Size(_, _, _) => head.tolerance,
-        Setting::Count(_, _, _) => head.tolerance,
-        Setting::Tolerance(e) => e,
-    }
-}
-
-// The answer: done, or the number of what it was declined for.
-fn answer_by(fault: u8) -> Answer
-    ensures { result ≡ unless fault Done }
-{
-    if fault != 0 {
-        return Answer::Refused(fault);
-    }
-    Answer::Done
-}
-
-// What a setting does to values and marks; 0, or the number of what it is declined for, in which case it does
-// nothing.
-fn change(values: &mut [f64], cells: &[f64], marks: &mut [u8], head: Head, s: Setting) -> u8
-    ensures { left (memory values.new cells.now marks.new) (set_reply result head s)
+// What a setting does to values and marks, which is nothing where it is declined.
+fn change(
+    values: &mut [f64],
+    cells: &[f64],
+    marks: &mut [u8],
+    head: Head,
+    s: Setting,
+) -> Result<(), Refusal>
+    ensures { set_after (memory values.new cells.now marks.new) (number_of result) head s
         ≡ after_setting (memory values.old cells.now marks.old) head s }
 {
-    let fault = setting_fault(values.len(), cells.len(), marks.len(), head, s);
-    if fault != 0 {
-        return fault;
-    }
+    setting_fault(Lengths::of(values, cells, marks), head, s)?;
     let at = store_at(head, s);
     put(s, at, values);
     stale_by(head, s, marks);
-    0
+    Ok(())
 }
 
-// The reply to a setting: the head with its T or tolerance where that was set, and what it was declined for.
-fn reply_by(head: Head, fault: u8, s: Setting) -> Reply
-    ensures { result ≡ set_reply fault head s }
+// The reply to a setting, by what came of it.
+fn reply_by(head: Head, changed: Result<(), Refusal>, s: Setting) -> Reply
+    ensures { (m : Memory) → left m result ≡ set_after m (number_of changed) head s }
 {
-    let mut after = head;
-    after.t = t_after(head, fault, s);
-    after.has_t = has_t_after(head, fault, s);
-    after.tolerance = tolerance_after(head, fault, s);
-    Reply {
-        head: after,
-        answer: answer_by(fault),
+    match changed {
+        Ok(()) => Reply {
+            head: head_after(head, s),
+            answer: Ok(Outcome::Done),
+        },
+        Err(refusal) => Reply {
+            head,
+            answer: Err(refusal),
+        },
     }
 }
 
@@ -275,9 +212,9 @@ pub fn set(values: &mut [f64], cells: &[f64], marks: &mut [u8], head: Head, s: S
 {
     let copy = head;
     if head.has_t {
-        let fault = change(values, cells, marks, copy, s);
-        return reply_by(head, fault, s);
+        let changed = change(values, cells, marks, copy, s);
+        return reply_by(head, changed, s);
     }
-    let fault = change(values, cells, marks, copy, s);
-    reply_by(head, fault, s)
+    let changed = change(values, cells, marks, copy, s);
+    reply_by(head, changed, s)
 }

@@ -1,5 +1,5 @@
 // Marks made stale: a block of rows and columns, off the diagonal where that has no cells.
-ghost use Rattle.std.specs.Prelude.{◌≡◌, cond, ◌+◌, ◌≤◌, length};
+ghost use Rattle.std.specs.Prelude.{◌≡◌, ◌+◌, ◌^◌, ◌<◌, ◌≤◌, length};
 ghost use Rattle.mixture.specs.Steps.Blocks.{Staled, in_row, in_block, BlockFits};
 
 // So many rows from top on, and so many columns from left on.
@@ -11,26 +11,17 @@ pub struct Block {
     pub columns: usize,
 }
 
-// Writes 0 from left to below right of the row that begins at start, except at skip.
-fn stale_row(start: usize, left: usize, right: usize, skip: usize, marks: &mut [u8])
-    requires { (left ≤ right) × (start + right ≤ length marks.old) }
-    ensures { Staled (in_row start left right skip) marks }
+// Writes 0 to the marks of row i in the block's columns; the row begins at start.
+fn stale_row(start: usize, diagonal: bool, block: Block, i: usize, marks: &mut [u8])
+    requires { (block.left + block.columns < 2 ^ 64)
+        × (start + (block.left + block.columns) ≤ length marks.old) }
+    ensures { Staled (in_row start block.left (block.left + block.columns) diagonal i) marks }
 {
-    for j in left..right {
-        if j != skip {
+    for j in block.left..block.left + block.columns {
+        if diagonal || i != j {
             marks[start + j] = 0;
         }
     }
-}
-
-// The column that row i skips: its own where the diagonal has no cells, else none.
-fn skipped(w: usize, diagonal: bool, i: usize) -> usize
-    ensures { result ≡ cond diagonal w i }
-{
-    if diagonal {
-        return w;
-    }
-    i
 }
 
 // Writes 0 to the marks of the block's cells in rows of w, those of the diagonal only where it has cells.
@@ -38,11 +29,7 @@ pub fn stale(w: usize, diagonal: bool, block: Block, marks: &mut [u8])
     requires { BlockFits w block (length marks.old) }
     ensures { Staled (in_block w diagonal block) marks }
 {
-    let bottom = block.top + block.rows;
-    let left = block.left;
-    let right = left + block.columns;
-    for i in block.top..bottom {
-        let skip = skipped(w, diagonal, i);
-        stale_row(i * w, left, right, skip, marks);
+    for i in block.top..block.top + block.rows {
+        stale_row(i * w, diagonal, block, i, marks);
     }
 }

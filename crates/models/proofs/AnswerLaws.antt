@@ -1,5 +1,5 @@
 -- Answers and the first fault of several, over plain variables: a proof hands over what its callees ensure and what its tests found.
-use mathlib.Core.Path.{◌≡◌, refl, ap, ◌∙◌}
+use mathlib.Core.Path.{◌≡◌, refl, sym, ap, ◌∙◌}
 use mathlib.Core.Bool.{Bool, true, false, cond, and-false}
 use mathlib.Core.Logic.{⊎_elim}
 use mathlib.Core.List.{List, [], ◌∷◌}
@@ -8,19 +8,22 @@ use native.Mathlib.Nat.{eq-or-lt_of_le, le_of_suc-le-suc}
 use native.Mathlib.Numerals.{add-one}
 use native.Mathlib.Omega.{arith}
 use lib.Dec.{leb, ltb}
-use lib.ListN.{length}
 use lib.Ieee.{Float}
 use borrow.Author.Tests.{eq-eqb, eqb-true, ne_eqb, ltb-true, leb-true}
+use Rattle.std.specs.Prelude.{Result, Ok, Err}
+use Rattle.std.specs.Result.{IsErrAnd}
+use Rattle.std.proofs.lemmas.Result.{err_from_is_err_and}
+use Rattle.arithmetic.specs.declared.refusal.Refusal.{Refusal}
 use Rattle.arithmetic.specs.Exponential.{exp_of}
+use Rattle.arithmetic.specs.Refusals.{Value, Refused, number_of as refused_number, answer_of}
+use Rattle.arithmetic.proofs.RefusalLaws.{number-positive, refused-number, passed-number}
 use Rattle.arithmetic.specs.Tables.{at}
 use Rattle.models.specs.declared.answers.Quantity.{Quantity}
 use Rattle.models.specs.declared.answers.Quantity.TheVariants.{LnGamma, Gamma, ExcessGibbs}
-use Rattle.models.specs.declared.answers.Answer.TheVariants.{Value, Refused}
 use Rattle.models.specs.Answers.{number_of, values_of, answer, first, first_to, quantity, reads}
 use Rattle.models.specs.Faults.{index_fault, shape_fault, fractions_fault, data_fault}
 use Rattle.models.specs.Model.{ModelData}
 use Rattle.models.specs.Plain.{value_at, plain_call}
-use Rattle.models.specs.Steps.Model.{ValueFits}
 
 in_range_lem : (n i : ℕ) → ◌≡◌ {A = ℕ} (cond (ltb i n) 0 7) 0 → i < n
 in_range_lem n i = by_test (ltb i n) refl
@@ -59,6 +62,21 @@ first-left g p n = rw (← p, ne_eqb _ _ n)
 
 pub first-right : {f g k m : ℕ} → k ≡ f → k ≡ 0 → m ≡ g → m ≡ first f g
 first-right p z q = rw (← p, z, q)
+
+-- ---- a `?` of a call that answers k: it hands on a refusal, and goes on where there is none
+
+pub refused-on : {A B : Type 0} {r : Result A Refusal} {e : Refusal} {k : ℕ} (s : Result B Refusal) → r ≡ Err e → refused_number r ≡ k → IsErrAnd s (λ y. y ≡ e) → refused_number s ≡ k
+unfolding refused_number
+refused-on {r = r} s p q h = let on = err_from_is_err_and s h in rw (on.1, on.2) (rw p at q)
+
+pub first-refused : {A B : Type 0} {r : Result A Refusal} {e : Refusal} {k : ℕ} (s : Result B Refusal) (m : ℕ) → r ≡ Err e → refused_number r ≡ k → IsErrAnd s (λ y. y ≡ e) → refused_number s ≡ first k m
+first-refused s m p q h = first-left m (refused-on s p q h) (refused-number (err_from_is_err_and s h).1)
+
+pub passed-zero : {A : Type 0} {r : Result A Refusal} {a : A} {k : ℕ} → r ≡ Ok a → refused_number r ≡ k → 0 ≡ k
+passed-zero p q = sym (passed-number p) ∙ q
+
+pub first-passed : {A B : Type 0} {r : Result A Refusal} {a : A} {k m : ℕ} (s : Result B Refusal) → r ≡ Ok a → refused_number r ≡ k → refused_number s ≡ m → refused_number s ≡ first k m
+first-passed s p q t = first-right (passed-zero p q) refl t
 
 -- ---- the first of f 0, .., f (n - 1) that is not 0
 
@@ -132,26 +150,14 @@ shape_size n s size values e = by_test (leb n 12) refl
     by_test true p = rw (e (omega (arith, leb-true n 12 p)))
     by_test false p = rw (p, and-false (leb 1 n))
 
--- what `shape_fault` of that size shows
-pub shaped : (n : ℕ) {s size : ℕ} (values : List Float) → (n ≤ 255 → s ≡ size) → {k : ℕ} →
-    (k ≡ shape_fault n s values) × (k ≡ 0 → (1 ≤ n) × (n ≤ 12) × (length values ≡ s)) →
-    (k ≡ shape_fault n size values) × (k ≡ 0 → (n ≤ 12) × (size ≤ length values))
-shaped n {s} {size} values e p = (p.0 ∙ shape_size n s size values e, λ z. let q = p.1 z in (q.1, omega (arith, q.2, e (omega (arith, q.1)))))
+-- what a plain call answers, from a check r that refuses as it does
+module _ (d : ModelData) (T ε : Float) (x : List Float) (q : Quantity) {A : Type 0} {r : Result A Refusal} (f : refused_number r ≡ first (data_fault d) (fractions_fault ε d.n x q)) where
+  pub plain-refused : {e : Refusal} (s : Result Float Refusal) → r ≡ Err e → IsErrAnd s (λ y. y ≡ e) → answer_of s ≡ plain_call d T ε x q
+  unfolding plain_call answer_of refused_number
+  plain-refused {e} s p h =
+      let on = err_from_is_err_and s h in
+      let g = rw p at f in rw (on.1, on.2) (answer-refused _ g (λ z. number-positive e z))
 
--- the size that the code works out is the model's
-pub sized-fits : {n s size : ℕ} {values x : List Float} {q : Quantity} → (n ≤ 255 → s ≡ size) → ValueFits n s values x q → ValueFits n size values x q
-sized-fits e f = record { few = f.few; sized = omega (arith, e (omega (arith, f.few)), f.sized); fractions = f.fractions; index = f.index }
-
--- what a plain call answers, from its first fault
-module _ (d : ModelData) (T ε : Float) (x : List Float) (q : Quantity) {k : ℕ} (f : k ≡ first (data_fault d) (fractions_fault ε d.n x q)) where
-  pub plain-refused : (k ≡ 0 → ⊥) → Refused k ≡ plain_call d T ε x q
-  unfolding plain_call
-  plain-refused ne = answer-refused _ f ne
-
-  pub plain_value_lem : {v : Float} → k ≡ 0 → v ≡ value_at d T (at x) q → Value v ≡ plain_call d T ε x q
-  unfolding plain_call
-  plain_value_lem z p = answer-value f z p
-
--- the first fault where the code works out the size s
-pub sized-first : {n s size : ℕ} (values : List Float) (m : ℕ) → (n ≤ 255 → s ≡ size) → {k : ℕ} → k ≡ first (shape_fault n s values) m → k ≡ first (shape_fault n size values) m
-sized-first values m e f = f ∙ ap (λ (g : ℕ). first g m) (shape_size _ _ _ values e)
+  pub plain_value_lem : {a : A} {v : Float} → r ≡ Ok a → v ≡ value_at d T (at x) q → answer_of (Ok v) ≡ plain_call d T ε x q
+  unfolding plain_call answer_of
+  plain_value_lem p e = answer-value f (passed-number p) e

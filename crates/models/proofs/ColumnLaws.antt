@@ -1,4 +1,4 @@
--- Sums down columns that grow row by row, terms whose diagonal is put right before their fold, and equal entries.
+-- Sums down columns that grow row by row, terms kept side by side before their fold, and equal entries.
 use mathlib.Core.Path.{◌≡◌, refl, sym, ap, ◌∙◌}
 use mathlib.Core.List.{List}
 use mathlib.Core.Logic.{inl, inr}
@@ -7,16 +7,17 @@ use native.Mathlib.Nat.{le_antisymm, ne_of_lt, ne_of_gt}
 use native.Mathlib.Omega.{arith}
 use lib.Dec.{eqb}
 use borrow.Author.Tests.{eq-eqb, ne_eqb, eqb-false}
-use lib.ListN.{length, set, take, replicate, length-set, get_or-replicate}
+use lib.ListN.{length, set, take, replicate, get_or-replicate}
 use lib.Seq.{get_or-set_same, get_or-set_other, get_or-take, length-take-le}
 use lib.Ieee.{Float, nan, binary64, of_bits}
 use Rattle.arithmetic.specs.Floats.{◌⊕◌, ◌⊗◌, +0, one}
 use Rattle.arithmetic.specs.Sums.{fold, sum, total}
 use Rattle.arithmetic.specs.Tables.{at, grid, from, Filled, up_to}
 use Rattle.arithmetic.proofs.SumLaws.{sum_more, sum_same}
-use Rattle.arithmetic.proofs.TableLaws.{upto_below, from_at, by_place, Filling, filling_done}
+use Rattle.arithmetic.proofs.TableLaws.{upto_below, from_at, filled_as, by_place, Filling, filling_done}
 use Rattle.arithmetic.proofs.Tests.{either}
 use Rattle.models.specs.Columns.{unit_at, unit_diagonal, column_sum}
+use Rattle.models.specs.Steps.Terms.{with_own}
 
 -- an array of zeros
 pub zeros : (m : ℕ) → Filled (λ k. +0) m (replicate m (of_bits binary64 0))
@@ -55,10 +56,10 @@ module _ {F : ℕ → ℕ → Float} {n m : ℕ} where
   pub columns-done : {i : ℕ} {s : List Float} → n ≤ i → Columns F n m i s → Filled (λ j. sum n (λ k. F k j)) n s
   columns-done h all = rw (le_antisymm all.within h) at all.sums
 
--- ---- terms kept side by side, that of the diagonal put right, then folded
+-- ---- terms kept side by side, then folded
 
 -- a store at i, where F and G may differ
-filled_put : {F G : ℕ → Float} {g : List Float} (n i : ℕ) {v : Float} → i < length g → ((k : ℕ) → k < n → (i ≡ k → ⊥) → F k ≡ G k) → v ≡ G i → Filled F n g → Filled G n (set g i v)
+pub filled_put : {F G : ℕ → Float} {g : List Float} (n i : ℕ) {v : Float} → i < length g → ((k : ℕ) → k < n → (i ≡ k → ⊥) → F k ≡ G k) → v ≡ G i → Filled F n g → Filled G n (set g i v)
 filled_put {F} {G} {g} n i {v} h e w all = record {
   each = λ k b.
       by_place k i
@@ -68,27 +69,15 @@ filled_put {F} {G} {g} n i {v} h e w all = record {
 }
 
 -- the sum of an array's first n places
-total-sum : (n : ℕ) (F : ℕ → Float) (g : List Float) {r : Float} → n ≤ length g → Filled F n g → r ≡ total (take n g) → r ≡ sum n F
+pub total-sum : (n : ℕ) (F : ℕ → Float) (g : List Float) {r : Float} → n ≤ length g → Filled F n g → r ≡ total (take n g) → r ≡ sum n F
 unfolding total
 total-sum n F g h all e =
     e ∙ (ap (λ (m : ℕ). sum m (at (take n g))) (length-take-le n g h) ∙ sum_same n _ _ (λ k b. get_or-take n g k nan b ∙ all.each k b))
 
 module _ {F : ℕ → Float} {n m p : ℕ} {g : List Float} (terms : Filling F n m p g) where
-  -- a loop that has filled an array's first n places leaves room for them, a store at i too
-  pub terms_room : (i : ℕ) (v : Float) → n ≤ length (set g i v)
-  terms_room i v = simp length-set (omega (arith, terms.room, terms.long))
-
-  pub terms_taken : (i : ℕ) (v : Float) → n ≡ length (take n (set g i v))
-  terms_taken i v = sym (length-take-le n (set g i v) (terms_room i v))
-
   module _ (done : n ≤ p) where
     pub terms_sum : {r : Float} → r ≡ total (take n g) → r ≡ sum n F
     terms_sum e = total-sum n F g (omega (arith, terms.room, terms.long)) (filling_done done terms) e
-
-    -- the same with place i put right, where alone F and G may differ
-    pub terms_put : (i : ℕ) (G : ℕ → Float) {v r : Float} → i < n → ((k : ℕ) → k < n → (i ≡ k → ⊥) → F k ≡ G k) → v ≡ G i → r ≡ total (take n (set g i v)) → r ≡ sum n G
-    terms_put i G {v} b off own e =
-        total-sum n G (set g i v) (terms_room i v) (filled_put n i (omega (arith, terms.room, terms.long)) off own (filling_done done terms)) e
 
 pub unit_on : (i : ℕ) (row : ℕ → Float) → unit_at i row i ≡ one
 unfolding unit_at
@@ -99,7 +88,7 @@ unfolding unit_at
 unit-off i k row h = rw (ne_eqb i k h)
 
 -- two ways to rewrite a place that agree there
-upto_either : (n k : ℕ) (old new other : ℕ → Float) → new k ≡ other k → up_to n new old k ≡ up_to n other old k
+pub upto_either : (n k : ℕ) (old new other : ℕ → Float) → new k ≡ other k → up_to n new old k ≡ up_to n other old k
 unfolding up_to
 upto_either n k old new other e = rw e
 
@@ -109,11 +98,11 @@ pub row-added : (n i : ℕ) (F G : ℕ → Float) (s s' : List Float) {v : Float
 row-added n i F G s s' b h off own all same =
     filled_put (length s) i (omega arith) (λ k c d. upto_either n k (at s) F G (off k d)) (own ∙ sym (upto_below n G (at s) i b)) all
 
--- the same where the row counts as 1 at i
-pub unit-added : (n i : ℕ) (w : Float) (row : ℕ → Float) (s s' : List Float) {v : Float} → i < n → n ≤ length s → v ≡ at s i ⊕ w ⊗ one →
-    Filled (up_to n (λ j. at s j ⊕ w ⊗ row j) (at s)) (length s) s' → length s' ≡ length s → Filled (up_to n (λ j. at s j ⊕ w ⊗ unit_at i row j) (at s)) (length s) (set s' i v)
-unit-added n i w row s s' b h own all same =
-    row-added n i _ _ s s' b h (λ k d. ap (λ (z : Float). at s k ⊕ w ⊗ z) (sym (unit-off i k row d))) (own ∙ ap (λ (z : Float). at s i ⊕ w ⊗ z) (sym (unit_on i row))) all same
+-- terms of a row that counts as 1 at i
+pub unit_own : (n i : ℕ) (w : Float) (row : ℕ → Float) (s : List Float) {own : Float} {p : ℕ} {s' : List Float} → own ≡ w ⊗ one →
+    Filled (up_to n (λ j. at s j ⊕ with_own i own (λ j. w ⊗ row j) j) (at s)) p s' → Filled (up_to n (λ j. at s j ⊕ w ⊗ unit_at i row j) (at s)) p s'
+unfolding with_own unit_at
+unit_own n i w row s o all = filled_as (λ k b. upto_either n k (at s) _ _ (ap (λ (z : Float). at s k ⊕ z) (elim (either (eqb i k)) [ inl e ↦ rw (e, o) | inr e ↦ rw e ]))) all
 
 -- the row lent as a part gives the table's entry
 pub unit_row : (n : ℕ) (l : List Float) (i j : ℕ) → i * n + n ≤ length l → j < n → unit_at i (at (from (i * n) l)) j ≡ unit_diagonal (grid n l) i j

@@ -1,29 +1,32 @@
 -- Group lists that stand list after list: where they start, that their places lie within the slices, and sums kept for
 -- every group at once.
-use mathlib.Core.Path.{◌≡◌, refl, sym, ap, subst, ◌∙◌}
-use mathlib.Core.Bool.{Bool, true, false, ◌&&◌, cond, and-false}
+use mathlib.Core.Path.{◌≡◌, refl, sym, ap, ◌∙◌}
+use mathlib.Core.Bool.{Bool, true, false, cond}
 use mathlib.Core.Logic.{⊎_elim}
-use mathlib.Core.List.{List}
-use Prim.Native.Nat.{ℕ, zero, suc, ◌+◌, ◌-◌, ◌<◌, ◌≤◌}
+use mathlib.Core.List.{List, [], ◌∷◌, ◌++◌}
+use Prim.Native.Nat.{ℕ, zero, suc, ◌+◌, ◌-◌, ◌*◌, ◌<◌, ◌≤◌}
 use native.Mathlib.Nat.{eq-or-lt_of_le, le_of_suc-le-suc, le_antisymm}
 use native.Mathlib.Numerals.{add-one}
 use native.Mathlib.Omega.{arith}
-use lib.Dec.{leb, eqb}
-use lib.ListN.{length, get_or, set, replicate, length-set}
+use lib.Dec.{eqb}
+use lib.ListN.{length, get_or, set, replicate, take, drop, length-set, get_or-append}
+use Rattle.std.proofs.Common.{length-append, length-drop, length-take-le}
+use Rattle.std.specs.List.{sum_by}
+use Rattle.std.proofs.lemmas.List.{length_push}
+use Rattle.std.proofs.lemmas.List.Sums.{sum_by_more}
 use lib.Seq.{get_or-set_same, get_or-set_other, get_or-take, get_or-drop}
 use lib.Ieee.{Float, nan, binary64, of_bits, lt}
 use borrow.Author.Tests.{eqb-true, eqb-false}
 use Rattle.arithmetic.specs.Floats.{◌⊕◌, ◌⊘◌, +0}
 use Rattle.arithmetic.specs.Sums.{fold, sum, total}
 use Rattle.arithmetic.specs.Tables.{at, from, part, Filled}
-use Rattle.arithmetic.proofs.SumLaws.{fold_more, sum-none, sum_more}
-use Rattle.arithmetic.proofs.TableLaws.{part_length, from-length, by_place}
+use Rattle.arithmetic.proofs.SumLaws.{fold_more, sum_more}
+use Rattle.arithmetic.proofs.TableLaws.{part_length, by_place}
 use Rattle.models.proofs.ColumnLaws.{zeros}
-use Rattle.models.specs.Faults.{between, all_to, lists_fault}
 use Rattle.models.specs.Unifac as Unifac
 use Rattle.models.specs.Unifac.{Groups, amount, amounts, fraction, pure_count, pure_fraction}
-use Rattle.models.specs.Values.{start, counts_at, unifac_size}
-use Rattle.models.specs.Steps.GroupLists.{Listed, Paired, Places, Sized, Loaded, Named, own, gathered, added, put}
+use Rattle.models.specs.Values.{start, counts_at}
+use Rattle.models.specs.Steps.GroupLists.{Listed, Paired, Named, own, gathered, added, put}
 
 -- ---- where a list starts
 
@@ -43,67 +46,43 @@ unfolding start
 start_up lens i zero h = let e : i ≡ 0 = omega arith in rw e (omega arith)
 start_up lens i (suc n) h = ⊎_elim (λ e. rw e (omega arith)) (λ l. omega (arith, start_up lens i n (le_of_suc-le-suc l))) (eq-or-lt_of_le h)
 
+-- a list's length is a byte
+pub start_bound : (lens : List ℕ) (i : ℕ) → ((k : ℕ) → get_or lens k 0 < 256) → start lens i ≤ 255 * i
+unfolding start
+start_bound lens zero bytes = omega arith
+start_bound lens (suc i) bytes = omega (arith, start_bound lens i bytes, bytes i)
+
+pub start_sum : (lens : List ℕ) (i : ℕ) → i ≤ length lens → sum_by (λ x. x) (take i lens) ≡ start lens i
+unfolding start
+start_sum lens zero h = refl
+start_sum lens (suc i) h = let m : suc i ≡ i + 1 = omega arith in rw m (sum_by_more (λ x. x) lens i 0 (omega arith) ∙ rw (start_sum lens i (omega arith)))
+
 -- ---- the places of a list
 
 pub list_place : (lens : List ℕ) (i n p : ℕ) → i < n → p < get_or lens i 0 → start lens i + p < start lens n
 list_place lens i n p h b = omega (arith, start-next lens i, start_up lens (i + 1) n (omega arith))
 
-module _ {n ng : ℕ} {lens groups : List ℕ} {counts : List Float} (all : Listed n ng lens groups counts) where
-  pub listed-less : (i m : ℕ) → i < n → ng ≤ m → Listed (i + 1) m lens groups counts
-  listed-less i m h b = record {
-    many = omega (arith, all.many);
-    within = omega (arith, start_up lens (i + 1) n (omega arith), all.within);
-    counted = omega (arith, start_up lens (i + 1) n (omega arith), all.counted);
-    below = λ p c. omega (arith, all.below p (omega (arith, start_up lens (i + 1) n (omega arith))));
+-- the list of component i, which begins at s and ends at e, lent as parts
+module _ {n ng : ℕ} {lens groups : List ℕ} {counts : List Float} {i s e : ℕ} (all : Listed n ng lens groups counts) (h : i < n) (here : s ≡ start lens i) (end : e ≡ s + get_or lens i 0) where
+  pub list_end : e ≤ start lens n
+  list_end = omega (arith, start-more lens i here refl, start_up lens (i + 1) n (omega arith))
+
+  pub list_room : (s ≤ e) × (e ≤ length groups) × (e ≤ length counts)
+  list_room = (omega arith, omega (arith, list_end, all.within), omega (arith, list_end, all.counted))
+
+  pub list_length : length (part s e groups) ≡ e - s
+  list_length = part_length s e groups (omega (arith, list_room))
+
+  pub list_paired : Paired ng (part s e groups) (part s e counts)
+  list_paired = record {
+    counted = part_length s e counts (omega (arith, list_room)) ∙ sym list_length;
+    below = λ p b. let c : p < e - s = omega (arith, list_length) in rw (get_or-take, get_or-drop) (all.below (s + p) (omega (arith, list_end)));
   }
 
-  pub listed_upto : (m : ℕ) → m ≤ n → Listed m ng lens groups counts
-  listed_upto m h = record {
-    many = omega (arith, all.many);
-    within = omega (arith, start_up lens m n h, all.within);
-    counted = omega (arith, start_up lens m n h, all.counted);
-    below = λ p c. all.below p (omega (arith, start_up lens m n h));
-  }
+-- ---- a loop over the places of a list, which has yielded xs
 
-  pub listed_wider : (m : ℕ) → ng ≤ m → Listed n m lens groups counts
-  listed_wider m b = record { many = all.many; within = all.within; counted = all.counted; below = λ p c. omega (arith, all.below p c) }
-
-module _ (i : ℕ) {ng : ℕ} {lens groups : List ℕ} {counts : List Float} {s : ℕ} (all : Listed (i + 1) ng lens groups counts) (here : s ≡ start lens i) where
-  -- where its list stands
-  pub list_places : Places ng s (s + get_or lens i 0) groups counts
-  list_places = record {
-    ordered = omega arith;
-    within = omega (arith, start-more lens i here refl, all.within);
-    counted = omega (arith, start-more lens i here refl, all.counted);
-    below = λ p h. all.below p (omega (arith, start-more lens i here refl));
-  }
-
-module _ {ng s e : ℕ} {groups : List ℕ} {counts : List Float} (fits : Places ng s e groups counts) where
-  -- the list lent as parts
-  pub lent_at : (p : ℕ) → p < e - s → get_or (part s e groups) p 0 ≡ get_or groups (s + p) 0
-  lent_at p h = rw (get_or-take, get_or-drop)
-
-  pub lent_length : length (part s e groups) ≡ e - s
-  lent_length = part_length s e groups fits.within
-
-  pub lent-paired : Paired ng (part s e groups) (part s e counts)
-  lent-paired = record {
-    counted = part_length s e counts fits.counted ∙ sym lent_length;
-    below = λ p h. let b : p < e - s = omega (arith, lent_length) in rw (lent_at p b) (fits.below (s + p) (omega arith));
-  }
-
--- place p lies within a list and its counts, and its group below m
-abbrev pub PairedAt : ℕ → List ℕ → List Float → ℕ → Type 0
-PairedAt m list counts p = (p < length list) × (p < length counts) × (get_or list p 0 < m)
-
-pub paired_at : {ng m p : ℕ} {list : List ℕ} {counts : List Float} → Paired ng list counts → p < length list → ng ≤ m → PairedAt m list counts p
-paired_at fits within wide = (within, omega (arith, within, fits.counted), omega (arith, fits.below _ within))
-
-pub places-at : {ng m s e p : ℕ} {groups : List ℕ} {counts : List Float} → Places ng s e groups counts → p < e → ng ≤ m → PairedAt m groups counts p
-places-at fits within wide = (omega (arith, fits.within), omega (arith, fits.counted), omega (arith, fits.below _ within))
-
-pub paired_wider : {ng : ℕ} {list : List ℕ} {counts : List Float} (m : ℕ) → ng ≤ m → Paired ng list counts → Paired m list counts
-paired_wider m b all = record { counted = all.counted; below = λ p h. omega (arith, all.below p h) }
+pub sum_push : {A : Type 0} (f : ℕ → Float) (xs : List A) (y : A) {s v : Float} → s ≡ sum (length xs) f → v ≡ f (length xs) → s ⊕ v ≡ sum (length (xs ++ (y ∷ []))) f
+sum_push f xs y p q = rw (length_push xs y) (sum_more f (length xs) p q)
 
 -- ---- a sum kept for every group at once
 
@@ -147,23 +126,9 @@ module _ {group : ℕ → ℕ} {f : ℕ → Float → Float} {len : ℕ} {old : 
   pub gathering_done : {p : ℕ} {num : List Float} → len ≤ p → Gathering group f len old p num → Filled (λ k. gathered len group f k (at old k)) (length old) num
   gathering_done h all = rw (← le_antisymm all.within h) all.numbers
 
--- the same, and a sum, over the places from s to below e
-pub placing_more : (group : ℕ → ℕ) (f : ℕ → Float → Float) {s e p g : ℕ} {old num : List Float} {v : Float} → s ≤ p → p < e → g ≡ group p → g < length num → v ≡ f p (at num g) →
-    Gathering (λ k. group (s + k)) (λ k. f (s + k)) (e - s) old (p - s) num → Gathering (λ k. group (s + k)) (λ k. f (s + k)) (e - s) old (p + 1 - s) (set num g v)
-placing_more group f {s} {e} {p} {g} {old} {num} {v} h b named l w all =
-    let d : p ≡ s + (p - s) = omega arith in
-    let m : p - s + 1 ≡ p + 1 - s = omega arith in
-    subst (λ (k : ℕ). Gathering (λ k. group (s + k)) (λ k. f (s + k)) (e - s) old k (set num g v)) m
-    (gathering_more (omega arith) (named ∙ ap group d) l (w ∙ ap (λ (k : ℕ). f k (at num g)) d) all)
-
-pub places-none : (s : ℕ) (f : ℕ → Float) → of_bits binary64 0 ≡ sum (s - s) f
-places-none s f = let z : s - s ≡ 0 = omega arith in rw z (sum-none f)
-
-pub places-more : (s : ℕ) (f : ℕ → Float) (p : ℕ) {v w : Float} → s ≤ p → v ≡ sum (p - s) (λ k. f (s + k)) → w ≡ f p → v ⊕ w ≡ sum (p + 1 - s) (λ k. f (s + k))
-places-more s f p {v} {w} h all one =
-    let d : p ≡ s + (p - s) = omega arith in
-    let m : p - s + 1 ≡ p + 1 - s = omega arith in
-    subst (λ (k : ℕ). v ⊕ w ≡ sum k (λ k. f (s + k))) m (sum_more (λ k. f (s + k)) (p - s) all (one ∙ ap f d))
+pub gathering_push : {A : Type 0} {group : ℕ → ℕ} {f : ℕ → Float → Float} {len : ℕ} {old : List Float} (xs : List A) (y : A) {g : ℕ} {num : List Float} {v : Float} →
+    length xs < len → g ≡ group (length xs) → g < length num → v ≡ f (length xs) (at num g) → Gathering group f len old (length xs) num → Gathering group f len old (length (xs ++ (y ∷ []))) (set num g v)
+gathering_push xs y h e b w all = rw (length_push xs y) (gathering_more h e b w all)
 
 -- ---- an array that has F of the groups named
 
@@ -185,6 +150,16 @@ module _ (group : ℕ → ℕ) (F : ℕ → Float) where
   named-done p m a b all = rw (le_antisymm a b) at all
 
 -- ---- fractions
+
+pub front_length : (n : ℕ) (num front : List Float) → n ≤ length num → length front ≡ length (take n num) → length (front ++ drop n num) ≡ length num
+front_length n num front room long = simp (length-append, length-drop) (omega (arith, long, length-take-le n num room))
+
+-- the first n numbers each took its f, as a part that was lent
+pub front_filled : (n : ℕ) (f : Float → Float) (num : List Float) {front : List Float} → n ≤ length num → length front ≡ length (take n num) →
+    Filled (λ k. f (at (take n num) k)) (length (take n num)) front → Filled (λ k. f (at num k)) n (front ++ drop n num)
+front_filled n f num {front} room long all =
+    let size : length (take n num) ≡ n = length-take-le n num room in
+    record { each = λ k h. get_or-append front (drop n num) nan k (omega arith) ∙ all.each k (omega arith) ∙ ap f (get_or-take n num k nan h) }
 
 module _ (c : Groups) (x : ℕ → Float) where
   pub amount-none : (m : ℕ) {num : List Float} → Filled (λ _. +0) m num → Filled (amount 0 c x) m num
@@ -213,41 +188,6 @@ pure-over list counts ng all p few put over = record {
 
 -- ---- faults
 
-pub all_none : (p : ℕ → Bool) → true ≡ all_to 0 p
-unfolding all_to
-all_none p = refl
-
-pub all_more : (p : ℕ → Bool) (i : ℕ) → true ≡ all_to i p → p i ≡ true → true ≡ all_to (i + 1) p
-unfolding all_to
-all_more p i h e = rw (add-one, ← h, e)
-
-pub all_fails : (p : ℕ → Bool) (i n : ℕ) → i < n → p i ≡ false → false ≡ all_to n p
-unfolding all_to
-all_fails p i zero b e = absurd (omega arith)
-all_fails p i (suc n) b e =
-    ⊎_elim (λ q. rw (← q, e) (sym (and-false (all_to i p)))) (λ l. rw (← all_fails p i n l e)) (eq-or-lt_of_le (le_of_suc-le-suc b))
-
-pub loaded-from : {n ng : ℕ} {lens groups : List ℕ} {values : List Float} → Sized n ng lens groups values → ((p : ℕ) → p < length groups → get_or groups p 0 < ng) → Loaded n ng lens groups values
-loaded-from {n} {ng} {lens} {groups} {values} fit below = record {
-  some = fit.some;
-  few = fit.few;
-  some_groups = fit.some_groups;
-  few_groups = fit.few_groups;
-  tables = omega (arith, fit.whole);
-  listed = record {
-    many = omega (arith, fit.many);
-    within = omega (arith, fit.places);
-    counted = omega (arith, fit.whole, from-length (counts_at ng) values);
-    below = λ p h. below p (omega (arith, fit.places));
-  };
-}
-
 -- the counts lent from a place that was worked out
 pub listed_at : {n ng : ℕ} {lens groups : List ℕ} (values : List Float) {s : ℕ} → s ≡ counts_at ng → Listed n ng lens groups (from (counts_at ng) values) → Listed n ng lens groups (from s values)
 listed_at values e all = rw e all
-
--- the tests of `lists_fault`, each with what it came to
-pub lists_tests : (n ng : ℕ) (lens groups : List ℕ) (values : List Float) {a b c d e : Bool} → between 1 12 n && between 1 32 ng ≡ a → eqb (length lens) n ≡ b → all_to n (λ i. leb (get_or lens i 0) 12) ≡ c →
-    eqb (length groups) (start lens n) ≡ d → eqb (length values) (counts_at ng + start lens n) ≡ e → cond (a && b && c && d && e) 0 2 ≡ lists_fault n ng lens groups values
-unfolding lists_fault unifac_size
-lists_tests n ng lens groups values p q r s t = rw (p, q, r, s, t)

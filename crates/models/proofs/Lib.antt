@@ -9,3 +9,4 @@ pub mod ColumnLaws
 pub mod NrtlLaws
 pub mod UniquacLaws
 pub mod WorkedValues
+pub mod TermLaws

@@ -1,30 +1,31 @@
 -- NRTL: rows lent as parts, sums worked out once, and equal entries give equal values.
-use mathlib.Core.Path.{◌≡◌, refl, ◌∙◌}
+use mathlib.Core.Path.{◌≡◌, refl, ap, ◌∙◌}
 use mathlib.Core.List.{List}
 use mathlib.Core.Logic.{inl, inr}
 use Prim.Native.Nat.{ℕ, ◌+◌, ◌*◌, ◌<◌, ◌≤◌}
 use native.Mathlib.Omega.{arith}
 use lib.Dec.{eqb}
-use lib.ListN.{length, set, take}
+use lib.ListN.{length}
 use borrow.Author.Tests.{eq-eqb, ne_eqb, eqb-false}
 use lib.Ieee.{Float, neg}
 use Rattle.arithmetic.specs.Exponential.{exp_of}
 use Rattle.arithmetic.specs.Floats.{◌⊕◌, ◌⊖◌, ◌⊗◌, ◌⊘◌, +0, one}
-use Rattle.arithmetic.specs.Sums.{sum, total}
+use Rattle.arithmetic.specs.Sums.{sum}
 use Rattle.arithmetic.specs.Parameters.{td_at}
 use Rattle.arithmetic.specs.Tables.{at, grid, from, Filled, up_to}
 use Rattle.arithmetic.proofs.Tests.{either}
 use Rattle.arithmetic.proofs.SumLaws.{sum_same}
-use Rattle.arithmetic.proofs.TableLaws.{from_at, cell-lt, Filling}
+use Rattle.arithmetic.proofs.TableLaws.{filled_as, from_at, cell-lt}
 use Rattle.models.specs.declared.answers.Quantity.{Quantity}
-use Rattle.models.specs.declared.answers.Quantity.TheVariants.{LnGamma, Gamma, ExcessGibbs}
 use Rattle.models.specs.Faults.{index_fault}
 use Rattle.models.specs.Columns.{unit_at, unit_diagonal, column_sum}
 use Rattle.models.specs.Exponentials.{nonrandomness}
 use Rattle.models.specs.Nrtl.{tau_at, tau, numerator, ln_gamma, excess, nrtl, nrtl_at}
 use Rattle.models.specs.Values.{five_at, td_grid, taus, alphas}
-use Rattle.models.proofs.AnswerLaws.{index_ln, index_gamma, quantity_ln, quantity_gamma, quantity-excess, quantity-same}
-use Rattle.models.proofs.ColumnLaws.{unit_row, unit-same, column-same, unit_on, unit-off, row-added, terms_put}
+use Rattle.models.proofs.AnswerLaws.{quantity-same}
+use Rattle.models.proofs.ColumnLaws.{unit-same, column-same, unit_on, unit-off, upto_either}
+use Rattle.models.specs.Steps.Terms.{with_own}
+use Rattle.models.proofs.TermLaws.{own_sum}
 
 -- ---- the diagonal, where G is 1 and τ is 0, put right after a whole row
 
@@ -36,17 +37,12 @@ tau-off : (i k : ℕ) (row : ℕ → Float) → (i ≡ k → ⊥) → tau_at i r
 unfolding tau_at
 tau-off i k row h = rw (ne_eqb i k h)
 
-pub terms_added : (n i : ℕ) (x : Float) (g t : ℕ → Float) (s s' : List Float) {v : Float} → i < n → n ≤ length s → v ≡ at s i ⊕ x ⊗ one ⊗ +0 →
-    Filled (up_to n (λ j. at s j ⊕ x ⊗ g j ⊗ t j) (at s)) (length s) s' → length s' ≡ length s → Filled (up_to n (λ j. at s j ⊕ x ⊗ unit_at i g j ⊗ tau_at i t j) (at s)) (length s) (set s' i v)
-terms_added n i x g t s s' b h own all same =
-    row-added n i _ _ s s' b h (λ k d. rw (unit-off i k g d, tau-off i k t d)) (own ∙ rw (unit_on i g, tau_on i t)) all same
-
--- the terms of the second sum, that of the diagonal put right
-module _ (x g d u t : ℕ → Float) (i : ℕ) where
-  pub second_folded : {n m p : ℕ} {l : List Float} {w r : Float} → i < n → n ≤ p → Filling (λ j. x j ⊗ g j ⊘ d j ⊗ (t j ⊖ u j ⊘ d j)) n m p l →
-      w ≡ x i ⊗ one ⊘ d i ⊗ (+0 ⊖ u i ⊘ d i) → r ≡ total (take n (set l i w)) → r ≡ sum n (λ j. x j ⊗ unit_at i g j ⊘ d j ⊗ (tau_at i t j ⊖ u j ⊘ d j))
-  second_folded b done terms own e =
-      terms_put terms done i _ b (λ k c ne. rw (unit-off i k g ne, tau-off i k t ne)) (own ∙ rw (unit_on i g, tau_on i t)) e
+-- terms of a row whose G is 1 and whose τ is 0 at i
+pub terms_own : (n i : ℕ) (x : Float) (g t : ℕ → Float) (s : List Float) {own : Float} {p : ℕ} {s' : List Float} → own ≡ x ⊗ one ⊗ +0 →
+    Filled (up_to n (λ j. at s j ⊕ with_own i own (λ j. x ⊗ g j ⊗ t j) j) (at s)) p s' → Filled (up_to n (λ j. at s j ⊕ x ⊗ unit_at i g j ⊗ tau_at i t j) (at s)) p s'
+unfolding with_own unit_at tau_at
+terms_own n i x g t s o all =
+    filled_as (λ k b. upto_either n k (at s) _ _ (ap (λ (z : Float). at s k ⊕ z) (elim (either (eqb i k)) [ inl e ↦ rw (e, o) | inr e ↦ rw e ]))) all
 
 -- the row lent as a part gives the table's entry
 pub tau-row : (n : ℕ) (l : List Float) (i j : ℕ) → i * n + n ≤ length l → j < n → tau_at i (at (from (i * n) l)) j ≡ tau (grid n l) i j
@@ -72,30 +68,18 @@ module _ (n : ℕ) (τ G : ℕ → ℕ → Float) (x : ℕ → Float) {u d : Lis
   unfolding ln_gamma
   ln_hoisted i b = plus_same (rw (us.each i b, ds.each i b)) (sum_same n _ _ (λ j c. rw (us.each j c, ds.each j c)))
 
-  excess_hoisted : sum n (λ i. x i ⊗ at u i ⊘ at d i) ≡ excess n τ G x
+  pub excess_hoisted : sum n (λ i. x i ⊗ at u i ⊘ at d i) ≡ excess n τ G x
   unfolding excess
   excess_hoisted = sum_same n _ _ (λ i b. rw (us.each i b, ds.each i b))
 
-  -- what `value_over` answers for each quantity
-  pub nrtl_ln : {q : Quantity} {i : ℕ} {v : Float} → q ≡ LnGamma i → index_fault n q ≡ 0 →
-      v ≡ at u i ⊘ at d i ⊕ sum n (λ j. x j ⊗ unit_diagonal G i j ⊘ at d j ⊗ (tau τ i j ⊖ at u j ⊘ at d j)) → v ≡ nrtl n τ G x q
-  unfolding nrtl
-  nrtl_ln {q} {i} e z p = quantity_ln (ln_gamma n τ G x) (excess n τ G x) e (p ∙ ln_hoisted i (index_ln e z))
-
-  pub nrtl_gamma : {q : Quantity} {i : ℕ} {v w : Float} → q ≡ Gamma i → index_fault n q ≡ 0 →
-      w ≡ at u i ⊘ at d i ⊕ sum n (λ j. x j ⊗ unit_diagonal G i j ⊘ at d j ⊗ (tau τ i j ⊖ at u j ⊘ at d j)) → v ≡ exp_of w → v ≡ nrtl n τ G x q
-  unfolding nrtl
-  nrtl_gamma {q} {i} e z p r = quantity_gamma (ln_gamma n τ G x) (excess n τ G x) e (p ∙ ln_hoisted i (index_gamma e z)) r
-
-  pub nrtl-excess : {q : Quantity} {v : Float} → q ≡ ExcessGibbs → v ≡ sum n (λ i. x i ⊗ at u i ⊘ at d i) → v ≡ nrtl n τ G x q
-  unfolding nrtl
-  nrtl-excess e p = quantity-excess (ln_gamma n τ G x) (excess n τ G x) e (p ∙ excess_hoisted)
-
--- the second sum over the rows that start at i
-pub second-rows : (n : ℕ) (tl gl : List Float) (u d x : ℕ → Float) (i : ℕ) {v : Float} → i * n + n ≤ length tl → i * n + n ≤ length gl →
-    v ≡ sum n (λ j. x j ⊗ unit_at i (at (from (i * n) gl)) j ⊘ d j ⊗ (tau_at i (at (from (i * n) tl)) j ⊖ u j ⊘ d j)) →
-    u i ⊘ d i ⊕ v ≡ u i ⊘ d i ⊕ sum n (λ j. x j ⊗ unit_diagonal (grid n gl) i j ⊘ d j ⊗ (tau (grid n tl) i j ⊖ u j ⊘ d j))
-second-rows n tl gl u d x i h k p = plus_same refl (p ∙ sum_same n _ _ (λ j b. rw (unit_row n gl i j k b, tau-row n tl i j h b)))
+  -- ln γ_i, from terms over rows g and t whose place i is put right
+  pub ln_own : (i : ℕ) → i < n → (g t : ℕ → Float) {own r : Float} → ((j : ℕ) → j < n → g j ≡ G i j) → ((j : ℕ) → j < n → t j ≡ τ i j) →
+      own ≡ x i ⊗ one ⊘ at d i ⊗ (+0 ⊖ at u i ⊘ at d i) → r ≡ sum n (with_own i own (λ j. x j ⊗ g j ⊘ at d j ⊗ (t j ⊖ at u j ⊘ at d j))) → at u i ⊘ at d i ⊕ r ≡ ln_gamma n τ G x i
+  unfolding unit_diagonal tau
+  ln_own i b g t {r = r} gs ts o e =
+      let s : r ≡ sum n (λ j. x j ⊗ unit_at i (G i) j ⊘ at d j ⊗ (tau_at i (τ i) j ⊖ at u j ⊘ at d j)) =
+      e ∙ own_sum n i _ _ _ (o ∙ rw (unit_on i (G i), tau_on i (τ i))) (λ k c ne. rw (unit-off i k (G i) ne, tau-off i k (τ i) ne, gs k c, ts k c)) in
+      plus_same refl s ∙ ln_hoisted i b
 
 -- ---- equal entries, equal values
 

@@ -1,5 +1,5 @@
 -- UNIFAC: what an exponential reads, rows lent as parts, sums worked out once, and equal inputs give equal values.
-use mathlib.Core.Path.{◌≡◌, refl, ap, subst, ◌∙◌}
+use mathlib.Core.Path.{◌≡◌, refl, ap, ◌∙◌}
 use mathlib.Core.Bool.{true, cond}
 use mathlib.Core.List.{List, ◌++◌}
 use Prim.Native.Nat.{ℕ, ◌+◌, ◌*◌, ◌-◌, ◌/◌, ◌%◌, ◌<◌, ◌≤◌}
@@ -7,8 +7,8 @@ use native.Mathlib.Nat.{div-add-mod'}
 use native.Mathlib.Omega.{arith}
 use lib.Dec.{eqb}
 use lib.ListN.{length, get_or, take}
-use lib.Seq.{get_or-take}
-use lib.Ieee.{Float, nan, neg}
+use lib.Seq.{get_or-take, get_or-drop}
+use lib.Ieee.{Float, neg}
 use Rattle.arithmetic.specs.Floats.{◌⊕◌, ◌⊖◌, ◌⊗◌, ◌⊘◌, +0, one}
 use Rattle.arithmetic.specs.Exponential.{exp_of}
 use Rattle.arithmetic.specs.Logarithm.{log_of}
@@ -19,19 +19,23 @@ use Rattle.arithmetic.proofs.SumLaws.{fold_same, sum_same}
 use Rattle.arithmetic.proofs.TableLaws.{row-end, cell-lt, filled_as, filled-cell, from_at, part_at, by_place, back-before, back-within}
 use Rattle.models.specs.declared.answers.Quantity.{Quantity}
 use Rattle.models.specs.declared.answers.Quantity.TheVariants.{LnGamma, Gamma, ExcessGibbs}
-use Rattle.models.specs.declared.unifac.Shared.{Shared}
+use Rattle.models.specs.declared.groups.Each.{Each}
+use Rattle.models.specs.declared.groups.GroupList.{GroupList}
+use Rattle.models.specs.declared.groups.GroupLists.{GroupLists}
+use Rattle.models.specs.declared.unifac.terms.Mixture.{Mixture}
+use Rattle.models.specs.declared.unifac.terms.Shared.{Shared}
 use Rattle.models.specs.Answers.{quantity, reads}
 use Rattle.models.specs.Faults.{index_fault}
 use Rattle.models.specs.Columns.{column_sum}
 use Rattle.models.specs.Exponentials.{group_energy}
-use Rattle.models.specs.Steps.GroupLists.{Listed, Places, Loaded, Named, ListedRows, own, placed, gathered, added}
+use Rattle.models.specs.Steps.GroupLists.{Listed, SameList, Loaded, Named, ListedRows, own, gathered, added}
 use Rattle.models.specs.Unifac as Unifac
 use Rattle.models.specs.Unifac.{Groups, size, size_sum, combinatorial, counts, amount, amounts, fraction, pure_count, pure_fraction, theta, ln_group, mixed, pure, residual, ln_gamma, excess, unifac, unifac_by, unifac_at}
-use Rattle.models.specs.Steps.Unifac.{psi_by, Shares, combinatorial_from, ln_from}
+use Rattle.models.specs.Steps.Unifac.{IsList, HasData, lists_of, r_of, q_of, psi_of, x_of, psi_by, Shares, combinatorial_from, ln_from}
 use Rattle.models.specs.Values.{five_at, start, counts_at, group_rs, group_qs, group_as, lists}
 use Rattle.models.proofs.AnswerLaws.{quantity_ln, quantity_gamma, quantity-excess, quantity-same, quantity_read}
 use Rattle.models.proofs.ParameterLaws.{five-from}
-use Rattle.models.proofs.GroupListLaws.{listed-less, list_places, lent_at, lent_length, lent-paired}
+use Rattle.models.proofs.GroupListLaws.{start-more, list_length, list_paired, list_place}
 
 -- ---- an exponential
 
@@ -102,13 +106,6 @@ groups-from ng Q Ψ X m group below fractions thetas gammas = record {
 }
 
 -- ---- equal inputs, equal values
-
--- component i lists the same pairs in c and d, of groups below ng
-pub record SameList (ng : ℕ) (c d : Groups) (i : ℕ) : Type 0 where
-  pub lengths : c.length i ≡ d.length i
-  pub groups : (p : ℕ) → p < c.length i → c.group i p ≡ d.group i p
-  pub counts : (p : ℕ) → p < c.length i → c.count i p ≡ d.count i p
-  pub below : (p : ℕ) → p < c.length i → c.group i p < ng
 
 same_self : (ng : ℕ) (c : Groups) (i : ℕ) → ((p : ℕ) → p < c.length i → c.group i p < ng) → SameList ng c c i
 same_self ng c i b = record { lengths = refl; groups = λ p h. refl; counts = λ p h. refl; below = b }
@@ -198,79 +195,69 @@ module _ (n ng : ℕ) (c d : Groups) (lists : (i : ℕ) → i < n → SameList n
     unfolding unifac
     unifac-same q z = unifac_by_same (pure ng c Q Ψ) (pure ng d U Φ) q z (λ i h _ p b. pure-one-same (lists i h) Q U same-Q Ψ Φ same-Ψ (c.group i p) ((lists i h).below p b))
 
--- ---- a list lent as parts
+-- ---- a list of its own
 
-module _ (i : ℕ) {ng : ℕ} {lens groups : List ℕ} {counts : List Float} {s : ℕ} (all : Listed (i + 1) ng lens groups counts) (here : s ≡ start lens i) where
-  own_same : SameList ng (own (part s (s + get_or lens i 0) groups) (part s (s + get_or lens i 0) counts)) (lists lens groups counts) i
-  unfolding lists
-  own_same =
-      let fits = list_places i all here in
-      record {
-        lengths = lent_length fits ∙ omega arith;
-        groups = λ p h. lent_at fits p (omega (arith, lent_length fits)) ∙ rw here;
-        counts = λ p h. part_at counts s (s + get_or lens i 0) p (omega (arith, lent_length fits)) ∙ rw here;
-        below = (lent-paired fits).below;
-      }
+-- the list of component i, which begins at s and ends at e, lent as parts
+pub list_same : {n ng : ℕ} {lens groups : List ℕ} {counts : List Float} {i s e : ℕ} → Listed n ng lens groups counts → i < n → s ≡ start lens i → e ≡ s + get_or lens i 0 →
+    SameList ng (own (part s e groups) (part s e counts)) (lists lens groups counts) i
+unfolding lists
+list_same {n} {ng} {lens} {groups} {counts} {i} {s} {e} all h here end =
+    let long = list_length all h here end in
+    record {
+      lengths = long ∙ omega arith;
+      groups = λ p b. let c : p < e - s = omega (arith, long) in rw (get_or-take, get_or-drop, here);
+      counts = λ p b. let c : p < e - s = omega (arith, long) in part_at counts s e p c ∙ rw here;
+      below = (list_paired all h here end).below;
+    }
 
-  placed_same : SameList ng (placed s (s + get_or lens i 0) groups counts) (lists lens groups counts) i
-  unfolding lists
-  placed_same = record {
-    lengths = omega arith;
-    groups = λ p h. rw here;
-    counts = λ p h. rw here;
-    below = λ p h. (list_places i all here).below (s + p) (omega arith);
-  }
+-- the list after it begins where it ends
+pub next_start : {ng : ℕ} (lens groups : List ℕ) (counts : List Float) {c : Groups} {i s : ℕ} → s ≡ start lens i → SameList ng c (lists lens groups counts) i → s + c.length i ≡ start lens (i + 1)
+unfolding lists
+next_start lens groups counts here same = start-more lens _ here same.lengths
 
-  pub size-placed : (S : ℕ → Float) {v : Float} → v ≡ size (placed s (s + get_or lens i 0) groups counts) S 0 → v ≡ size (lists lens groups counts) S i
+-- a step through the lists of all
+pub turn : (all : GroupLists) (s t : Each) {i : ℕ} {l : GroupList} → s.lists ≡ all → (s.i < s.lists.n) × (i ≡ s.i) × IsList s.lists s.i l × (t.lists ≡ s.lists) × (t.i ≡ s.i + 1) →
+    (s.i < all.n) × (i ≡ s.i) × IsList all s.i l × (t.lists ≡ all) × (t.i ≡ s.i + 1)
+turn all s t e n = (rw (← e) n.0, n.1, rw (← e) n.2, n.3 ∙ e, n.4)
+
+pub turns_end : (all : GroupLists) (s : Each) → s.lists ≡ all → s.lists.n ≤ s.i → all.n ≤ s.i
+turns_end all s e h = rw (← e) h
+
+-- a list of its own with the pairs of component i
+module _ {ng : ℕ} (groups : List ℕ) (list_counts : List Float) {d : Groups} {i : ℕ} (l : SameList ng (own groups list_counts) d i) where
+  pub size-own : (S : ℕ → Float) {v : Float} → v ≡ size (own groups list_counts) S 0 → v ≡ size d S i
   unfolding size
-  size-placed S e = e ∙ size_same placed_same S S (λ k b. refl)
+  size-own S e = e ∙ size_same l S S (λ k b. refl)
 
-  pub counts-own : {v : Float} → v ≡ total (part s (s + get_or lens i 0) counts) → v ≡ Unifac.counts (lists lens groups counts) i
+  pub counts-own : {v : Float} → length list_counts ≡ length groups → v ≡ total list_counts → v ≡ Unifac.counts d i
   unfolding total Unifac.counts
-  counts-own e = e ∙ ap (λ (m : ℕ). sum m (at (part s (s + get_or lens i 0) counts))) (lent-paired (list_places i all here)).counted ∙ counts_same own_same
+  counts-own long e = e ∙ ap (λ (m : ℕ). sum m (at list_counts)) long ∙ counts_same l
 
-  pub added-placed : (x : Float) (old : ℕ → Float) {m : ℕ} {num : List Float} → Filled (λ k. added (placed s (s + get_or lens i 0) groups counts) x 0 k (old k)) m num →
-      Filled (λ k. added (lists lens groups counts) x i k (old k)) m num
+  pub added-own : (x : Float) (old : ℕ → Float) {m : ℕ} {num : List Float} → Filled (λ k. added (own groups list_counts) x 0 k (old k)) m num → Filled (λ k. added d x i k (old k)) m num
   unfolding gathered
-  added-placed x old = filled_as (λ k h. added-same placed_same x x k (old k) refl)
+  added-own x old = filled_as (λ k h. added-same l x x k (old k) refl)
 
-  pub pure-own : (Q : ℕ → Float) (Ψ : ℕ → ℕ → Float) {g : List Float} →
-      Named (length (part s (s + get_or lens i 0) groups)) (λ p. get_or (part s (s + get_or lens i 0) groups) p 0) (pure ng (own (part s (s + get_or lens i 0) groups) (part s (s + get_or lens i 0) counts)) Q Ψ 0) g →
-      Named ((lists lens groups counts).length i) ((lists lens groups counts).group i) (pure ng (lists lens groups counts) Q Ψ i) g
+  pub pure-own : (Q : ℕ → Float) (Ψ : ℕ → ℕ → Float) {g : List Float} → Named (length groups) (λ p. get_or groups p 0) (pure ng (own groups list_counts) Q Ψ 0) g → Named (d.length i) (d.group i) (pure ng d Q Ψ i) g
   unfolding pure pure_fraction pure_count Unifac.counts
   pure-own Q Ψ {g} named = record {
     each = λ p h.
-        let b : p < length (part s (s + get_or lens i 0) groups) = rw (← own_same.lengths) at h in
-        let e : at g (get_or (part s (s + get_or lens i 0) groups) p 0) ≡ pure ng (lists lens groups counts) Q Ψ i (get_or (part s (s + get_or lens i 0) groups) p 0) =
-        named.each p b ∙ pure-one-same own_same Q Q (λ k b. refl) Ψ Ψ (λ m k b c. refl) _ (own_same.below p b) in
-        rw (own_same.groups p b) at e;
+        let b : p < length groups = rw (← l.lengths) at h in
+        let e : at g (get_or groups p 0) ≡ pure ng d Q Ψ i (get_or groups p 0) = named.each p b ∙ pure-one-same l Q Q (λ k b. refl) Ψ Ψ (λ m k b c. refl) _ (l.below p b) in
+        rw (l.groups p b) at e;
   }
 
-  -- g has ln Γ in the mixture, of all groups or of those listed
-  pub residual-filled : (M : ℕ → Float) (P : ℕ → ℕ → Float) {g : List Float} {v : Float} → Filled M ng g →
-      v ≡ residual (placed s (s + get_or lens i 0) groups counts) (at g) P i → v ≡ residual (lists lens groups counts) M P i
-  residual-filled M P {g} all e = e ∙ residual-same placed_same (at g) M P P all.each (λ p h. refl)
-
-  pub residual-placed : (M : ℕ → Float) (P : ℕ → ℕ → Float) {g : List Float} {v : Float} → Named (s + get_or lens i 0 - s) (λ p. get_or groups (s + p) 0) M g →
-      v ≡ residual (placed s (s + get_or lens i 0) groups counts) (at g) P i → v ≡ residual (lists lens groups counts) M P i
+  -- g has M of the groups listed, and row i of the table of pure ln Γ is lent as a part
+  pub residual-own : (M : ℕ → Float) (table : List Float) {g : List Float} {v : Float} → Named (length groups) (λ p. get_or groups p 0) M g → i * ng + ng ≤ length table →
+      v ≡ residual (own groups list_counts) (at g) (λ _. at (from (i * ng) table)) 0 → v ≡ residual d M (grid ng table) i
   unfolding residual
-  residual-placed M P named e =
-      e ∙ sum_same (s + get_or lens i 0 - s) _ _ (λ p h. rw (named.each p h)) ∙ residual-same placed_same M M P P (λ k b. refl) (λ p h. refl)
+  residual-own M table named room e =
+      e
+      ∙ sum_same (length groups) _ _ (λ p h. let b : get_or groups p 0 < ng = l.below p h in rw (named.each p h, from_at table (i * ng) (get_or groups p 0) (omega arith)))
+      ∙ residual-same l M M (grid ng table) (grid ng table) (λ k b. refl) (λ p h. refl)
 
-module _ {ng s e : ℕ} {groups : List ℕ} {counts : List Float} (fits : Places ng s e groups counts) where
-  pub named-lent : (F : ℕ → Float) {g : List Float} → Named (length (part s e groups)) (λ p. get_or (part s e groups) p 0) F g → Named (e - s) (λ p. get_or groups (s + p) 0) F g
-  named-lent F {g} named = record { each = λ p h. subst (λ (k : ℕ). at g k ≡ F k) (lent_at fits p h) (named.each p (omega (arith, lent_length fits))) }
-
-  -- the list and row i of the table lent as parts
-  pub residual-lent : (g table : List Float) (i : ℕ) {v : Float} → i * ng + ng ≤ length table →
-      v ≡ residual (own (part s e groups) (part s e counts)) (at (take ng g)) (λ _. at (from (i * ng) table)) 0 → v ≡ residual (placed s e groups counts) (at g) (grid ng table) i
-  unfolding residual
-  residual-lent g table i room p =
-      p ∙ ap (λ (m : ℕ). sum m (λ p. at (part s e counts) p ⊗ (at (take ng g) (get_or (part s e groups) p 0) ⊖ at (from (i * ng) table) (get_or (part s e groups) p 0)))) (lent_length fits)
-      ∙ sum_same (e - s) _ _
-      (λ p h.
-      let b : get_or groups (s + p) 0 < ng = fits.below (s + p) (omega arith) in
-      rw (lent_at fits p h, part_at counts s e p h, get_or-take ng g (get_or groups (s + p) 0) nan b, from_at table (i * ng) (get_or groups (s + p) 0) (omega arith)))
+-- an array that has F of all groups has it of those listed
+pub named_filled : {F : ℕ → Float} {ng m : ℕ} {group : ℕ → ℕ} {g : List Float} → ((p : ℕ) → p < m → group p < ng) → Filled F ng g → Named m group F g
+named_filled below all = record { each = λ p h. all.each _ (below p h) }
 
 -- row i comes back in the middle of the table
 pub rows_more : (first i ng : ℕ) (c : Groups) (F : ℕ → ℕ → Float) (g ys rest : List Float) → i * ng ≤ length g → ng ≤ length ys → ((j p : ℕ) → j ≤ i → p < c.length j → c.group j p < ng) →
@@ -336,34 +323,35 @@ module _ (n ng : ℕ) (c : Groups) (R Q : ℕ → Float) (Ψ P : ℕ → ℕ →
 
 pub listed_same : {n ng : ℕ} {lens groups : List ℕ} {counts : List Float} → Listed n ng lens groups counts → (i : ℕ) → i < n → SameList ng (lists lens groups counts) (lists lens groups counts) i
 unfolding lists
-listed_same {n} {ng} {lens} all i h = same_self ng _ i (λ p b. (list_places i (listed-less all i ng h (omega arith)) refl).below (start lens i + p) (omega arith))
+listed_same {n} {ng} {lens} all i h = same_self ng _ i (λ p b. all.below (start lens i + p) (list_place lens i n p h b))
 
--- what `value_over` hands on: the parts of the values where Q and the counts start
-pub value-from : (n ng : ℕ) (lens groups : List ℕ) (values : List Float) (Ψ P : ℕ → ℕ → Float) (x : ℕ → Float) (q : Quantity) {s : ℕ} {v : Float} → Loaded n ng lens groups values → index_fault n q ≡ 0 → s ≡ counts_at ng →
-    v ≡ unifac_by n ng (lists lens groups (from s values)) (at values) (at (from ng values)) Ψ P x q →
-    v ≡ unifac_by n ng (lists lens groups (from (counts_at ng) values)) (group_rs ng values) (group_qs ng values) Ψ P x q
-unfolding group_rs group_qs counts_at
-value-from n ng lens groups values Ψ P x q {s} all z e p =
-    p ∙ ap (λ (s : ℕ). unifac_by n ng (lists lens groups (from s values)) (at values) (at (from ng values)) Ψ P x q) e
-    ∙ unifac_by_same n ng _ _ (listed_same all.listed)
-    _ _ (λ k b. from_at values ng k (omega (arith, all.tables)))
-    _ _ (λ m k b c. refl) _ _ (λ i h. refl) _ _ (λ k b. refl) P P q z (λ i h r p b. refl)
+-- a mixture that holds the values goes by the parts where Q and the counts start
+module _ (n ng : ℕ) (lens groups : List ℕ) (values psi x : List Float) (m : Mixture) (has : HasData n ng lens groups values psi x m) (table : List Float) (q : Quantity) (all : Loaded n ng lens groups values) (z : index_fault n q ≡ 0) where
+  pub value-from : {v : Float} → v ≡ unifac_by m.lists.n m.lists.ng (lists_of m.lists) (r_of m) (q_of m) (psi_of m) (grid m.lists.ng table) (x_of m) q →
+      v ≡ unifac_by n ng (lists lens groups (from (counts_at ng) values)) (group_rs ng values) (group_qs ng values) (grid ng psi) (grid ng table) (at x) q
+  unfolding group_rs group_qs counts_at
+  value-from p =
+      rw (has.components, has.width, has.lengths, has.names, has.counts, has.rs, has.qs, has.psis, has.fractions) at p
+      ∙ unifac_by_same n ng _ _ (listed_same all.listed)
+      _ _ (λ k b. from_at values ng k (omega (arith, all.tables)))
+      _ _ (λ m k b c. refl) _ _ (λ i h. refl) _ _ (λ k b. refl) (grid ng table) (grid ng table) q z (λ i h r p b. refl)
 
--- a table whose rows that count are those of the pure components
-pub value-pure : (n ng : ℕ) (lens groups : List ℕ) (values table : List Float) (Ψ : ℕ → ℕ → Float) (x : ℕ → Float) (q : Quantity) {s a b : ℕ} {v : Float} → Loaded n ng lens groups values → index_fault n q ≡ 0 → s ≡ counts_at ng →
-    ((i : ℕ) → i < n → reads q i ≡ true → (a ≤ i) × (i < b)) → ListedRows a b ng (lists lens groups (from s values)) (pure ng (lists lens groups (from s values)) (at (from ng values)) Ψ) table →
-    v ≡ unifac_by n ng (lists lens groups (from (counts_at ng) values)) (group_rs ng values) (group_qs ng values) Ψ (grid ng table) x q →
-    v ≡ unifac n ng (lists lens groups (from (counts_at ng) values)) (group_rs ng values) (group_qs ng values) Ψ x q
-unfolding unifac group_qs counts_at
-value-pure n ng lens groups values table Ψ x q {s} {a} {b} all z e span rows p =
-    let own : ListedRows a b ng (lists lens groups (from (counts_at ng) values)) (pure ng (lists lens groups (from (counts_at ng) values)) (at (from ng values)) Ψ) table = rw e at rows in
-    let same = listed_same all.listed in
-    p
-    ∙ unifac_by_same n ng _ _ same
-    _ _ (λ k b. refl) _ _ (λ m k b c. refl) _ _ (λ i h. refl) _ _ (λ k b. refl) (grid ng table) _ q z
-    (λ i h r p c.
-    own.each i (span i h r).0 (span i h r).1 p c
-    ∙ pure-one-same (same i h) _ _ (λ k b. from_at values ng k (omega (arith, all.tables))) Ψ Ψ (λ m k b c. refl) _ ((same i h).below p c))
+  -- a table whose rows that count are those of the pure components
+  pub value-pure : {first last : ℕ} {v : Float} → ((i : ℕ) → i < n → reads q i ≡ true → (first ≤ i) × (i < last)) →
+      ListedRows first last m.lists.ng (lists_of m.lists) (pure m.lists.ng (lists_of m.lists) (q_of m) (psi_of m)) table →
+      v ≡ unifac_by n ng (lists lens groups (from (counts_at ng) values)) (group_rs ng values) (group_qs ng values) (grid ng psi) (grid ng table) (at x) q →
+      v ≡ unifac n ng (lists lens groups (from (counts_at ng) values)) (group_rs ng values) (group_qs ng values) (grid ng psi) (at x) q
+  unfolding unifac group_qs counts_at
+  value-pure {first} {last} span rows p =
+      let own : ListedRows first last ng (lists lens groups (from (counts_at ng) values)) (pure ng (lists lens groups (from (counts_at ng) values)) (at (from ng values)) (grid ng psi)) table =
+      rw (has.width, has.lengths, has.names, has.counts, has.qs, has.psis) at rows in
+      let same = listed_same all.listed in
+      p
+      ∙ unifac_by_same n ng _ _ same
+      _ _ (λ k b. refl) _ _ (λ m k b c. refl) _ _ (λ i h. refl) _ _ (λ k b. refl) (grid ng table) _ q z
+      (λ i h r p c.
+      own.each i (span i h r).0 (span i h r).1 p c
+      ∙ pure-one-same (same i h) _ _ (λ k b. from_at values ng k (omega (arith, all.tables))) (grid ng psi) (grid ng psi) (λ m k b c. refl) _ ((same i h).below p c))
 
 -- a table that is filled with the exponentials at T
 pub value-filled : (n ng : ℕ) (lens groups : List ℕ) (values table : List Float) (x : ℕ → Float) (T : Float) (q : Quantity) {v : Float} → Loaded n ng lens groups values → index_fault n q ≡ 0 →

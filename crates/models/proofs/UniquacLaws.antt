@@ -1,26 +1,28 @@
 -- UNIQUAC's values go by r, q and x below n and by E off the diagonal alone; what is worked out once is as in the
 -- definition.
-use mathlib.Core.Path.{◌≡◌, refl, ◌∙◌}
+use mathlib.Core.Path.{◌≡◌, refl, ap, ◌∙◌}
 use mathlib.Core.List.{List}
 use Prim.Native.Nat.{ℕ, ◌+◌, ◌*◌, ◌<◌, ◌≤◌}
 use native.Mathlib.Omega.{arith}
-use lib.ListN.{length, set, take}
+use lib.ListN.{length}
 use lib.Ieee.{Float}
 use Rattle.arithmetic.specs.Floats.{◌⊕◌, ◌⊖◌, ◌⊗◌, ◌⊘◌, one}
 use Rattle.arithmetic.specs.Logarithm.{log_of}
-use Rattle.arithmetic.specs.Sums.{sum, total}
+use Rattle.arithmetic.specs.Sums.{sum}
 use Rattle.arithmetic.specs.Tables.{at, grid, from, flat, Filled}
 use Rattle.arithmetic.proofs.SumLaws.{sum_same}
-use Rattle.arithmetic.proofs.TableLaws.{filled_as, filled-cell, from_at, Filling}
+use Rattle.arithmetic.proofs.TableLaws.{filled_as, filled-cell, from_at}
 use Rattle.models.specs.declared.answers.Quantity.{Quantity}
 use Rattle.models.specs.Faults.{index_fault}
 use Rattle.models.specs.Columns.{unit_at, unit_diagonal, column_sum}
 use Rattle.models.specs.Exponentials.{energy}
-use Rattle.models.specs.Steps.Uniquac.{UniquacShared, combinatorial_by, combinatorial_of}
+use Rattle.models.specs.Steps.Uniquac.{UniquacShared, combinatorial_by, residual_by}
 use Rattle.models.specs.Uniquac.{tau, share, l, segment_ratio, area_ratio, combinatorial, residual, ln_gamma, excess, uniquac, uniquac_at}
 use Rattle.models.specs.Values.{energies, rs, qs}
 use Rattle.models.proofs.AnswerLaws.{quantity-same}
-use Rattle.models.proofs.ColumnLaws.{unit-same, column-same, unit_on, unit-off, terms_put}
+use Rattle.models.proofs.ColumnLaws.{unit-same, column-same, unit_on, unit-off}
+use Rattle.models.specs.Steps.Terms.{with_own}
+use Rattle.models.proofs.TermLaws.{own_sum}
 
 -- ---- equal entries, equal answers
 
@@ -73,20 +75,14 @@ module _ (n : ℕ) (r s q p : ℕ → Float) (x y : ℕ → Float) (er : (i : �
 
 -- ---- what code works out
 
--- the combinatorial part from its logs, taken singly or side by side
-pub combinatorial-from : (x r q θ rx lx : Float) {segment ln_segment ln_area c : Float} → segment ≡ x ⊗ r ⊘ rx ⊘ x → ln_segment ≡ log_of segment → ln_area ≡ log_of (θ ⊘ (x ⊗ r ⊘ rx)) →
-    c ≡ combinatorial_by r q segment ln_segment ln_area lx → c ≡ combinatorial_of x r q θ rx lx
-unfolding combinatorial_of
-combinatorial-from x r q θ rx lx s ls la k = rw (k, ls, la, s)
-
--- the quotients of a residual part, that of the diagonal put right
-pub residual_folded : (θ sums : ℕ → Float) (E : ℕ → ℕ → Float) (i : ℕ) (q l : Float) {n m p : ℕ} {g : List Float} {w r : Float} → i < n → n ≤ p →
-    Filling (λ j. θ j ⊗ E i j ⊘ sums j) n m p g → w ≡ θ i ⊗ one ⊘ sums i → r ≡ total (take n (set g i w)) →
-    q ⊗ (one ⊖ l ⊖ r) ≡ q ⊗ (one ⊖ l ⊖ sum n (λ j. θ j ⊗ tau E i j ⊘ sums j))
-unfolding unit_diagonal
-residual_folded θ sums E i q l {n} {r = r} b done terms own t =
-    let S : r ≡ sum n (λ j. θ j ⊗ unit_at i (E i) j ⊘ sums j) = terms_put terms done i _ b (λ k c ne. rw (unit-off i k (E i) ne)) (own ∙ rw (unit_on i (E i))) t in
-    rw S
+-- the sum of the residual part, from terms whose diagonal is put right
+pub residual_own : (n i : ℕ) (q l : Float) (E : ℕ → ℕ → Float) (θ S : ℕ → Float) (row : ℕ → Float) {own r : Float} → ((j : ℕ) → j < n → row j ≡ E i j) → own ≡ θ i ⊗ one ⊘ S i →
+    r ≡ sum n (with_own i own (λ j. θ j ⊗ row j ⊘ S j)) → q ⊗ (one ⊖ l ⊖ r) ≡ residual_by n q E θ S l i
+unfolding residual_by unit_diagonal
+residual_own n i q l E θ S row {r = r} part o e =
+    let s : r ≡ sum n (λ j. θ j ⊗ unit_at i (E i) j ⊘ S j) =
+    e ∙ own_sum n i _ _ _ (o ∙ rw (unit_on i (E i))) (λ k b ne. rw (unit-off i k (E i) ne, part k b)) in
+    rw s
 
 -- what all components share, from what the callees work out: the column sums are those over the shares that stand in a list
 pub shared : (n : ℕ) (r q : ℕ → Float) (E : ℕ → ℕ → Float) (x : ℕ → Float) {rx lx : Float} {theta sums : List Float} → rx ≡ sum n (λ j. x j ⊗ r j) → lx ≡ sum n (λ j. x j ⊗ l r q j) →
@@ -100,14 +96,16 @@ shared n r q E x {rx} {lx} {theta} {sums} s t all columns h g = record {
   summed = g;
 }
 
+-- ln γ_i and its two parts, from what all components share
 module _ (n : ℕ) (r q : ℕ → Float) (E : ℕ → ℕ → Float) (x : ℕ → Float) (rx lx : Float) (theta sums : List Float) (S : UniquacShared n r q E x rx lx theta sums) (i : ℕ) (b : i < n) where
-  combinatorial_hoisted : combinatorial_of (x i) (r i) (q i) (at theta i) rx lx ≡ combinatorial n r q x i
-  unfolding combinatorial_of combinatorial_by combinatorial segment_ratio area_ratio share l
-  combinatorial_hoisted = rw (S.shares.each i b, S.r_sum, S.l_sum)
+  combinatorial_shared : {segment ln_segment ln_area c : Float} → segment ≡ x i ⊗ r i ⊘ rx ⊘ x i → ln_segment ≡ log_of segment → ln_area ≡ log_of (at theta i ⊘ (x i ⊗ r i ⊘ rx)) →
+      c ≡ combinatorial_by (r i) (q i) segment ln_segment ln_area lx → c ≡ combinatorial n r q x i
+  unfolding combinatorial_by combinatorial segment_ratio area_ratio share l
+  combinatorial_shared s ls la k = rw (k, ls, la, s, S.shares.each i b, S.r_sum, S.l_sum)
 
-  residual_hoisted : {ln_sum v : Float} → ln_sum ≡ log_of (at sums i) → v ≡ q i ⊗ (one ⊖ ln_sum ⊖ sum n (λ j. at theta j ⊗ tau E i j ⊘ at sums j)) → v ≡ residual n q E (share n q x) i
-  unfolding residual
-  residual_hoisted lu k =
+  residual_shared : {ln_sum v : Float} → ln_sum ≡ log_of (at sums i) → v ≡ residual_by n (q i) E (at theta) (at sums) ln_sum i → v ≡ residual n q E (share n q x) i
+  unfolding residual residual_by
+  residual_shared lu k =
       rw (
         k,
         lu,
@@ -116,10 +114,17 @@ module _ (n : ℕ) (r q : ℕ → Float) (E : ℕ → ℕ → Float) (x : ℕ �
             (λ j c. rw (S.shares.each j c, S.columns.each j c)),
       )
 
-  pub ln_gamma_hoisted : {ln_sum c v : Float} → c ≡ combinatorial_of (x i) (r i) (q i) (at theta i) rx lx → ln_sum ≡ log_of (at sums i) →
-      v ≡ q i ⊗ (one ⊖ ln_sum ⊖ sum n (λ j. at theta j ⊗ tau E i j ⊘ at sums j)) → c ⊕ v ≡ ln_gamma n r q E x i
+  pub ln_gamma_shared : {segment ln_segment ln_area ln_sum c v : Float} → segment ≡ x i ⊗ r i ⊘ rx ⊘ x i → ln_segment ≡ log_of segment → ln_area ≡ log_of (at theta i ⊘ (x i ⊗ r i ⊘ rx)) →
+      c ≡ combinatorial_by (r i) (q i) segment ln_segment ln_area lx → ln_sum ≡ log_of (at sums i) → v ≡ residual_by n (q i) E (at theta) (at sums) ln_sum i → c ⊕ v ≡ ln_gamma n r q E x i
   unfolding ln_gamma
-  ln_gamma_hoisted k lu w = rw (k, combinatorial_hoisted, residual_hoisted lu w)
+  ln_gamma_shared s ls la k lu w = rw (combinatorial_shared s ls la k, residual_shared lu w)
+
+  -- the same from logs that stand in lists
+  pub ln_gamma_listed : (phi segments ln_segments areas ln_areas ln_sums : List Float) → at phi i ≡ x i ⊗ r i ⊘ rx → at segments i ≡ at phi i ⊘ x i → at ln_segments i ≡ log_of (at segments i) →
+      at areas i ≡ at theta i ⊘ at phi i → at ln_areas i ≡ log_of (at areas i) → at ln_sums i ≡ log_of (at sums i) →
+      combinatorial_by (r i) (q i) (at segments i) (at ln_segments i) (at ln_areas i) lx ⊕ residual_by n (q i) E (at theta) (at sums) (at ln_sums i) i ≡ ln_gamma n r q E x i
+  ln_gamma_listed phi segments ln_segments areas ln_areas ln_sums p s ls a la lu =
+      ln_gamma_shared (s ∙ ap (λ (z : Float). z ⊘ x i) p) ls (la ∙ ap log_of (a ∙ ap (λ (z : Float). at theta i ⊘ z) p)) refl lu refl
 
 -- ---- what `value_at` puts together: the exponentials in el, the r's in the part from n·n on, the q's n places further
 

@@ -4,22 +4,23 @@ use mathlib.Core.Path.{◌≡◌, refl, sym, ◌∙◌}
 use mathlib.Core.List.{List}
 use Prim.Native.Nat.{ℕ, ◌+◌, ◌*◌, ◌<◌, ◌≤◌}
 use native.Mathlib.Omega.{arith}
-use lib.ListN.{length, set, take}
+use lib.ListN.{length}
 use borrow.Author.Tests.{eq-eqb, ne_eqb}
-use lib.Ieee.{Float}
+use lib.Ieee.{Float, binary64, of_bits}
 use Rattle.arithmetic.specs.Floats.{◌⊖◌, ◌⊗◌, ◌⊘◌, +0, one}
 use Rattle.arithmetic.specs.Logarithm.{log_of}
-use Rattle.arithmetic.specs.Sums.{fold, sum, total}
+use Rattle.arithmetic.specs.Sums.{fold, sum}
 use Rattle.arithmetic.specs.Tables.{at, grid, from, flat, Filled, up_to}
 use Rattle.arithmetic.proofs.SumLaws.{fold_same, sum_same}
-use Rattle.arithmetic.proofs.TableLaws.{from_at, filled-cell, upto_below, Filling}
+use Rattle.arithmetic.proofs.TableLaws.{from_at, filled-cell, upto_below}
 use Rattle.models.specs.declared.answers.Quantity.{Quantity}
 use Rattle.models.specs.Faults.{index_fault}
 use Rattle.models.specs.Exponentials.{energy}
 use Rattle.models.specs.Values.{energies, volumes}
 use Rattle.models.specs.Wilson.{lambda, row_sum, ln_gamma, excess, wilson, wilson_at}
 use Rattle.models.proofs.AnswerLaws.{quantity-same}
-use Rattle.models.proofs.ColumnLaws.{terms_put}
+use Rattle.models.specs.Steps.Terms.{with_own}
+use Rattle.models.proofs.TermLaws.{own_sum}
 use Rattle.models.proofs.ExponentialLaws.{off_diagonal}
 
 -- ---- equal entries, equal answers
@@ -61,46 +62,30 @@ lambda-off : (v : ℕ → Float) (E : ℕ → ℕ → Float) (i k : ℕ) → (i 
 unfolding lambda
 lambda-off v E i k h = rw (ne_eqb i k h)
 
--- the part that starts at row i gives the row's entries
-lambda-row : (n : ℕ) (v : ℕ → Float) (e : List Float) (i j : ℕ) → i * n + j < length e → lambda v (λ _. at (from (i * n) e)) i j ≡ lambda v (grid n e) i j
-unfolding lambda
-lambda-row n v e i j h = rw (from_at e (i * n) j h)
-
-pub row_sum-row : (n : ℕ) (v : ℕ → Float) (e : List Float) (x : ℕ → Float) (i : ℕ) → i * n + n ≤ length e → row_sum n v (λ _. at (from (i * n) e)) x i ≡ row_sum n v (grid n e) x i
+-- a row sum, from terms whose diagonal is put right
+pub row_own : (n : ℕ) (v : ℕ → Float) (E : ℕ → ℕ → Float) (x : ℕ → Float) (i : ℕ) {own r : Float} → own ≡ x i ⊗ one →
+    r ≡ sum n (with_own i own (λ j. x j ⊗ (v j ⊘ v i ⊗ E i j))) → r ≡ row_sum n v E x i
 unfolding row_sum
-row_sum-row n v e x i h = sum_same n _ _ (λ j b. rw (lambda-row n v e i j (omega arith)))
-
--- the terms of a row sum, that of the diagonal put right
-pub row_folded : (v row x : ℕ → Float) (i : ℕ) {n m p : ℕ} {g : List Float} {w r : Float} → i < n → n ≤ p →
-    Filling (λ j. x j ⊗ (v j ⊘ v i ⊗ row j)) n m p g → w ≡ x i ⊗ one → r ≡ total (take n (set g i w)) → r ≡ row_sum n v (λ _. row) x i
-unfolding row_sum
-row_folded v row x i b done terms own e =
-    terms_put terms done i _ b (λ k c ne. rw (lambda-off v (λ _. row) i k ne)) (own ∙ rw (lambda_on v (λ _. row) i)) e
+row_own n v E x i o e =
+    e ∙ own_sum n i _ _ _ (o ∙ rw (lambda_on v E i)) (λ k b ne. rw (lambda-off v E i k ne))
 
 -- over row sums that stand in a list
-module _ (n : ℕ) (v : ℕ → Float) (e : List Float) (x : ℕ → Float) (sums : List Float) (all : Filled (row_sum n v (grid n e) x) n sums) (i : ℕ) (b : i < n) where
-  ln_term : (k : ℕ) → k < n → (i ≡ k → ⊥) → x k ⊗ (v i ⊘ v k ⊗ grid n e k i) ⊘ at sums k ≡ x k ⊗ lambda v (grid n e) k i ⊘ row_sum n v (grid n e) x k
-  ln_term k c ne = rw (lambda-off v (grid n e) k i (λ q. ne (sym q)), all.each k c)
-
+module _ (n : ℕ) (v : ℕ → Float) (E : ℕ → ℕ → Float) (x : ℕ → Float) (sums : List Float) (all : Filled (row_sum n v E x) n sums) (i : ℕ) (b : i < n) where
   -- ln γ_i, its terms as those of a row sum
-  pub ln_folded : {m p : ℕ} {g : List Float} {w l r : Float} → n ≤ p → Filling (λ k. x k ⊗ (v i ⊘ v k ⊗ grid n e k i) ⊘ at sums k) n m p g → w ≡ x i ⊗ one ⊘ at sums i →
-      l ≡ log_of (at sums i) → r ≡ total (take n (set g i w)) → one ⊖ l ⊖ r ≡ ln_gamma n v (grid n e) x i
+  pub ln_own : {own l r : Float} → own ≡ x i ⊗ one ⊘ at sums i → l ≡ log_of (at sums i) →
+      r ≡ sum n (with_own i own (λ k. x k ⊗ (v i ⊘ v k ⊗ E k i) ⊘ at sums k)) → one ⊖ l ⊖ r ≡ ln_gamma n v E x i
   unfolding ln_gamma
-  ln_folded {r = r} done terms own log t =
-      let S : r ≡ sum n (λ k. x k ⊗ lambda v (grid n e) k i ⊘ row_sum n v (grid n e) x k) =
-      terms_put terms done i _ b ln_term (own ∙ rw (lambda_on v (grid n e) i, all.each i b)) t in
+  ln_own {r = r} o log t =
+      let S : r ≡ sum n (λ k. x k ⊗ lambda v E k i ⊘ row_sum n v E x k) =
+      t ∙ own_sum n i _ _ _ (o ∙ rw (lambda_on v E i, all.each i b)) (λ k c ne. rw (lambda-off v E k i (λ q. ne (sym q)), all.each k c)) in
       rw (log, all.each i b, S)
 
--- the excess energy over logs that stand in a list
-pub excess_logs : (n p : ℕ) (x old : ℕ → Float) (sums logs : List Float) {r : Float} → n ≤ p → Filled (up_to n (λ k. log_of (at sums k)) old) p logs →
-    r ≡ fold n +0 (λ i s. s ⊖ x i ⊗ at logs i) → r ≡ fold n +0 (λ i s. s ⊖ x i ⊗ log_of (at sums i))
-excess_logs n p x old sums logs h all e = e ∙ fold_same n +0 _ _ (λ i s b. rw (all.each i (omega arith), upto_below n (λ k. log_of (at sums k)) old i b))
-
--- the excess energy over row sums that stand in a list
-pub excess_hoisted : (n : ℕ) (v : ℕ → Float) (E : ℕ → ℕ → Float) (x : ℕ → Float) (sums : List Float) → Filled (row_sum n v E x) n sums →
-    fold n +0 (λ i s. s ⊖ x i ⊗ log_of (at sums i)) ≡ excess n v E x
-unfolding excess
-excess_hoisted n v E x sums all = fold_same n +0 _ _ (λ i s b. rw (all.each i b))
+-- the excess energy, from the logs of row sums that stand in a list
+pub excess_of_logs : (n : ℕ) (v : ℕ → Float) (E : ℕ → ℕ → Float) (x old : ℕ → Float) (sums logs : List Float) {p : ℕ} {r : Float} → n ≤ p →
+    Filled (row_sum n v E x) n sums → Filled (up_to n (λ k. log_of (at sums k)) old) p logs → r ≡ fold n (of_bits binary64 0) (λ i s. s ⊖ x i ⊗ at logs i) → r ≡ excess n v E x
+unfolding excess of_bits
+excess_of_logs n v E x old sums logs h rows all e =
+    e ∙ fold_same n +0 _ _ (λ i s b. rw (all.each i (omega arith), upto_below n (λ k. log_of (at sums k)) old i b, rows.each i b))
 
 -- ---- what `value_at` puts together: the exponentials in el, the volumes in the part from n·n on
 

@@ -1,8 +1,8 @@
 -- The four models, and what goes by them.
-use Rattle.std.specs.Prelude.{Bool, true, false, ◌&&◌, cond, List, ℕ, eqb, leb, Float}
-use Rattle.std.specs.Borrow.{Bor}
-use denote.Triple.Both.{Both}
+use Rattle.std.specs.Prelude.{◌≡◌, Result, MatchResult, Bool, true, false, ◌&&◌, cond, List, ℕ, eqb, leb, Float}
+use Rattle.models.specs.declared.data.Data.{Data}
 use Rattle.models.specs.declared.model.Model.{Model}
+use Rattle.models.specs.declared.model.UnknownModel.{UnknownModel}
 use Rattle.models.specs.declared.model.Model.TheVariants.{Wilson, Uniquac, Nrtl, Unifac}
 use Rattle.models.specs.Values.{wilson_size, uniquac_size, nrtl_size, start, unifac_size}
 
@@ -29,6 +29,10 @@ model_of k = cond (eqb k 1) Wilson (cond (eqb k 2) Uniquac (cond (eqb k 3) Nrtl 
 abbrev pub is_model : ℕ → Bool
 is_model k = leb 1 k && leb k 4
 
+-- what a number gives: its model, or that there is none
+abbrev pub Numbered : ℕ → Result Model UnknownModel → Type 0
+Numbered k r = MatchResult r (λ m. (is_model k ≡ true) × (m ≡ model_of k)) (λ e. (is_model k ≡ false) × (e.0 ≡ k))
+
 -- and back: the number of each
 abbrev pub model_number : Model → ℕ
 model_number m = by_model m 1 2 3 4
@@ -45,9 +49,9 @@ pub record ModelData : Type 0 where
 abbrev pub model_data : Model → ℕ → ℕ → List ℕ → List ℕ → List Float → ModelData
 model_data m n ng lens groups values = record { model = m; n = n; ng = ng; lens = lens; groups = groups; values = values }
 
--- those in a call's arguments
-abbrev pub given : {A B C : Type 0} → Model → ℕ → ℕ → Both (Bor (List ℕ)) A → Both (Bor (List ℕ)) B → Both (Bor (List Float)) C → ModelData
-given m n ng lens groups values = model_data m n ng lens.entry.now groups.entry.now values.entry.now
+-- those that a call is given
+abbrev pub given : Data → ModelData
+given d = model_data d.model d.n d.ng d.lens.now d.groups.now d.values.now
 
 -- how many values such a model has
 abbrev pub size_of : ModelData → ℕ

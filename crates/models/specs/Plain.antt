@@ -1,8 +1,8 @@
 -- The plain calls: document 01, "Models" and "What each call declines".
 use Rattle.std.specs.Prelude.{List, [], ℕ, Float}
+use Rattle.arithmetic.specs.Refusals.{Answer}
 use Rattle.arithmetic.specs.Tables.{Vector, at, from}
 use Rattle.models.specs.declared.answers.Quantity.{Quantity}
-use Rattle.models.specs.declared.answers.Answer.{Answer}
 use Rattle.models.specs.declared.model.Model.{Model}
 use Rattle.models.specs.declared.model.Model.TheVariants.{Wilson, Uniquac, Nrtl, Unifac}
 use Rattle.models.specs.Answers.{answer, first}
@@ -24,7 +24,7 @@ value_at d T x q =
     (group_qs d.ng d.values) (group_as d.ng d.values) T x q)
 
 -- 2; for UNIFAC then 3 or 4; then 14, 5, 6 and 7
-unfoldable pub plain_call : ModelData → Float → Float → List Float → Quantity → Answer
+unfoldable pub plain_call : ModelData → Float → Float → List Float → Quantity → Answer Float
 plain_call d T ε x q = answer (first (data_fault d) (fractions_fault ε d.n x q)) (value_at d T (at x) q)
 
 -- ---- the four by name
@@ -33,14 +33,14 @@ plain_call d T ε x q = answer (first (data_fault d) (fractions_fault ε d.n x q
 abbrev pub bare : Model → ℕ → List Float → ModelData
 bare m n values = model_data m n 0 [] [] values
 
-abbrev pub wilson_plain : ℕ → List Float → Float → Float → List Float → Quantity → Answer
+abbrev pub wilson_plain : ℕ → List Float → Float → Float → List Float → Quantity → Answer Float
 wilson_plain n values T ε x q = plain_call (bare Wilson n values) T ε x q
 
-abbrev pub uniquac_plain : ℕ → List Float → Float → Float → List Float → Quantity → Answer
+abbrev pub uniquac_plain : ℕ → List Float → Float → Float → List Float → Quantity → Answer Float
 uniquac_plain n values T ε x q = plain_call (bare Uniquac n values) T ε x q
 
-abbrev pub nrtl_plain : ℕ → List Float → Float → Float → List Float → Quantity → Answer
+abbrev pub nrtl_plain : ℕ → List Float → Float → Float → List Float → Quantity → Answer Float
 nrtl_plain n values T ε x q = plain_call (bare Nrtl n values) T ε x q
 
-abbrev pub unifac_plain : ℕ → ℕ → List ℕ → List ℕ → List Float → Float → Float → List Float → Quantity → Answer
+abbrev pub unifac_plain : ℕ → ℕ → List ℕ → List ℕ → List Float → Float → Float → List Float → Quantity → Answer Float
 unifac_plain n ng lens groups values T ε x q = plain_call (model_data Unifac n ng lens groups values) T ε x q

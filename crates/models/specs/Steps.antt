@@ -1,4 +1,5 @@
 pub mod Columns
+pub mod Terms
 pub mod Wilson
 pub mod Uniquac
 pub mod Nrtl

@@ -6,25 +6,22 @@ ghost use Rattle.arithmetic.specs.Tables.{at, grid, Filled};
 ghost use Rattle.models.specs.Columns.{unit_diagonal, column_sum, unit_at};
 ghost use Rattle.models.specs.Steps.Columns.{Added};
 
+use crate::terms;
+
 // Adds w·row[j] to sums[j] for each j below n.
 pub fn add_row(row: &[f64], w: f64, n: usize, sums: &mut [f64])
     requires { (n ≤ length row.now) × (n ≤ length sums.old) }
     ensures { Added n (λ j. w ⊗ at row.now j) sums }
 {
-    for j in 0..n {
-        sums[j] = sums[j] + w * row[j];
-    }
+    terms::add(n, |j| w * row[j], sums);
 }
 
-// The same where the row's entry i counts as 1. The row runs without a test for it, then place i is put
-// right.
+// The same where the row's entry i counts as 1.
 pub fn add_unit_row(n: usize, w: f64, row: &[f64], i: usize, sums: &mut [f64])
     requires { (n ≤ length row.now) × (i < n) × (n ≤ length sums.old) }
     ensures { Added n (λ j. w ⊗ unit_at i (at row.now) j) sums }
 {
-    let own = sums[i] + w * 1.0;
-    add_row(row, w, n, sums);
-    sums[i] = own;
+    terms::add_with_own(n, |j| w * row[j], i, w * 1.0, sums);
 }
 
 // The column sums of w over a table by rows of n with 1 on its diagonal, whose places don't count; sums has

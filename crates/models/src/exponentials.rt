@@ -7,6 +7,8 @@ ghost use Rattle.models.specs.Limits.{most_components};
 ghost use Rattle.models.specs.Exponentials.{energy};
 ghost use Rattle.models.specs.Values.{energies};
 
+use crate::terms;
+
 // What E_ij is the exp of, from the part of the energies that starts at row i.
 pub fn argument(row: &[f64], t: f64, i: usize, j: usize) -> f64
     requires { (i < length row.now) × (j < length row.now) }
@@ -30,10 +32,7 @@ pub fn fill_arguments(row: &[f64], t: f64, n: usize, i: usize, out: &mut [f64])
     ensures { let a = at row.now in
         Filled (λ j. neg (a j ⊖ a i) ⊘ t) n out.new }
 {
-    let own = row[i];
-    for j in 0..n {
-        out[j] = -(row[j] - own) / t;
-    }
+    terms::fill(n, |j| argument(row, t, i, j), out);
 }
 
 // Writes the table of a model whose values begin with its energies: every argument first, then exp of them

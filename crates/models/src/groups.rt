@@ -1,16 +1,11 @@
-// UNIFAC's group lists: lens has their lengths; groups and counts stand list after list. A component's own
-// list is a part of both.
-ghost use Rattle.std.specs.Prelude.{◌≡◌, ◌≤◌, length};
+// UNIFAC's group lists. A component's list has a count for each group that it names. The lists of all stand
+// one after another, and lens has their lengths.
+ghost use Rattle.std.specs.Prelude.{◌≡◌, ◌+◌, ◌<◌, ◌≤◌, length};
 ghost use Rattle.arithmetic.specs.Floats.{◌⊘◌, +0};
 ghost use Rattle.arithmetic.specs.Tables.{at, Filled};
 ghost use Rattle.models.specs.Limits.{most_components, most_groups};
+ghost use Rattle.models.specs.Steps.GroupLists.{Listed, Paired};
 ghost use Rattle.models.specs.Values.{start, counts_at};
-ghost use Rattle.models.specs.Steps.GroupLists.{Listed, Paired, Places};
-ghost use Rattle.models.specs.Steps.GroupLists.{added, put, own_list, placed_list, lists_of};
-ghost use Rattle.models.specs.Unifac.{amount, fraction, pure_fraction};
-ghost use Rattle.models.specs.Unifac.{amounts, size};
-ghost use Rattle.models.specs.Unifac.{residual};
-ghost use Rattle.models.specs.Steps.Unifac.{Mixed, vector_of};
 
 use crate::limits::{COMPONENTS, GROUPS};
 
@@ -19,145 +14,7 @@ pub fn start_of(lens: &[u8], i: usize) -> usize
     requires { (i ≤ length lens.now) × (i ≤ most_components) }
     ensures { result ≡ start lens.now i }
 {
-    let mut s = 0;
-    for k in 0..i {
-        s = s + (lens[k] as usize);
-    }
-    s
-}
-
-// The size of a component, r for s = R and q for s = Q: the sum of count·s over its list, which stands from
-// start to below end.
-fn size(groups: &[u8], counts: &[f64], s: &[f64], start: usize, end: usize) -> f64
-    requires { Places (length s.now) start end groups.now counts.now }
-    ensures { result ≡ size (placed_list start end groups counts) (vector_of s) 0 }
-{
-    let mut r_i = 0.0;
-    for p in start..end {
-        let g = groups[p] as usize;
-        r_i = r_i + counts[p] * s[g];
-    }
-    r_i
-}
-
-// The size of each component.
-pub fn sizes(n: usize, lens: &[u8], groups: &[u8], counts: &[f64], s: &[f64]) -> [f64; COMPONENTS]
-    requires { Listed n (length s.now) lens.now groups.now counts.now
-        × (n ≤ most_components) }
-    ensures { Filled (size (lists_of lens groups counts) (vector_of s)) n result }
-{
-    let mut sizes = [0.0; COMPONENTS];
-    let mut start = 0;
-    for i in 0..n {
-        let end = start + (lens[i] as usize);
-        sizes[i] = size(groups, counts, s, start, end);
-        start = end;
-    }
-    sizes
-}
-
-// Adds x·count to the group's number, for each place from start to below end in turn.
-fn add_counts(groups: &[u8], counts: &[f64], x: f64, start: usize, end: usize, num: &mut [f64])
-    requires { Places (length num.old) start end groups.now counts.now }
-    ensures { Filled
-        (λ k. added (placed_list start end groups counts) x 0 k (at num.old k))
-        (length num.old) num.new }
-{
-    for p in start..end {
-        let g = groups[p] as usize;
-        num[g] = num[g] + x * counts[p];
-    }
-}
-
-// Writes the count of each place of a list to its group's number, the last for a group listed twice.
-fn put_counts(list: &[u8], counts: &[f64], num: &mut [f64])
-    requires { Paired (length num.old) list.now counts.now }
-    ensures { Filled (λ k. put (own_list list counts) 0 k (at num.old k))
-        (length num.old) num.new }
-{
-    for p in 0..list.len() {
-        let g = list[p] as usize;
-        num[g] = counts[p];
-    }
-}
-
-// Adds x_i·count to each group's number, and gives the sum of x_i times all counts of i.
-fn amounts(n: usize, lens: &[u8], groups: &[u8], counts: &[f64], x: &[f64], num: &mut [f64]) -> f64
-    requires { Mixed n (length num.old) lens.now groups.now counts.now x.now
-        × Filled (λ _. +0) (length num.old) num.old }
-    ensures { (result ≡ amounts n (lists_of lens groups counts) (vector_of x))
-        × Filled (amount n (lists_of lens groups counts) (vector_of x))
-        (length num.old) num.new }
-{
-    let mut s = 0.0;
-    let mut start = 0;
-    for i in 0..n {
-        let end = start + (lens[i] as usize);
-        let x_i = x[i];
-        add_counts(groups, counts, x_i, start, end, num);
-        s = s + x_i * arithmetic::sum(&counts[start..end]);
-        start = end;
-    }
-    s
-}
-
-// Writes the first ng numbers over d.
-fn divide(ng: usize, num: &[f64], d: f64, out: &mut [f64])
-    requires { (ng ≤ length num.now) × (ng ≤ length out.old) }
-    ensures { Filled (λ k. vector_of num k ⊘ d) ng out.new }
-{
-    for g in 0..ng {
-        out[g] = num[g] / d;
-    }
-}
-
-// Writes X of each group in the mixture; xg has zeros at first.
-pub fn group_fractions(
-    n: usize,
-    ng: usize,
-    lens: &[u8],
-    groups: &[u8],
-    counts: &[f64],
-    x: &[f64],
-    xg: &mut [f64],
-)
-    requires { Mixed n ng lens.now groups.now counts.now x.now
-        × (ng ≤ length xg.old)
-        × Filled (λ _. +0) ng xg.old }
-    ensures { Filled (fraction n (lists_of lens groups counts) (vector_of x)) ng
-        xg.new }
-{
-    let mut num = [0.0; GROUPS];
-    let denom = amounts(n, lens, groups, counts, x, &mut num[..]);
-    if denom > 0.0 {
-        divide(ng, &num[..], denom, xg);
-    }
-}
-
-// Writes X of each group in a pure component.
-pub fn group_fractions_pure(ng: usize, list: &[u8], counts: &[f64], xg: &mut [f64])
-    requires { Paired ng list.now counts.now
-        × (ng ≤ most_groups)
-        × (ng ≤ length xg.old) }
-    ensures { Filled (pure_fraction (own_list list counts) 0) ng xg.new }
-{
-    let mut num = [0.0; GROUPS];
-    put_counts(list, counts, &mut num[..]);
-    divide(ng, &num[..], arithmetic::sum(counts), xg);
-}
-
-// The sum of count·(m - p) over a list: m has ln Γ in the mixture, p in the pure component.
-pub fn residual(list: &[u8], counts: &[f64], m: &[f64], p: &[f64]) -> f64
-    requires { Paired (length m.now) list.now counts.now
-        × (length m.now ≤ length p.now) }
-    ensures { result ≡ residual (own_list list counts) (vector_of m) (λ _. vector_of p) 0 }
-{
-    let mut resid = 0.0;
-    for k in 0..list.len() {
-        let g = list[k] as usize;
-        resid = resid + counts[k] * (m[g] - p[g]);
-    }
-    resid
+    lens[..i].iter().map(|l| usize::from(*l)).sum()
 }
 
 // Where the counts stand among the values.
@@ -166,4 +23,211 @@ pub fn counts_at(ng: usize) -> usize
     ensures { (result ≡ counts_at ng) × (result ≤ 5184) }
 {
     ng + ng + ng * ng * 5
+}
+
+// A component's list: a count for each group that it names, of ng.
+#[derive(Clone, Copy)]
+pub struct GroupList<'a> {
+    pub ng: usize,
+    pub groups: &'a [u8],
+    pub counts: &'a [f64],
+    ghost few: { ng ≤ most_groups },
+    ghost paired: { Paired ng groups.now counts.now },
+}
+
+impl<'a> GroupList<'a> {
+    ghost use Rattle.models.specs.Unifac.{size, pure_fraction, residual};
+    ghost use Rattle.models.specs.Steps.GroupLists.{gathered, added, put};
+    ghost use Rattle.models.specs.Steps.Unifac.{list_of};
+
+    // The size of its component, r for s = R and q for s = Q: the sum of count·s.
+    fn size(&self, s: &[f64]) -> f64
+        requires { self.now.ng ≤ length s.now }
+        ensures { result ≡ size (list_of self.now) (at s.now) 0 }
+    {
+        let mut size = 0.0;
+        for (g, count) in self.groups.iter().zip(self.counts) {
+            size = size + *count * s[usize::from(*g)];
+        }
+        size
+    }
+
+    // Adds x·count to the group's number, for each place of the list in turn.
+    fn add_counts(&self, x: f64, num: &mut [f64])
+        requires { self.now.ng ≤ length num.old }
+        ensures { Filled (λ k. added (list_of self.now) x 0 k (at num.old k)) (length num.old) num.new }
+    {
+        for (g, count) in self.groups.iter().zip(self.counts) {
+            let g = usize::from(*g);
+            num[g] = num[g] + x * *count;
+        }
+    }
+
+    // Writes each place's count to its group's number, the last for a group listed twice.
+    fn put_counts(&self, num: &mut [f64])
+        requires { self.now.ng ≤ length num.old }
+        ensures { Filled (λ k. put (list_of self.now) 0 k (at num.old k)) (length num.old) num.new }
+    {
+        for (g, count) in self.groups.iter().zip(self.counts) {
+            num[usize::from(*g)] = *count;
+        }
+    }
+
+    // X of each group in the pure component.
+    pub fn fractions(&self) -> [f64; GROUPS]
+        ensures { Filled (pure_fraction (list_of self.now) 0) self.now.ng result }
+    {
+        let mut num = [0.0; GROUPS];
+        self.put_counts(&mut num[..]);
+        divide(&mut num[..self.ng], arithmetic::sum(self.counts));
+        num
+    }
+
+    // The sum of count·(m - p): m has ln Γ in the mixture, p in the pure component.
+    pub fn residual(&self, m: &[f64], p: &[f64]) -> f64
+        requires { (self.now.ng ≤ length m.now) × (self.now.ng ≤ length p.now) }
+        ensures { result ≡ residual (list_of self.now) (at m.now) (λ _. at p.now) 0 }
+    {
+        let mut residual = 0.0;
+        for (g, count) in self.groups.iter().zip(self.counts) {
+            let g = usize::from(*g);
+            residual = residual + *count * (m[g] - p[g]);
+        }
+        residual
+    }
+}
+
+// Divides each number by d.
+fn divide(num: &mut [f64], d: f64)
+    ensures { Filled (λ k. at num.old k ⊘ d) (length num.old) num.new }
+{
+    for v in num {
+        *v = *v / d;
+    }
+}
+
+// The lists of n components, over ng groups.
+#[derive(Clone, Copy)]
+pub struct GroupLists<'a> {
+    pub n: usize,
+    pub ng: usize,
+    pub lens: &'a [u8],
+    pub groups: &'a [u8],
+    pub counts: &'a [f64],
+    ghost few: { n ≤ most_components },
+    ghost few_groups: { ng ≤ most_groups },
+    ghost listed: { Listed n ng lens.now groups.now counts.now },
+}
+
+impl<'a> GroupLists<'a> {
+    ghost use Rattle.models.specs.Unifac.{amount, amounts, fraction, size};
+    ghost use Rattle.models.specs.Steps.Unifac.{lists_of, IsList};
+
+    // The list of component i, which begins at a place.
+    fn list_from(&self, i: usize, place: usize) -> GroupList<'a>
+        requires { (i < self.now.n) × (place ≡ start self.now.lens.now i) }
+        ensures { IsList self.now i result }
+    {
+        let end = place + usize::from(self.lens[i]);
+        GroupList {
+            ng: self.ng,
+            groups: &self.groups[place..end],
+            counts: &self.counts[place..end],
+        }
+    }
+
+    // The list of component i.
+    pub fn list(&self, i: usize) -> GroupList<'a>
+        requires { i < self.now.n }
+        ensures { IsList self.now i result }
+    {
+        self.list_from(i, start_of(self.lens, i))
+    }
+
+    // Each component with its list.
+    pub fn each(&self) -> Each<'a>
+        ensures { (result.lists ≡ self.now) × (result.i ≡ 0) }
+    {
+        Each {
+            lists: *self,
+            i: 0,
+            place: 0,
+        }
+    }
+
+    // The size of each component.
+    pub fn sizes(&self, s: &[f64]) -> [f64; COMPONENTS]
+        requires { self.now.ng ≤ length s.now }
+        ensures { Filled (size (lists_of self.now) (at s.now)) self.now.n result }
+    {
+        let mut sizes = [0.0; COMPONENTS];
+        for (i, list) in self.each() {
+            sizes[i] = list.size(s);
+        }
+        sizes
+    }
+
+    // Adds x_i·count to each group's number, and gives the sum of x_i times all counts of i.
+    fn amounts(&self, x: &[f64], num: &mut [f64]) -> f64
+        requires { (self.now.n ≤ length x.now)
+            × (self.now.ng ≤ length num.old)
+            × Filled (λ _. +0) (length num.old) num.old }
+        ensures { (result ≡ amounts self.now.n (lists_of self.now) (at x.now))
+            × Filled (amount self.now.n (lists_of self.now) (at x.now)) (length num.old) num.new }
+    {
+        let mut sum = 0.0;
+        for (i, list) in self.each() {
+            list.add_counts(x[i], num);
+            sum = sum + x[i] * arithmetic::sum(list.counts);
+        }
+        sum
+    }
+
+    // X of each group in the mixture.
+    pub fn fractions(&self, x: &[f64]) -> [f64; GROUPS]
+        requires { self.now.n ≤ length x.now }
+        ensures { Filled (fraction self.now.n (lists_of self.now) (at x.now)) self.now.ng result }
+    {
+        let mut num = [0.0; GROUPS];
+        let sum = self.amounts(x, &mut num[..]);
+        if sum > 0.0 {
+            divide(&mut num[..self.ng], sum);
+            num
+        } else {
+            [0.0; GROUPS]
+        }
+    }
+}
+
+// The components from i on, each with its list; that of i begins at place.
+#[derive(Clone, Copy)]
+pub struct Each<'a> {
+    pub lists: GroupLists<'a>,
+    pub i: usize,
+    pub place: usize,
+    ghost within: { i ≤ lists.n },
+    ghost here: { place ≡ start lists.lens.now i },
+}
+
+impl<'a> Iterator for Each<'a> {
+    ghost use Rattle.std.specs.Prelude.{◌-◌};
+    ghost use Rattle.std.specs.Iterator.{at_most};
+    ghost use Rattle.models.specs.Steps.Unifac.{GivesNext};
+
+    type Item = (usize, GroupList<'a>);
+
+    ghost next_gives = { GivesNext };
+
+    ghost remaining = { λ s. at_most (s.lists.n - s.i) };
+
+    fn next(&mut self) -> Option<(usize, GroupList<'a>)> {
+        let i = self.i;
+        if i == self.lists.n {
+            return None;
+        }
+        let list = self.lists.list_from(i, self.place);
+        self.i = i + 1;
+        self.place += list.groups.len();
+        Some((i, list))
+    }
 }

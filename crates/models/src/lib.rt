@@ -4,6 +4,7 @@
 
 pub mod answers;
 pub mod columns;
+pub mod data;
 pub mod exponentials;
 pub mod faults;
 pub mod groups;
@@ -12,9 +13,11 @@ pub mod model;
 pub mod nrtl;
 pub mod parameters;
 pub mod suppliers;
+mod terms;
 pub mod unifac;
 pub mod uniquac;
 pub mod wilson;
 
 pub use answers::{Answer, Quantity};
+pub use data::Data;
 pub use model::Model;

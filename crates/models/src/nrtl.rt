@@ -3,24 +3,20 @@ ghost use Rattle.std.specs.Prelude.{◌≡◌, ◌+◌, ◌*◌, ◌≤◌, ◌<
 ghost use Rattle.std.specs.Float.Ieee.{neg};
 ghost use Rattle.arithmetic.specs.Exponential.{exp_of};
 ghost use Rattle.arithmetic.specs.Parameters.{td_at};
-ghost use Rattle.arithmetic.specs.Floats.{◌⊕◌, ◌⊖◌, ◌⊗◌, ◌⊘◌};
+ghost use Rattle.arithmetic.specs.Floats.{◌⊖◌, ◌⊗◌, ◌⊘◌};
 ghost use Rattle.arithmetic.specs.Tables.{at, grid, Filled};
 ghost use Rattle.models.specs.Limits.{most_components};
 ghost use Rattle.models.specs.Faults.{index_fault};
 ghost use Rattle.models.specs.Columns.{unit_at, unit_diagonal, column_sum};
-ghost use Rattle.models.specs.Nrtl.{tau_at, numerator, nrtl, nrtl_at};
-ghost use Rattle.models.specs.Plain.{nrtl_plain};
+ghost use Rattle.models.specs.Nrtl.{tau_at, numerator, ln_gamma, excess, nrtl, nrtl_at};
 ghost use Rattle.models.specs.Values.{five_at, nrtl_size, taus, alphas};
 ghost use Rattle.models.specs.Steps.Model.{ValueFits};
 ghost use Rattle.models.specs.Steps.Columns.{Added};
 ghost use Rattle.models.specs.Steps.Nrtl.{NrtlFits, NrtlSums, NrtlZeros};
-ghost use Rattle.models.specs.Nrtl.{tau as tau_table};
-ghost use Rattle.arithmetic.specs.Sums.{sum};
 
-use crate::answers::{Answer, Quantity};
+use crate::answers::Quantity;
 use crate::limits::{COMPONENTS, PAIRS};
-use crate::model::{Model, plain_bare};
-use crate::{columns, parameters};
+use crate::{columns, parameters, terms};
 
 // τ at T, by rows of n: the five of entry k stand from place 5·k on.
 pub fn fill_taus(n: usize, values: &[f64], t: f64, out: &mut [f64])
@@ -56,9 +52,7 @@ pub fn fill_arguments(alpha: &[f64], tau: &[f64], count: usize, out: &mut [f64])
     ensures { let α = at alpha.now in
         Filled (λ k. neg (α k) ⊗ at tau.now k) count out.new }
 {
-    for k in 0..count {
-        out[k] = -alpha[k] * tau[k];
-    }
+    terms::fill(count, |k| argument(alpha[k], tau[k]), out);
 }
 
 // Writes the first count entries of G: every argument first, then exp of them all at once.
@@ -73,18 +67,8 @@ fn fill_exponentials(count: usize, alpha: &[f64], tau: &[f64], out: &mut [f64])
     arithmetic::exp_each(out, count);
 }
 
-// Adds x·g[j]·tau[j] to sums[j] for each j below n.
-fn add_products(n: usize, x: f64, g: &[f64], tau: &[f64], sums: &mut [f64])
-    requires { (n ≤ length g.now) × (n ≤ length tau.now) × (n ≤ length sums.old) }
-    ensures { Added n (λ j. x ⊗ at g.now j ⊗ at tau.now j) sums }
-{
-    for j in 0..n {
-        sums[j] = sums[j] + x * g[j] * tau[j];
-    }
-}
-
-// Adds x·G_ij·τ_ij to sums[j] for each j below n; g and tau are row i of their tables. The row runs
-// without a test for the diagonal, then place i, where G is 1 and τ is 0, is put right.
+// Adds x·G_ij·τ_ij to sums[j] for each j below n; g and tau are row i of their tables. At i G is 1 and τ
+// is 0.
 fn add_terms(n: usize, x: f64, g: &[f64], tau: &[f64], i: usize, sums: &mut [f64])
     requires { (n ≤ length g.now)
         × (n ≤ length tau.now)
@@ -94,9 +78,7 @@ fn add_terms(n: usize, x: f64, g: &[f64], tau: &[f64], i: usize, sums: &mut [f64
         let τ = tau_at i (at tau.now) in
         Added n (λ j. x ⊗ G j ⊗ τ j) sums }
 {
-    let own = sums[i] + x * 1.0 * 0.0;
-    add_products(n, x, g, tau, sums);
-    sums[i] = own;
+    terms::add_with_own(n, |j| x * g[j] * tau[j], i, x * 1.0 * 0.0, sums);
 }
 
 // For each j the numerator Σ_m x_m G_mj τ_mj in u and the denominator Σ_m x_m G_mj in d; both have zeros
@@ -115,62 +97,74 @@ fn column_sums(n: usize, tau: &[f64], g: &[f64], x: &[f64], u: &mut [f64], d: &m
     }
 }
 
-// A term of the second sum of ln γ_i: that of j, from x_j, G_ij, τ_ij, its numerator and its denominator.
-fn term(x: f64, g: f64, tau: f64, u: f64, d: f64) -> f64
-    ensures { result ≡ x ⊗ g ⊘ d ⊗ (tau ⊖ u ⊘ d) }
-{
-    x * g / d * (tau - u / d)
+// τ at T and the exponentials, by rows, and the fractions, of n components.
+#[derive(Clone, Copy)]
+struct Data<'a> {
+    n: usize,
+    tau: &'a [f64],
+    g: &'a [f64],
+    x: &'a [f64],
+    ghost fits: { NrtlFits n tau.now g.now x.now },
 }
 
-// The second sum of ln γ_i; tau and g are row i of their tables, u the numerators and d the
-// denominators. The terms run without a test for the diagonal, then its own is put right.
-fn second(n: usize, tau: &[f64], g: &[f64], u: &[f64], d: &[f64], x: &[f64], i: usize) -> f64
-    requires { (n ≤ length tau.now)
-        × (n ≤ length g.now)
-        × (n ≤ length u.now)
-        × (n ≤ length d.now)
-        × (n ≤ length x.now)
-        × (i < n)
-        × (n ≤ most_components) }
-    ensures { let G = unit_at i (at g.now) in
-        let τ = tau_at i (at tau.now) in
-        let D = at d.now in
-        result ≡ sum n (λ j. at x.now j ⊗ G j ⊘ D j
-        ⊗ (τ j ⊖ at u.now j ⊘ D j)) }
-{
-    let mut terms = [0.0; COMPONENTS];
-    for j in 0..n {
-        terms[j] = term(x[j], g[j], tau[j], u[j], d[j]);
+impl<'a> Data<'a> {
+    fn value(self, q: Quantity) -> f64
+        requires { index_fault self.n q ≡ 0 }
+        ensures { let s = self.entry in
+            result ≡ nrtl s.n (grid s.n s.tau.now) (grid s.n s.g.now) (at s.x.now) q }
+    {
+        let mut u = [0.0; COMPONENTS];
+        let mut d = [0.0; COMPONENTS];
+        column_sums(self.n, self.tau, self.g, self.x, &mut u[..], &mut d[..]);
+        let u = &u[..];
+        let d = &d[..];
+        let shared = Shared { of: self, u, d };
+        q.value(self.n, |i| shared.ln_gamma(i), || shared.excess_gibbs())
     }
-    terms[i] = term(x[i], 1.0, 0.0, u[i], d[i]);
-    arithmetic::sum(&terms[..n])
 }
 
-// ln γ_i, u being the numerators and d the denominators.
-fn ln_gamma(n: usize, tau: &[f64], g: &[f64], u: &[f64], d: &[f64], x: &[f64], i: usize) -> f64
-    requires { NrtlFits n tau.now g.now x.now × NrtlSums n u.now d.now × (i < n) }
-    ensures { let G = unit_diagonal (grid n g.now) in
-        let τ = tau_table (grid n tau.now) in
-        let U = at u.now in
-        let D = at d.now in
-        result ≡ U i ⊘ D i
-        ⊕ sum n (λ j. at x.now j ⊗ G i j ⊘ D j ⊗ (τ i j ⊖ U j ⊘ D j)) }
-{
-    let start = i * n;
-    u[i] / d[i] + second(n, &tau[start..], &g[start..], u, d, x, i)
+// The same with what all components share: the numerator u and the denominator d of each.
+#[derive(Clone, Copy)]
+struct Shared<'a> {
+    of: Data<'a>,
+    u: &'a [f64],
+    d: &'a [f64],
+    ghost sums: { NrtlSums of.n u.now d.now },
+    ghost numerators: { Filled (numerator of.n (grid of.n of.tau.now) (grid of.n of.g.now) (at of.x.now))
+        of.n u.now },
+    ghost denominators: { Filled (column_sum of.n (unit_diagonal (grid of.n of.g.now)) (at of.x.now))
+        of.n d.now },
 }
 
-// The excess energy, u being the numerators and d the denominators.
-fn excess_by(n: usize, u: &[f64], d: &[f64], x: &[f64]) -> f64
-    requires { (n ≤ length u.now) × (n ≤ length d.now) × (n ≤ length x.now) }
-    ensures { result ≡ sum n (λ i. at x.now i ⊗ at u.now i
-        ⊘ at d.now i) }
-{
-    let mut s = 0.0;
-    for i in 0..n {
-        s = s + x[i] * u[i] / d[i];
+impl<'a> Shared<'a> {
+    // The term of j in the second sum of ln γ_i, from G_ij and τ_ij.
+    fn term(&self, j: usize, g: f64, tau: f64) -> f64
+        requires { j < self.now.of.n }
+        ensures { let d = at self.now.d.now j in
+            result ≡ at self.now.of.x.now j ⊗ g ⊘ d ⊗ (tau ⊖ at self.now.u.now j ⊘ d) }
+    {
+        self.of.x[j] * g / self.d[j] * (tau - self.u[j] / self.d[j])
     }
-    s
+
+    fn ln_gamma(&self, i: usize) -> f64
+        requires { i < self.now.of.n }
+        ensures { let s = self.now.of in
+            result ≡ ln_gamma s.n (grid s.n s.tau.now) (grid s.n s.g.now) (at s.x.now) i }
+    {
+        let start = i * self.of.n;
+        let g = &self.of.g[start..];
+        let tau = &self.of.tau[start..];
+        let own = self.term(i, 1.0, 0.0);
+        let s = terms::sum_with_own(self.of.n, |j| self.term(j, g[j], tau[j]), i, own);
+        self.u[i] / self.d[i] + s
+    }
+
+    fn excess_gibbs(&self) -> f64
+        ensures { let s = self.now.of in
+            result ≡ excess s.n (grid s.n s.tau.now) (grid s.n s.g.now) (at s.x.now) }
+    {
+        terms::sum_of(self.of.n, |i| self.of.x[i] * self.u[i] / self.d[i])
+    }
 }
 
 // The value over a table of τ at T and one of exponentials, both by rows of n; what stands on their
@@ -179,17 +173,10 @@ pub fn value_over(n: usize, tau: &[f64], g: &[f64], x: &[f64], q: Quantity) -> f
     requires { NrtlFits n tau.now g.now x.now × (index_fault n q ≡ 0) }
     ensures { result ≡ nrtl n (grid n tau.now) (grid n g.now) (at x.now) q }
 {
-    let mut u = [0.0; COMPONENTS];
-    let mut d = [0.0; COMPONENTS];
-    column_sums(n, tau, g, x, &mut u[..], &mut d[..]);
-    match q {
-        Quantity::LnGamma(i) => ln_gamma(n, tau, g, &u[..], &d[..], x, i),
-        Quantity::Gamma(i) => arithmetic::exp(ln_gamma(n, tau, g, &u[..], &d[..], x, i)),
-        Quantity::ExcessGibbs => excess_by(n, &u[..], &d[..], x),
-    }
+    Data { n, tau, g, x }.value(q)
 }
 
-// The quantity at T, from the values.
+// The quantity at T, from the values: τ by rows, five each, then α.
 pub fn value_at(n: usize, values: &[f64], t: f64, x: &[f64], q: Quantity) -> f64
     requires { ValueFits n (nrtl_size n) values.now x.now q }
     ensures { let v = values.now in
@@ -201,35 +188,4 @@ pub fn value_at(n: usize, values: &[f64], t: f64, x: &[f64], q: Quantity) -> f64
     let mut g = [0.0; PAIRS];
     fill_exponentials(n * n, &values[at..], &tau[..], &mut g[..]);
     value_over(n, &tau[..], &g[..], x, q)
-}
-
-// The plain calls: the values are τ by rows, five each, then α.
-pub fn ln_gamma_at(n: usize, values: &[f64], t: f64, tolerance: f64, x: &[f64], i: usize) -> Answer
-    ensures { result ≡ nrtl_plain n values.now t tolerance x.now
-        (Quantity.LnGamma i) }
-{
-    let q = Quantity::LnGamma(i);
-    plain_bare(Model::Nrtl, n, values, t, tolerance, x, q)
-}
-
-pub fn gamma_at(n: usize, values: &[f64], t: f64, tolerance: f64, x: &[f64], i: usize) -> Answer
-    ensures { result ≡ nrtl_plain n values.now t tolerance x.now
-        (Quantity.Gamma i) }
-{
-    let q = Quantity::Gamma(i);
-    plain_bare(Model::Nrtl, n, values, t, tolerance, x, q)
-}
-
-pub fn reduced_excess_gibbs_at(
-    n: usize,
-    values: &[f64],
-    t: f64,
-    tolerance: f64,
-    x: &[f64],
-) -> Answer
-    ensures { result ≡ nrtl_plain n values.now t tolerance x.now
-        Quantity.ExcessGibbs }
-{
-    let q = Quantity::ExcessGibbs;
-    plain_bare(Model::Nrtl, n, values, t, tolerance, x, q)
 }

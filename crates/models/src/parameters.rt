@@ -5,6 +5,7 @@ ghost use Rattle.arithmetic.specs.Tables.{Filled};
 ghost use Rattle.models.specs.Limits.{table_size};
 ghost use Rattle.models.specs.Values.{five_at};
 
+use crate::terms;
 use arithmetic::TdParam;
 
 // The five from place s on.
@@ -29,9 +30,7 @@ pub fn fill_values_by(fives: &[f64], count: usize, t: f64, ln: f64, out: &mut [f
     ensures { Filled (λ k. td_by (five_at fives.now (k * 5)) t ln) count
         out.new }
 {
-    for k in 0..count {
-        out[k] = five_at(fives, k * 5).value_by(t, ln);
-    }
+    terms::fill(count, |k| five_at(fives, k * 5).value_by(t, ln), out);
 }
 
 // The same, with log(T) worked out here.

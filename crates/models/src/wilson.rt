@@ -7,90 +7,96 @@ ghost use Rattle.arithmetic.specs.Sums.{fold};
 ghost use Rattle.arithmetic.specs.Tables.{at, grid, Filled};
 ghost use Rattle.models.specs.Limits.{most_components};
 ghost use Rattle.models.specs.Faults.{index_fault};
-ghost use Rattle.models.specs.Plain.{wilson_plain};
 ghost use Rattle.models.specs.Values.{wilson_size, energies, volumes};
-ghost use Rattle.models.specs.Wilson.{row_sum, ln_gamma, wilson_at};
+ghost use Rattle.models.specs.Wilson.{row_sum, ln_gamma, excess, wilson_at};
 ghost use Rattle.models.specs.Wilson.{wilson};
 ghost use Rattle.models.specs.Steps.Model.{ValueFits};
 ghost use Rattle.models.specs.Steps.Wilson.{WilsonFits};
 
-use crate::answers::{Answer, Quantity};
+use crate::answers::Quantity;
 use crate::limits::{COMPONENTS, PAIRS};
-use crate::model::{Model, plain_bare};
+use crate::terms;
 
-// Σ_j x_j Λ_ij, from the part of the table that starts at row i. The terms run without a test for the
-// diagonal, then its own is put right.
-fn row_sum(n: usize, v: &[f64], row: &[f64], x: &[f64], i: usize) -> f64
-    requires { (n ≤ length v.now)
-        × (n ≤ length row.now)
-        × (n ≤ length x.now)
-        × (i < n)
-        × (n ≤ most_components) }
-    ensures { result ≡ row_sum n (at v.now) (λ _. at row.now) (at x.now) i }
-{
-    let mut terms = [0.0; COMPONENTS];
-    let own = v[i];
-    for j in 0..n {
-        terms[j] = x[j] * (v[j] / own * row[j]);
-    }
-    terms[i] = x[i] * 1.0;
-    arithmetic::sum(&terms[..n])
+// V, the exponentials by rows and the fractions, of n components.
+#[derive(Clone, Copy)]
+struct Data<'a> {
+    n: usize,
+    v: &'a [f64],
+    e: &'a [f64],
+    x: &'a [f64],
+    ghost fits: { WilsonFits n v.now e.now x.now },
 }
 
-// What all components share: writes the sum of each row.
-fn row_sums(n: usize, v: &[f64], e: &[f64], x: &[f64], sums: &mut [f64])
-    requires { WilsonFits n v.now e.now x.now × (n ≤ length sums.old) }
-    ensures { let each = row_sum n (at v.now) (grid n e.now) (at x.now) in
-        Filled each n sums.new }
-{
-    for i in 0..n {
-        let at = i * n;
-        sums[i] = row_sum(n, v, &e[at..], x, i);
+impl<'a> Data<'a> {
+    // Λ_ij off the diagonal.
+    fn lambda(&self, i: usize, j: usize) -> f64
+        requires { (i < self.now.n) × (j < self.now.n) }
+        ensures { let s = self.now in
+            result ≡ at s.v.now j ⊘ at s.v.now i ⊗ grid s.n s.e.now i j }
+    {
+        self.v[j] / self.v[i] * self.e[i * self.n + j]
+    }
+
+    // Σ_j x_j Λ_ij.
+    fn row_sum(&self, i: usize) -> f64
+        requires { i < self.now.n }
+        ensures { let s = self.now in
+            result ≡ row_sum s.n (at s.v.now) (grid s.n s.e.now) (at s.x.now) i }
+    {
+        let own = self.x[i] * 1.0;
+        terms::sum_with_own(self.n, |j| self.x[j] * self.lambda(i, j), i, own)
+    }
+
+    fn value(self, q: Quantity) -> f64
+        requires { index_fault self.n q ≡ 0 }
+        ensures { let s = self.entry in
+            result ≡ wilson s.n (at s.v.now) (grid s.n s.e.now) (at s.x.now) q }
+    {
+        let mut sums = [0.0; COMPONENTS];
+        terms::fill(self.n, |i| self.row_sum(i), &mut sums[..]);
+        let shared = Shared {
+            of: self,
+            sums: &sums,
+        };
+        q.value(self.n, |i| shared.ln_gamma(i), || shared.excess_gibbs())
     }
 }
 
-// Λ_ij off the diagonal.
-fn lambda(n: usize, v: &[f64], e: &[f64], i: usize, j: usize) -> f64
-    requires { (n ≤ most_components)
-        × (n ≤ length v.now)
-        × (n * n ≤ length e.now)
-        × (i < n)
-        × (j < n) }
-    ensures { result ≡ at v.now j ⊘ at v.now i
-        ⊗ grid n e.now i j }
-{
-    v[j] / v[i] * e[i * n + j]
+// The same with what all components share, the sum of each row.
+#[derive(Clone, Copy)]
+struct Shared<'a> {
+    of: Data<'a>,
+    sums: &'a [f64; COMPONENTS],
+    ghost full: { length sums.now ≡ most_components },
+    ghost row_sums: { Filled (row_sum of.n (at of.v.now) (grid of.n of.e.now) (at of.x.now)) of.n sums.now },
 }
 
-// ln γ_i, from the row sums. The terms run without a test for the diagonal, then its own is put right.
-fn ln_gamma(n: usize, v: &[f64], e: &[f64], x: &[f64], sums: &[f64], i: usize) -> f64
-    requires { WilsonFits n v.now e.now x.now
-        × (i < n)
-        × (n ≤ length sums.now)
-        × Filled (row_sum n (at v.now) (grid n e.now) (at x.now)) n sums.now }
-    ensures { result
-        ≡ ln_gamma n (at v.now) (grid n e.now) (at x.now) i }
-{
-    let mut terms = [0.0; COMPONENTS];
-    for k in 0..n {
-        terms[k] = x[k] * lambda(n, v, e, k, i) / sums[k];
+impl<'a> Shared<'a> {
+    fn ln_gamma(&self, i: usize) -> f64
+        requires { i < self.now.of.n }
+        ensures { let s = self.now.of in
+            result ≡ ln_gamma s.n (at s.v.now) (grid s.n s.e.now) (at s.x.now) i }
+    {
+        let x = self.of.x;
+        let own = x[i] * 1.0 / self.sums[i];
+        let s = terms::sum_with_own(
+            self.of.n,
+            |k| x[k] * self.of.lambda(k, i) / self.sums[k],
+            i,
+            own,
+        );
+        1.0 - arithmetic::log(self.sums[i]) - s
     }
-    terms[i] = x[i] * 1.0 / sums[i];
-    1.0 - arithmetic::log(sums[i]) - arithmetic::sum(&terms[..n])
-}
 
-// The excess energy, from the row sums, which take their logs first.
-fn excess_gibbs(n: usize, x: &[f64], sums: &mut [f64]) -> f64
-    requires { (n ≤ length x.now) × (n ≤ length sums.old) }
-    ensures { result
-        ≡ fold n +0 (λ i s. s ⊖ at x.now i ⊗ log_of (at sums.old i)) }
-{
-    arithmetic::log_each(sums, n);
-    let mut s = 0.0;
-    for i in 0..n {
-        s = s - x[i] * sums[i];
+    // The excess energy, from the logs of all sums at once.
+    fn excess_gibbs(&self) -> f64
+        ensures { let s = self.now.of in
+            result ≡ excess s.n (at s.v.now) (grid s.n s.e.now) (at s.x.now) }
+    {
+        let mut logs = *self.sums;
+        arithmetic::log_each(&mut logs[..], self.of.n);
+        (0..self.of.n).fold(0.0, |s, i| s - self.of.x[i] * logs[i])
     }
-    s
 }
 
 // The quantity over a table of exponentials.
@@ -98,16 +104,10 @@ pub fn value_over(n: usize, v: &[f64], e: &[f64], x: &[f64], q: Quantity) -> f64
     requires { WilsonFits n v.now e.now x.now × (index_fault n q ≡ 0) }
     ensures { result ≡ wilson n (at v.now) (grid n e.now) (at x.now) q }
 {
-    let mut sums = [0.0; COMPONENTS];
-    row_sums(n, v, e, x, &mut sums[..]);
-    match q {
-        Quantity::LnGamma(i) => ln_gamma(n, v, e, x, &sums[..], i),
-        Quantity::Gamma(i) => arithmetic::exp(ln_gamma(n, v, e, x, &sums[..], i)),
-        Quantity::ExcessGibbs => excess_gibbs(n, x, &mut sums[..]),
-    }
+    Data { n, v, e, x }.value(q)
 }
 
-// The quantity at T, from the values.
+// The quantity at T, from the values: a by rows, then V.
 pub fn value_at(n: usize, values: &[f64], t: f64, x: &[f64], q: Quantity) -> f64
     requires { ValueFits n (wilson_size n) values.now x.now q }
     ensures { let v = values.now in
@@ -117,35 +117,4 @@ pub fn value_at(n: usize, values: &[f64], t: f64, x: &[f64], q: Quantity) -> f64
     crate::exponentials::fill_energies(values, t, n, &mut e[..]);
     let at = n * n;
     value_over(n, &values[at..], &e[..], x, q)
-}
-
-// The plain calls: the values are a by rows, then V.
-pub fn ln_gamma_at(n: usize, values: &[f64], t: f64, tolerance: f64, x: &[f64], i: usize) -> Answer
-    ensures { result ≡ wilson_plain n values.now t tolerance x.now
-        (Quantity.LnGamma i) }
-{
-    let q = Quantity::LnGamma(i);
-    plain_bare(Model::Wilson, n, values, t, tolerance, x, q)
-}
-
-pub fn gamma_at(n: usize, values: &[f64], t: f64, tolerance: f64, x: &[f64], i: usize) -> Answer
-    ensures { result ≡ wilson_plain n values.now t tolerance x.now
-        (Quantity.Gamma i) }
-{
-    let q = Quantity::Gamma(i);
-    plain_bare(Model::Wilson, n, values, t, tolerance, x, q)
-}
-
-pub fn reduced_excess_gibbs_at(
-    n: usize,
-    values: &[f64],
-    t: f64,
-    tolerance: f64,
-    x: &[f64],
-) -> Answer
-    ensures { result ≡ wilson_plain n values.now t tolerance x.now
-        Quantity.ExcessGibbs }
-{
-    let q = Quantity::ExcessGibbs;
-    plain_bare(Model::Wilson, n, values, t, tolerance, x, q)
 }

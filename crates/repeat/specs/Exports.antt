@@ -10,8 +10,7 @@ use Rattle.arithmetic.specs.Bytes.{floats, float_at}
 use Rattle.arithmetic.specs.Floats.{+0}
 use Rattle.models.specs.declared.answers.Quantity.{Quantity}
 use Rattle.models.specs.Answers.{quantity_of}
-use Rattle.models.specs.declared.answers.Answer as Plain
-use Rattle.models.specs.declared.answers.Answer.TheVariants as PlainAnswer
+use Rattle.arithmetic.specs.Refusals as Plain
 use Rattle.mixture.specs.declared.head.Head.{Head}
 use Rattle.models.specs.declared.model.Model.{Model}
 use Rattle.mixture.specs.declared.setting.Setting.{Setting}
@@ -25,9 +24,9 @@ use Rattle.mixture.specs.Calls.{no_head, after_open, after_load, after_setting, 
 use Rattle.models.specs.Plain.{plain_call}
 
 -- the value of a plain call, +0 for a refusal
-unfoldable pub plain_value : Plain.Answer → Float
-plain_value (PlainAnswer.Value v) = v
-plain_value (PlainAnswer.Refused k) = +0
+unfoldable pub plain_value : Plain.Answer Float → Float
+plain_value (Plain.Value v) = v
+plain_value (Plain.Refused k) = +0
 
 -- a td entry whose only number is a
 abbrev pub constant : Float → TdParam
@@ -39,11 +38,11 @@ setting_of change k v T = cond (eqb change 2) (Temperature T) (by_model k (Entry
 
 -- a query after what a call left
 unfoldable pub asked : Quantity → After → After
-asked q a = after_query a.memory a.reply.head q
+asked q a = after_query a.memory a.head q
 
 -- a setting and then a query
 unfoldable pub set_and_asked : Setting → Quantity → After → After
-set_and_asked s q a = asked q (after_setting a.memory a.reply.head s)
+set_and_asked s q a = asked q (after_setting a.memory a.head s)
 
 -- n queries
 unfoldable pub asked_times : ℕ → Quantity → After → After
@@ -65,8 +64,8 @@ turns n change k v q T a =
 unfoldable pub begun : Memory → Head → ModelData → List Float → After
 begun m h d x =
     let a = after_open m h in
-    let b = after_load a.memory a.reply.head d in
-    after_fractions b.memory b.reply.head x
+    let b = after_load a.memory a.head d in
+    after_fractions b.memory b.head x
 
 -- the memory that it starts from
 unfoldable pub zeros : Memory
@@ -81,7 +80,7 @@ plain_turns (suc n) d x q T = plain_value (plain_call d (T n) usual_tolerance x 
 unfoldable pub repeated : ℕ → ModelData → List Float → Quantity → ℕ → Float → Vector → Float
 repeated n d x q change v T =
     cond (eqb change 3) (plain_turns n d x q T)
-    (value_of (turns n change d.model v q T (begun zeros no_head d x)).reply.answer)
+    (value_of (turns n change d.model v q T (begun zeros no_head d x)).answer)
 
 -- the same for bytes; +0 for more values or fractions than any model has, or no temperature
 unfoldable pub repeated_bytes : ℕ → ℕ → ℕ → List ℕ → List ℕ → List ℕ → List ℕ → ℕ → ℕ → ℕ → Float → List ℕ → Float

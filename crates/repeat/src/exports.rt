@@ -21,22 +21,14 @@ use mixture::open::open;
 use mixture::query::query;
 use mixture::set::set;
 use mixture::{Head, Model, Reply, Setting};
-use models::Quantity;
 use models::answers::quantity_of;
 use models::faults::usual_tolerance;
 use models::limits::COMPONENTS;
-use models::model::{model_of, plain};
-
-fn plain_value(a: models::Answer) -> f64
-    ensures { result ≡ plain_value a }
-{
-    match a {
-        models::Answer::Value(v) => v,
-        models::Answer::Refused(_) => 0.0,
-    }
-}
+use models::model::model_of;
+use models::{Data, Quantity};
 
 // What a turn sets: T, or entry 0, 1.
+#[tactic(auto, unfolding(crate::specs::Exports::setting_of))]
 fn setting_of(change: u32, model: Model, v: f64, t: f64) -> Setting
     ensures { result ≡ setting_of change model v t }
 {
@@ -44,9 +36,7 @@ fn setting_of(change: u32, model: Model, v: f64, t: f64) -> Setting
         return Setting::Temperature(t);
     }
     match model {
-        Model::Wilson => Setting::Entry(0, 1, v),
-        Model::Uniquac => Setting::Entry(0, 1, v),
-        Model::Nrtl => Setting::Entry(0, 1, v),
+        Model::Wilson | Model::Uniquac | Model::Nrtl => Setting::Entry(0, 1, v),
         Model::Unifac => {
             let p = TdParam {
                 a: v,
@@ -70,14 +60,13 @@ fn ask_each(
     times: usize,
 ) -> f64
     ensures { result
-        ≡ value_of (asked_times times q (left (memory values.now cells.old marks.old) start)).reply.answer }
+        ≡ value_of (asked_times times q (left (memory values.now cells.old marks.old) start)).answer }
 {
     let mut last = start;
     for _ in 0..times {
         last = query(values, cells, marks, last.head, q);
     }
-    let answer = last.answer;
-    value_of(answer)
+    value_of(last.answer)
 }
 
 // A setting and a query at each temperature from `from` to below `to`; the last reply.
@@ -109,10 +98,7 @@ fn set_each(
         head = asked.head;
         answer = asked.answer;
     }
-    Reply {
-        head: head,
-        answer: answer,
-    }
+    Reply { head, answer }
 }
 
 // The first turn sets T and asks; the others ask, after the change's setting where there is one. The last
@@ -130,7 +116,7 @@ fn keep(
 ) -> f64
     requires { 8 ≤ length temperatures.now }
     ensures { result ≡ value_of (turns (how_many temperatures) change model v q (each temperatures)
-        (left (memory values.old cells.old marks.old) start)).reply.answer }
+        (left (memory values.old cells.old marks.old) start)).answer }
 {
     let first = set_each(
         values,
@@ -161,8 +147,7 @@ fn keep(
         1,
         temperatures.len() / 8,
     );
-    let answer = last.answer;
-    value_of(answer)
+    value_of(last.answer)
 }
 
 // An opening, a load and the fractions.
@@ -171,119 +156,56 @@ fn begin(
     cells: &[f64],
     marks: &mut [u8],
     head: Head,
-    model: Model,
-    n: usize,
-    ng: usize,
-    lens: &[u8],
-    groups: &[u8],
-    given: &[f64],
+    given: Data,
     x: &[f64],
 ) -> Reply
     ensures { left (memory values.new cells.now marks.new) result
-        ≡ begun (memory values.old cells.now marks.old) head (data_given model n ng lens groups given)
-        x.now }
+        ≡ begun (memory values.old cells.now marks.old) head (data_given given.entry) x.now }
 {
     let opened = open(values, cells, marks, head);
-    let loaded = load(
-        values,
-        cells,
-        marks,
-        opened.head,
-        model,
-        n,
-        ng,
-        lens,
-        groups,
-        given,
-    );
+    let loaded = load(values, cells, marks, opened.head, given);
     fractions(values, cells, marks, loaded.head, x)
 }
 
 // The value of the plain call at the usual tolerance, 0 where it declines.
-fn plain_at(
-    model: Model,
-    n: usize,
-    ng: usize,
-    lens: &[u8],
-    groups: &[u8],
-    given: &[f64],
-    t: f64,
-    x: &[f64],
-    q: Quantity,
-) -> f64
-    ensures { result ≡ plain_value
-        (plain_call (data_given model n ng lens groups given) t usual_tolerance x.now q) }
+fn plain_at(given: Data, t: f64, x: &[f64], q: Quantity) -> f64
+    ensures { result
+        ≡ plain_value (plain_call (data_given given.entry) t usual_tolerance x.now q) }
 {
-    let tolerance = usual_tolerance();
-    plain_value(plain(model, n, ng, lens, groups, given, t, tolerance, x, q))
+    given.plain(t, usual_tolerance(), x, q).unwrap_or(0.0)
 }
 
 // The plain call at each temperature; the last value.
-fn plain_each(
-    model: Model,
-    n: usize,
-    ng: usize,
-    lens: &[u8],
-    groups: &[u8],
-    given: &[f64],
-    temperatures: &[u8],
-    x: &[f64],
-    q: Quantity,
-) -> f64
+fn plain_each(given: Data, temperatures: &[u8], x: &[f64], q: Quantity) -> f64
     ensures { result
-        ≡ plain_turns (how_many temperatures) (data_given model n ng lens groups given) x.now q
-        (each temperatures) }
+        ≡ plain_turns (how_many temperatures) (data_given given.entry) x.now q (each temperatures) }
 {
     let mut last = 0.0;
     for k in 0..temperatures.len() / 8 {
         let t = bytes::float_at(temperatures, 8 * k);
-        last = plain_at(model, n, ng, lens, groups, given, t, x, q);
+        last = plain_at(given, t, x, q);
     }
     last
 }
 
 // A mixture on zeros, from its opening to its last turn; the last value.
-fn kept(
-    model: Model,
-    n: usize,
-    ng: usize,
-    lens: &[u8],
-    groups: &[u8],
-    given: &[f64],
-    x: &[f64],
-    q: Quantity,
-    change: u32,
-    v: f64,
-    temperatures: &[u8],
-) -> f64
+fn kept(given: Data, x: &[f64], q: Quantity, change: u32, v: f64, temperatures: &[u8]) -> f64
     requires { 8 ≤ length temperatures.now }
-    ensures { result ≡ value_of (turns (how_many temperatures) change model v q (each temperatures)
-        (begun zeros no_head (data_given model n ng lens groups given) x.now)).reply.answer }
+    ensures { result
+        ≡ value_of (turns (how_many temperatures) change given.entry.model v q (each temperatures)
+        (begun zeros no_head (data_given given.entry) x.now)).answer }
 {
     let mut values = [0.0; VALUES];
     let mut cells = [0.0; CELLS];
     let mut marks = [0u8; MARKS];
-    let head = no_head();
-    let start = begin(
-        &mut values[..],
-        &cells[..],
-        &mut marks[..],
-        head,
-        model,
-        n,
-        ng,
-        lens,
-        groups,
-        given,
-        x,
-    );
+    let start = begin(&mut values, &cells, &mut marks, no_head(), given, x);
     keep(
-        &mut values[..],
-        &mut cells[..],
-        &mut marks[..],
+        &mut values,
+        &mut cells,
+        &mut marks,
         start,
         change,
-        model,
+        given.model,
         v,
         q,
         temperatures,
@@ -325,58 +247,31 @@ pub extern "C" fn kiltgrit_repeat(
     if temperatures.len() < 8 {
         return 0.0;
     }
-    let mut given = [0.0; VALUES];
-    bytes::fill_floats(count, values, 0, &mut given[..]);
+    let mut numbers = [0.0; VALUES];
+    bytes::fill_floats(count, values, 0, &mut numbers);
     let mut fractions = [0.0; COMPONENTS];
-    bytes::fill_floats(parts, x, 0, &mut fractions[..]);
-    repeat(
-        model_of(model),
+    bytes::fill_floats(parts, x, 0, &mut fractions);
+    let given = Data {
+        model: model_of(model),
         n,
         ng,
         lens,
         groups,
-        &given[..count],
-        &fractions[..parts],
-        quantity_of(asked as usize, i),
-        change,
-        v,
-        temperatures,
-    )
+        values: &numbers[..count],
+    };
+    let q = quantity_of(asked as usize, i);
+    repeat(given, &fractions[..parts], q, change, v, temperatures)
 }
 
 // The same for values and fractions as floats.
-fn repeat(
-    model: Model,
-    n: usize,
-    ng: usize,
-    lens: &[u8],
-    groups: &[u8],
-    given: &[f64],
-    x: &[f64],
-    q: Quantity,
-    change: u32,
-    v: f64,
-    temperatures: &[u8],
-) -> f64
+fn repeat(given: Data, x: &[f64], q: Quantity, change: u32, v: f64, temperatures: &[u8]) -> f64
     requires { 8 ≤ length temperatures.now }
     ensures { result
-        ≡ repeated (how_many temperatures) (data_given model n ng lens groups given) x.now q
-        change v (each temperatures) }
+        ≡ repeated (how_many temperatures) (data_given given.entry) x.now q change v
+        (each temperatures) }
 {
     if change == 3 {
-        return plain_each(model, n, ng, lens, groups, given, temperatures, x, q);
+        return plain_each(given, temperatures, x, q);
     }
-    kept(
-        model,
-        n,
-        ng,
-        lens,
-        groups,
-        given,
-        x,
-        q,
-        change,
-        v,
-        temperatures,
-    )
+    kept(given, x, q, change, v, temperatures)
 }

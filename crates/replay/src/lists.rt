@@ -1,112 +1,66 @@
-// The lists, and how a line of each is replayed.
-use crate::words::Word;
-use crate::{calls, checks, panel, strips, suppliers, words};
-use arithmetic::bytes::{bits_of, float_of};
-use models::Model;
-use std::io::{Read, Result};
+// How a list is replayed, line by line.
+use crate::words;
+use crate::words::Fault;
+use arithmetic::Refusal;
+use arithmetic::bytes::bits_of;
+use std::fmt;
+use std::io::Read;
 
 const MOST_LINES: u64 = 1000000;
 
-#[derive(Clone, Copy)]
-pub enum List {
-    Exp,
-    Log,
-    Plain(Model),
-    Millionths,
-    Checks,
-    Suppliers,
-    Strips,
-}
-
-#[derive(Clone, Copy)]
-pub enum Line {
-    Same,
-    Differs,
-    End,
-    Broken,
-}
-
-// What came of a list: how many answers it has, how many of them differ, and whether it was read to
-// its end.
-#[derive(Clone, Copy)]
+// How many answers a list has, and how many of them differ.
+#[derive(Clone, Copy, Default)]
 pub struct Tally {
-    pub answers: u64,
-    pub differ: u64,
-    pub whole: bool,
+    answers: u64,
+    differ: u64,
 }
 
-// A line's answer, held against its last word.
-fn held(got: f64, stored: Word) -> Line {
-    match stored {
-        Word::Bits(b) => {
-            if bits_of(got) == b {
-                Line::Same
-            } else {
-                Line::Differs
-            }
+impl Tally {
+    fn count(&mut self, same: bool) {
+        self.answers = self.answers.saturating_add(1);
+        if !same {
+            self.differ = self.differ.saturating_add(1);
         }
-        Word::End => Line::Broken,
-        Word::Broken => Line::Broken,
     }
 }
 
-// The rest of a line of a list, whose first word is the input, what is asked of a model, a check's tolerance,
-// a supplier's n, or a strip's length.
-fn rest_of<R: Read>(file: &mut R, list: List, b: u64) -> Result<Line> {
-    match list {
-        List::Exp => Ok(held(arithmetic::exp(float_of(b)), words::next(file, b'\n')?)),
-        List::Log => Ok(held(arithmetic::log(float_of(b)), words::next(file, b'\n')?)),
-        List::Plain(model) => calls::line(file, model, b),
-        List::Millionths => panel::line(file, float_of(b)),
-        List::Checks => checks::line(file, float_of(b)),
-        List::Suppliers => suppliers::line(file, b as usize),
-        List::Strips => strips::line(file, b as usize),
+impl fmt::Display for Tally {
+    fn fmt<W: fmt::Write>(&self, f: &mut fmt::Formatter<W>) -> fmt::Result {
+        write!(f, "{} answers, {} differ", self.answers, self.differ)
     }
 }
 
-fn next_line<R: Read>(file: &mut R, list: List) -> Result<Line> {
-    let first = words::next(file, b' ')?;
-    match first {
-        Word::Bits(b) => rest_of(file, list, b),
-        Word::End => Ok(Line::End),
-        Word::Broken => Ok(Line::Broken),
+// Whether an answer is the stored one: the number of the refusal, 0 for none, and the value, 0 for none.
+pub fn is_stored<T: Copy + PartialEq + Default>(
+    answer: Result<T, Refusal>,
+    number: u64,
+    value: T,
+) -> bool {
+    match answer {
+        Ok(v) => number == 0 && v == value,
+        Err(refusal) => number == u64::from(u8::from(refusal)) && value == T::default(),
     }
 }
 
-// Replays a list, line by line. A proved loop has to end, and nothing says that a file does: of a
-// longer list the rest counts as unread.
-pub fn replay<R: Read>(file: &mut R, list: List) -> Result<Tally> {
-    let mut answers: u64 = 0;
-    let mut differ: u64 = 0;
+// Whether the rest of a line, its last word, is this value.
+pub fn is_value<R: Read>(file: &mut R, got: f64) -> Result<bool, Fault> {
+    Ok(words::next(file, b'\n')? == bits_of(got))
+}
+
+// Counts a list's answers, each by `is_same`, which reads the rest of a line whose first word it is given. A
+// proved loop has to end, and nothing says that a file does: of a longer list the rest counts as unread.
+pub fn replay<R: Read, F: FnMut(&mut R, u64) -> Result<bool, Fault>>(
+    file: &mut R,
+    tally: &mut Tally,
+    mut is_same: F,
+) -> Result<(), Fault>
+    requires { F.IsAlwaysCallable is_same }
+{
     for _ in 0..MOST_LINES {
-        let line = next_line(file, list)?;
-        match line {
-            Line::Same => {
-                answers += 1;
-            }
-            Line::Differs => {
-                answers += 1;
-                differ += 1;
-            }
-            Line::End => {
-                return Ok(Tally {
-                    answers: answers,
-                    differ: differ,
-                    whole: true,
-                });
-            }
-            Line::Broken => {
-                return Ok(Tally {
-                    answers: answers,
-                    differ: differ,
-                    whole: false,
-                });
-            }
-        }
+        let Some(first) = words::next_or_end(file, b' ')? else {
+            return Ok(());
+        };
+        tally.count(is_same(file, first)?);
     }
-    Ok(Tally {
-        answers: answers,
-        differ: differ,
-        whole: false,
-    })
+    Err(Fault::Broken)
 }

@@ -1,12 +1,11 @@
 // A supplier's list with its answer: a line with n, how many entries are lent and the text's length, the
 // bytes of the text, and a line with the number of values, these, and the number that is given, 0 for none.
-use crate::lists::Line;
-use crate::strips::fill;
+use crate::lists::is_stored;
 use crate::words;
-use crate::words::Word;
+use crate::words::Fault;
 use arithmetic::bytes::bits_of;
 use models::suppliers::import;
-use std::io::{Read, Result};
+use std::io::Read;
 
 const MOST_TEXT: usize = 4096;
 
@@ -16,60 +15,26 @@ const ENTRIES_ROOM: usize = 320;
 // What stands in every place before the call, and after it where nothing was written.
 const BEFORE: f64 = 0.5;
 
-fn same(a: &[f64; ENTRIES_ROOM], b: &[f64; ENTRIES_ROOM]) -> bool {
-    for k in 0..ENTRIES_ROOM {
-        if bits_of(a[k]) != bits_of(b[k]) {
-            return false;
-        }
-    }
-    true
+fn same(a: &[f64], b: &[f64]) -> bool {
+    a.iter()
+        .zip(b.iter())
+        .all(|(a, b)| bits_of(*a) == bits_of(*b))
 }
 
-// The number and all places, held against the second line.
-fn held<R: Read>(file: &mut R, got: u8, entries: &[f64; ENTRIES_ROOM]) -> Result<Line> {
-    let count = words::count(file)?;
-    if ENTRIES_ROOM < count {
-        return Ok(Line::Broken);
+// A list whose n has been read. The answer and all places are held against the second line.
+pub fn is_same<R: Read>(file: &mut R, n: usize) -> Result<bool, Fault> {
+    let lent = words::length(file, ENTRIES_ROOM);
+    if let Err(Fault::Io(e)) = lent {
+        return Err(Fault::Io(e));
     }
-    let mut stored = [BEFORE; ENTRIES_ROOM];
-    if !words::fill_floats(file, &mut stored[..], count)? {
-        return Ok(Line::Broken);
-    }
-    let Word::Bits(number) = words::next(file, b'\n')? else {
-        return Ok(Line::Broken);
-    };
-    if number != got as u64 {
-        return Ok(Line::Differs);
-    }
-    if same(entries, &stored) {
-        Ok(Line::Same)
-    } else {
-        Ok(Line::Differs)
-    }
-}
-
-// From the text on, of m bytes.
-fn with_text<R: Read>(file: &mut R, n: usize, lent: usize, m: usize) -> Result<Line> {
-    if ENTRIES_ROOM < lent {
-        return Ok(Line::Broken);
-    }
-    if MOST_TEXT < m {
-        return Ok(Line::Broken);
-    }
-    let mut text = [0u8; MOST_TEXT];
-    if !fill(file, &mut text, m)? {
-        return Ok(Line::Broken);
-    }
+    let m = words::next(file, b'\n')?;
+    let lent = lent?;
+    let mut room = [0u8; MOST_TEXT];
+    let text = words::bytes(file, &mut room, m as usize)?;
     let mut entries = [BEFORE; ENTRIES_ROOM];
-    let number = import(&text[..m], n, &mut entries[..lent]);
-    held(file, number, &entries)
-}
-
-// A list whose n has been read.
-pub fn line<R: Read>(file: &mut R, n: usize) -> Result<Line> {
-    let lent = words::count(file)?;
-    let Word::Bits(m) = words::next(file, b'\n')? else {
-        return Ok(Line::Broken);
-    };
-    with_text(file, n, lent, m as usize)
+    let answer = import(text, n, &mut entries[..lent]);
+    let mut stored = [BEFORE; ENTRIES_ROOM];
+    words::row(file, &mut stored)?;
+    let number = words::next(file, b'\n')?;
+    Ok(is_stored(answer, number, ()) && same(&entries, &stored))
 }

@@ -1,100 +1,101 @@
 // The words of a list: 16 lowercase hexadecimal digits, followed by one blank, or by LF at the end of
 // a line.
-ghost use Rattle.std.specs.Prelude.{◌≡◌, ◌≤◌, length, take};
+ghost use Rattle.std.specs.Prelude.{◌≤◌, IfOk};
 
 use arithmetic::bytes::float_of;
 use reading::read_full;
-use std::io::{Read, Result};
+use std::io;
+use std::io::Read;
 
-#[derive(Clone, Copy)]
-pub enum Word {
-    Bits(u64),
-    End,
+// Why a list can't be read on: it is of another form, or the file can't be read.
+#[derive(Debug, Drop)]
+pub enum Fault {
     Broken,
+    Io(io::Error),
 }
 
-// The value of a digit, and 16 for any other byte.
-fn digit(b: u8) -> u64
-    ensures { result ≤ 16 }
-{
-    if b < b'0' {
-        return 16;
+impl From<io::Error> for Fault {
+    fn from(e: io::Error) -> Fault {
+        Fault::Io(e)
     }
-    if b <= b'9' {
-        return (b - b'0') as u64;
-    }
-    if b < b'a' {
-        return 16;
-    }
-    if b <= b'f' {
-        return (b - b'a' + 10) as u64;
-    }
-    16
 }
 
-// The word that 16 digits spell. Each of them moves the others up by four bits.
-fn spelt(text: &[u8; 17]) -> Word {
-    let mut bits: u64 = 0;
-    for k in 0..16 {
-        let d = digit(text[k]);
-        if d == 16 {
-            return Word::Broken;
-        }
-        bits = bits % 0x1000_0000_0000_0000 * 16 + d;
-    }
-    Word::Bits(bits)
+// What stands in a row: an f64 by its bits, or a byte.
+pub trait Entry: Copy {
+    fn of_word(bits: u64) -> Result<Self, Fault>;
 }
 
-// The next word of a file, which the byte `after` follows.
-pub fn next<R: Read>(file: &mut R, after: u8) -> Result<Word> {
+impl Entry for f64 {
+    fn of_word(bits: u64) -> Result<f64, Fault> {
+        Ok(float_of(bits))
+    }
+}
+
+impl Entry for u8 {
+    fn of_word(bits: u64) -> Result<u8, Fault> {
+        u8::try_from(bits).or(Err(Fault::Broken))
+    }
+}
+
+// The value of a digit.
+fn digit(b: u8) -> Option<u64> {
+    match b {
+        b'0'..=b'9' => Some(u64::from(b - b'0')),
+        b'a'..=b'f' => Some(u64::from(b - b'a') + 10),
+        _ => None,
+    }
+}
+
+// The word that digits spell. Each of them moves the others up by four bits.
+fn spelt(digits: &[u8]) -> Option<u64> {
+    let mut bits = 0;
+    for b in digits {
+        bits = bits << 4 | digit(*b)?;
+    }
+    Some(bits)
+}
+
+// The next word of a file, which the byte `after` follows, or none at the file's end.
+pub fn next_or_end<R: Read>(file: &mut R, after: u8) -> Result<Option<u64>, Fault> {
     let mut text = [0u8; 17];
-    let n = read_full(file, &mut text)?;
-    if n == 0 {
-        return Ok(Word::End);
+    match read_full(file, &mut text)? {
+        0 => Ok(None),
+        17 if text[16] == after => Ok(Some(spelt(&text[..16]).ok_or(Fault::Broken)?)),
+        _ => Err(Fault::Broken),
     }
-    if n < 17 {
-        return Ok(Word::Broken);
-    }
-    if text[16] != after {
-        return Ok(Word::Broken);
-    }
-    Ok(spelt(&text))
 }
 
-// The next word, as the length of a row; where there is none, more than any row has.
-pub fn count<R: Read>(file: &mut R) -> Result<usize> {
-    let Word::Bits(b) = next(file, b' ')? else {
-        return Ok(0xffff_ffff_ffff_ffff);
-    };
-    Ok(b as usize)
+// The next word, where there has to be one.
+pub fn next<R: Read>(file: &mut R, after: u8) -> Result<u64, Fault> {
+    next_or_end(file, after)?.ok_or(Fault::Broken)
 }
 
-// Fills the first n places of a slice from the words that follow, and answers whether all of them
-// could be read.
-pub fn fill_floats<R: Read>(file: &mut R, a: &mut [f64], n: usize) -> Result<bool>
-    requires { n ≤ length a.old }
-    ensures { n ≡ length (take n a.new) }
+// The next word, as a length for which there is room.
+pub fn length<R: Read>(file: &mut R, room: usize) -> Result<usize, Fault>
+    ensures { IfOk result (λ n. n ≤ room) }
 {
-    for k in 0..n {
-        let Word::Bits(b) = next(file, b' ')? else {
-            return Ok(false);
-        };
-        a[k] = float_of(b);
-    }
-    Ok(true)
+    let n = next(file, b' ')? as usize;
+    if room < n { Err(Fault::Broken) } else { Ok(n) }
 }
 
-// The same for words below 256.
-pub fn fill_bytes<R: Read>(file: &mut R, a: &mut [u8], n: usize) -> Result<bool>
-    requires { n ≤ length a.old }
-    ensures { n ≡ length (take n a.new) }
-{
-    for k in 0..n {
-        let b = count(file)?;
-        if 255 < b {
-            return Ok(false);
-        }
-        a[k] = b as u8;
+// The row that follows, with its length before it, read into the first places.
+pub fn row<'a, R: Read, T: Entry>(file: &mut R, room: &'a mut [T]) -> Result<&'a [T], Fault> {
+    let n = length(file, room.len())?;
+    let row = &mut room[..n];
+    for entry in row.iter_mut() {
+        *entry = T::of_word(next(file, b' ')?)?;
     }
-    Ok(true)
+    Ok(row)
+}
+
+// The next n bytes, read into the first places.
+pub fn bytes<'a, R: Read>(file: &mut R, room: &'a mut [u8], n: usize) -> Result<&'a [u8], Fault> {
+    if room.len() < n {
+        return Err(Fault::Broken);
+    }
+    let bytes = &mut room[..n];
+    if read_full(file, bytes)? < n {
+        return Err(Fault::Broken);
+    }
+    Ok(bytes)
 }

@@ -4,20 +4,26 @@ use native.Mathlib.Nat.{add-zero, zero-add}
 use native.Mathlib.Omega.{arith}
 use native.Mathlib.Numerals.{add-one}
 use mathlib.Core.Path.{◌≡◌, refl, sym, ap, ◌∙◌, subst}
-use mathlib.Core.Bool.{true, false}
+use mathlib.Core.Bool.{true, false, ◌&&◌}
 use mathlib.Core.List.{List}
 use mathlib.Core.Logic.{inl, inr}
 use lib.Dec.{leb, eqb}
 use lib.ListN.{length, set}
 use lib.Seq.{sets, length-sets}
 use lib.Ieee.{Float}
-use borrow.Author.Tests.{le-leb, lt-leb, leb-true, eq-eqb, ne_eqb}
+use borrow.Author.Tests.{le-leb, lt-leb, leb-true}
 use Rattle.arithmetic.specs.Bytes.{word_at, float_at}
 use Rattle.arithmetic.proofs.Tests.{either, le-or}
 use Rattle.mixture.proofs.PlaceLaws.{both}
+use Rattle.std.specs.Prelude.{Option, Some, None, Result, Ok, Err, IsErr}
+use Rattle.strip.specs.declared.lists.Met.{Met}
+use Rattle.strip.specs.declared.lists.Walk.{Walk}
+use Rattle.strip.specs.declared.lists.Part.{Part}
+use Rattle.strip.specs.declared.lists.Part.TheVariants.{ListOf, Group}
+use Rattle.strip.specs.declared.words.Broken.{Broken}
 use Rattle.strip.specs.Words.{kind_of, i_of, j_of, rest_of}
 use Rattle.strip.specs.GroupLists.{Lists, no_lists, missing, with_pair, with_list, is_word, pairs_at, lists_at}
-use Rattle.strip.specs.Steps.Run.{Stored}
+use Rattle.strip.specs.Steps.Run.{ahead, ahead_of, Stepped, Stored}
 
 -- ---- n bytes from p on
 
@@ -42,33 +48,12 @@ pub word_cut : (s : List ℕ) (kind n p : ℕ) → leb (p + n) (length s) ≡ fa
 unfolding is_word
 word_cut s kind n p h = rw h
 
--- with eight bytes after it
-pub word_pair : (s : List ℕ) (kind p : ℕ) → leb (p + 12) (length s) ≡ true → is_word s kind 4 p ≡ is_word s kind 12 p
+pub word_by : (s : List ℕ) (kind n p : ℕ) {w : ℕ} → leb (p + n) (length s) ≡ true → w ≡ word_at s p
+    → is_word s kind n p ≡ (eqb (kind_of w) kind && (eqb (j_of w) 0 && eqb (rest_of w) 0))
 unfolding is_word
-word_pair s kind p h = rw (h, le-leb (p + 4) (length s) (omega (arith, leb-true (p + 12) (length s) h)))
-
-module _ (s : List ℕ) (kind n p : ℕ) (h : leb (p + n) (length s) ≡ true) {w k : ℕ} (e : w ≡ word_at s p) (a : k ≡ kind_of w) where
-  pub word_kind : (k ≡ kind → ⊥) → false ≡ is_word s kind n p
-  unfolding is_word
-  word_kind b = rw (h, ← e, ← a, ne_eqb k kind b)
-
-  module _ (b : k ≡ kind) {j : ℕ} (c : j ≡ j_of w) where
-    pub word-field : (j ≡ 0 → ⊥) → false ≡ is_word s kind n p
-    unfolding is_word
-    word-field d = rw (h, ← e, ← a, eq-eqb k kind b, ← c, ne_eqb j 0 d)
-
-    pub word-rest : j ≡ 0 → {r : ℕ} → r ≡ rest_of w → eqb r 0 ≡ is_word s kind n p
-    unfolding is_word
-    word-rest d f = rw (h, ← e, ← a, eq-eqb k kind b, ← c, eq-eqb j 0 d, f)
-
--- its field i
-pub i-is : (s : List ℕ) (p : ℕ) {i w : ℕ} → w ≡ word_at s p → i ≡ i_of w → i ≡ i_of (word_at s p)
-i-is s p e f = f ∙ ap i_of e
+word_by s kind n p h e = rw (h, ← e)
 
 -- ---- what is left to read, of a list that was begun and of those after it: its next word
-
-abbrev pub ahead : List ℕ → ℕ → ℕ → ℕ → Lists
-ahead s left pairs p = pairs_at s pairs (lists_at s left) p
 
 module _ (s : List ℕ) (left p : ℕ) {pairs : ℕ} where
   pub no_more : pairs ≡ 0 → left ≡ 0 → ahead s left pairs p ≡ no_lists p
@@ -96,6 +81,13 @@ module _ (s : List ℕ) (left p : ℕ) {pairs : ℕ} where
         → ahead s left pairs p ≡ with_pair g v (ahead s left (pairs - 1) (p + 12))
     unfolding pairs_at
     one_13 t {g} q {v} f = subst (λ (k : ℕ). pairs_at s k (lists_at s left) p ≡ with_pair g v (ahead s left (pairs - 1) (p + 12))) (sym more-pairs) (rw (t, q, f))
+
+-- a walk stops where a word is missing
+pub stops : (s : List ℕ) (w w' : Walk) (r : Result (Option Part) Broken) → IsErr r → ahead_of s w ≡ missing → Stepped s w w' r
+stops s w w' (Ok (Some (ListOf v))) h e = cc
+stops s w w' (Ok (Some (Group g v))) h e = cc
+stops s w w' (Ok None) h e = cc
+stops s w w' (Err x) h e = e
 
 -- where they end
 pub ends : {a b : Lists} {e : ℕ} → a ≡ b → a.end ≡ e → b.end ≡ e
@@ -156,45 +148,43 @@ lists-few s (suc n) =
 
 -- ---- storing them: what is stored and what is left make the whole
 
-pub record Storing (all : Lists) (k : ℕ) (ls₀ gs₀ : List ℕ) (a₀ : List Float) (left : Lists) (n m : ℕ) (ls gs : List ℕ) (a : List Float) : Type 0 where
-  pub lists : n + length left.lens ≡ length all.lens
-  pub groups : m + length left.groups ≡ length all.groups
-  pub lengths : sets ls n left.lens ≡ sets ls₀ 0 all.lens
-  pub members : sets gs m left.groups ≡ sets gs₀ 0 all.groups
-  pub numbers : sets a (k + m) left.counts ≡ sets a₀ k all.counts
+pub record Storing (all : Lists) (ls₀ gs₀ : List ℕ) (a₀ : List Float) (left : Lists) (met : Met) (ls gs : List ℕ) (a : List Float) : Type 0 where
+  pub lists : met.lists + length left.lens ≡ length all.lens
+  pub groups : met.groups + length left.groups ≡ length all.groups
+  pub lengths : sets ls met.lists left.lens ≡ sets ls₀ 0 all.lens
+  pub members : sets gs met.groups left.groups ≡ sets gs₀ 0 all.groups
+  pub numbers : sets a met.groups left.counts ≡ sets a₀ 0 all.counts
 
-pub store_starts : (s : List ℕ) (n p k : ℕ) (ls gs : List ℕ) (a : List Float) → Storing (lists_at s n p) k ls gs a (ahead s (n - 0) 0 p) 0 0 ls gs a
+pub store_starts : (s : List ℕ) (n p : ℕ) (ls gs : List ℕ) (a : List Float) → Storing (lists_at s n p) ls gs a (ahead s n 0 p) (record { lists = 0; groups = 0 }) ls gs a
 unfolding pairs_at
-store_starts s n p k ls gs a =
-    let z : n - 0 ≡ n = omega arith in
-    rw z (record { lists = zero-add _; groups = zero-add _; lengths = refl; members = refl; numbers = rw (add-zero k) })
+store_starts s n p ls gs a = record { lists = zero-add _; groups = zero-add _; lengths = refl; members = refl; numbers = refl }
 
-module _ {all : Lists} {k : ℕ} {ls₀ gs₀ : List ℕ} {a₀ : List Float} {left : Lists} {n m : ℕ} {ls gs : List ℕ} {a : List Float} (f : Storing all k ls₀ gs₀ a₀ left n m ls gs a) where
+module _ {all : Lists} {ls₀ gs₀ : List ℕ} {a₀ : List Float} {left : Lists} {met : Met} {ls gs : List ℕ} {a : List Float} (f : Storing all ls₀ gs₀ a₀ left met ls gs a) where
   -- with another name for what is left
-  named : {l : Lists} → left ≡ l → Storing all k ls₀ gs₀ a₀ l n m ls gs a
-  named e = subst (λ (z : Lists). Storing all k ls₀ gs₀ a₀ z n m ls gs a) e f
+  named : {l : Lists} → left ≡ l → Storing all ls₀ gs₀ a₀ l met ls gs a
+  named e = subst (λ (z : Lists). Storing all ls₀ gs₀ a₀ z met ls gs a) e f
 
-  pub store_ends : (p : ℕ) → left ≡ no_lists p → Stored all k (record { lists = n; groups = m }) ls₀ gs₀ a₀ ls gs a
+  pub store_ends : (p : ℕ) → left ≡ no_lists p → Stored all met ls₀ gs₀ a₀ ls gs a
   store_ends p e =
       let g = named e in
-      record { lists = sym (add-zero n) ∙ g.lists; groups = sym (add-zero m) ∙ g.groups; lengths = g.lengths; members = g.members; numbers = g.numbers }
+      record { lists = sym (add-zero met.lists) ∙ g.lists; groups = sym (add-zero met.groups) ∙ g.groups; lengths = g.lengths; members = g.members; numbers = g.numbers }
 
-  pub store_12 : (v : ℕ) (more : Lists) → left ≡ with_list v more → {ls' : List ℕ} → ls' ≡ set ls n v → Storing all k ls₀ gs₀ a₀ more (n + 1) m ls' gs a
+  pub store_12 : (v : ℕ) (more : Lists) → left ≡ with_list v more → {ls' : List ℕ} → ls' ≡ set ls met.lists v
+      → Storing all ls₀ gs₀ a₀ more (record { lists = met.lists + 1; groups = met.groups }) ls' gs a
   store_12 v more e q =
       let g = named e in
-      record { lists = omega (arith, g.lists); groups = g.groups; lengths = rw (q, add-one n) g.lengths; members = g.members; numbers = g.numbers }
+      record { lists = omega (arith, g.lists); groups = g.groups; lengths = rw (q, add-one met.lists) g.lengths; members = g.members; numbers = g.numbers }
 
-  pub store_13 : (v : ℕ) (x : Float) (more : Lists) → left ≡ with_pair v x more → {gs' : List ℕ} → gs' ≡ set gs m v → {a' : List Float} → a' ≡ set a (k + m) x
-      → Storing all k ls₀ gs₀ a₀ more n (m + 1) ls gs' a'
+  pub store_13 : (v : ℕ) (x : Float) (more : Lists) → left ≡ with_pair v x more → {gs' : List ℕ} → gs' ≡ set gs met.groups v → {a' : List Float} → a' ≡ set a met.groups x
+      → Storing all ls₀ gs₀ a₀ more (record { lists = met.lists; groups = met.groups + 1 }) ls gs' a'
   store_13 v x more e q r =
       let g = named e in
-      let z : k + (m + 1) ≡ suc (k + m) = omega arith in
-      record { lists = g.lists; groups = omega (arith, g.groups); lengths = g.lengths; members = rw (q, add-one m) g.members; numbers = rw (r, z) g.numbers }
+      record { lists = g.lists; groups = omega (arith, g.groups); lengths = g.lengths; members = rw (q, add-one met.groups) g.members; numbers = rw (r, add-one met.groups) g.numbers }
 
   -- no buffer grows
   pub store_kept : (length ls ≡ length ls₀) × (length gs ≡ length gs₀) × (length a ≡ length a₀)
   store_kept = (
-    sym (length-sets ls n left.lens) ∙ ap length f.lengths ∙ length-sets ls₀ 0 all.lens,
-    sym (length-sets gs m left.groups) ∙ ap length f.members ∙ length-sets gs₀ 0 all.groups,
-    sym (length-sets a (k + m) left.counts) ∙ ap length f.numbers ∙ length-sets a₀ k all.counts,
+    sym (length-sets ls met.lists left.lens) ∙ ap length f.lengths ∙ length-sets ls₀ 0 all.lens,
+    sym (length-sets gs met.groups left.groups) ∙ ap length f.members ∙ length-sets gs₀ 0 all.groups,
+    sym (length-sets a met.groups left.counts) ∙ ap length f.numbers ∙ length-sets a₀ 0 all.counts,
   )

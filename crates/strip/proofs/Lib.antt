@@ -1,4 +1,5 @@
 pub mod TextLaws
+pub mod KindLaws
 pub mod GroupListLaws
 pub mod RecordLaws
 pub mod CallLaws

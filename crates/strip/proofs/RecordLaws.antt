@@ -14,14 +14,15 @@ use Rattle.arithmetic.specs.Bytes.{word_at}
 use Rattle.models.specs.Values.{wilson_size, uniquac_size, nrtl_size, counts_at}
 use Rattle.arithmetic.proofs.Tests.{either, le-or}
 use Rattle.mixture.proofs.PlaceLaws.{both}
-use Rattle.strip.specs.declared.records.Shape.{Shape}
-use Rattle.strip.specs.declared.records.Rec.{Rec}
-use Rattle.strip.specs.declared.records.Read.{Read}
-use Rattle.strip.specs.declared.records.Read.TheVariants.{Record, Broken, End}
+use Rattle.std.specs.Prelude.{Option, Some, None, Result, Ok, Err, IsErr}
+use Rattle.std.specs.Option.{ok_or}
+use Rattle.strip.specs.declared.kinds.Content.{Content}
+use Rattle.strip.specs.declared.records.Record.{Record as Found}
+use Rattle.strip.specs.declared.words.Broken.{Broken as IsBroken}
 use Rattle.strip.specs.Words.{most_bytes, kind_of, i_of, j_of, rest_of}
 use Rattle.strip.specs.GroupLists.{lists_at}
-use Rattle.strip.specs.Records.{shape, shape_of, record_by, read_at}
-use Rattle.strip.specs.Steps.Run.{fits_by, fits}
+use Rattle.strip.specs.Records.{Shape, Rec, Read, Record, Broken, End, shape, shape_of, record_by, read_at}
+use Rattle.strip.specs.Steps.Run.{HasContent, read_of, fits}
 use Rattle.strip.proofs.GroupListLaws.{lists-after}
 
 -- ---- the shape of each kind
@@ -71,44 +72,80 @@ pub read_cut : (s : List ℕ) (p : ℕ) → p < length s → length s < p + 4 �
 unfolding read_at
 read_cut s p h g = rw (lt-leb (length s) p h, lt-ltb (length s) (p + 4) g)
 
--- the head word at p with its fields, and the shape of its kind
-pub record Headed (s : List ℕ) (p w kind i j : ℕ) (k : Shape) : Type 0 where
+-- the head word at p with its fields
+pub record Headed (s : List ℕ) (p w kind i j : ℕ) : Type 0 where
   pub begun : p < length s
   pub whole : p + 4 ≤ length s
   pub word : w ≡ word_at s p
   pub kinds : kind ≡ kind_of w
   pub firsts : i ≡ i_of w
   pub seconds : j ≡ j_of w
-  pub shaped : k ≡ shape_of kind i j
 
-module _ {s : List ℕ} {p w kind i j : ℕ} {k : Shape} (a : Headed s p w kind i j k) where
-  at-word : read_at s p ≡ record_by s p w k
+pub headed : {s : List ℕ} {p w kind i j : ℕ} → p < length s → p + 4 ≤ length s → w ≡ word_at s p → kind ≡ kind_of w → i ≡ i_of w → j ≡ j_of w → Headed s p w kind i j
+headed b e w k i j = record { begun = b; whole = e; word = w; kinds = k; firsts = i; seconds = j }
+
+module _ {s : List ℕ} {p w kind i j : ℕ} (a : Headed s p w kind i j) where
+  at-word : {k : Shape} → shape_of kind i j ≡ k → read_at s p ≡ record_by s p w k
   unfolding read_at
-  at-word = rw (lt-leb (length s) p a.begun, le-ltb (length s) (p + 4) a.whole, a.shaped, a.kinds, a.firsts, a.seconds, a.word)
+  at-word e = rw (lt-leb (length s) p a.begun, le-ltb (length s) (p + 4) a.whole, ← e, a.kinds, a.firsts, a.seconds, a.word)
 
   module _ {r : ℕ} (c : r ≡ rest_of w) where
     pub read_rest : (r ≡ 0 → ⊥) → Broken ≡ read_at s p
     unfolding record_by
-    read_rest d = sym (at-word ∙ rw (← c, ne_eqb r 0 d))
+    read_rest d = sym (at-word refl ∙ rw (← c, ne_eqb r 0 d))
 
     module _ (d : r ≡ 0) where
-      pub read_malformed : k.formed ≡ false → Broken ≡ read_at s p
+      pub read_malformed : (shape_of kind i j).formed ≡ false → Broken ≡ read_at s p
       unfolding record_by
-      read_malformed t = sym (at-word ∙ rw (← c, eq-eqb r 0 d, t))
+      read_malformed t = sym (at-word refl ∙ rw (← c, eq-eqb r 0 d, t))
 
-      module _ (t : k.formed ≡ true) {n : ℕ} (q : n ≡ (lists_at s k.lists (p + 4 + 8 * k.floats)).end) where
-        pub read_missing : n ≡ 0 → Broken ≡ read_at s p
+      module _ {floats lists : ℕ} (e : shape_of kind i j ≡ shape true floats lists) where
+        pub read_missing : (lists_at s lists (p + 4 + 8 * floats)).end ≡ 0 → Broken ≡ read_at s p
         unfolding record_by
-        read_missing z = sym (at-word ∙ rw (← c, eq-eqb r 0 d, t, ← q, eq-eqb n 0 z))
+        read_missing q = sym (at-word e ∙ rw (← c, eq-eqb r 0 d, q))
 
-        pub read_long : (n ≡ 0 → ⊥) → length s < n → Broken ≡ read_at s p
-        unfolding record_by
-        read_long z m = sym (at-word ∙ rw (← c, eq-eqb r 0 d, t, ← q, ne_eqb n 0 z, lt-ltb (length s) n m))
+        module _ {n : ℕ} (q : (lists_at s lists (p + 4 + 8 * floats)).end ≡ n) (z : p + 4 + 8 * floats ≤ n) where
+          pub read_long : length s < n → Broken ≡ read_at s p
+          unfolding record_by
+          read_long m = sym (at-word e ∙ rw (← c, eq-eqb r 0 d, q, ne_eqb n 0 (omega arith), lt-ltb (length s) n m))
 
-        pub read_record : (n ≡ 0 → ⊥) → n ≤ length s
-            → Record (record { kind = kind; i = i; j = j; floats = k.floats; lists = k.lists; body = p + 4; next = n }) ≡ read_at s p
-        unfolding record_by
-        read_record z m = sym (at-word ∙ rw (← c, eq-eqb r 0 d, t, ← q, ne_eqb n 0 z, le-ltb (length s) n m, a.kinds, a.firsts, a.seconds))
+          pub read_record : n ≤ length s → Record (record { kind = kind; i = i; j = j; floats = floats; lists = lists; body = p + 4; next = n }) ≡ read_at s p
+          unfolding record_by
+          read_record m = sym (at-word e ∙ rw (← c, eq-eqb r 0 d, q, ne_eqb n 0 (omega arith), le-ltb (length s) n m, a.kinds, a.firsts, a.seconds))
+
+-- no record begins with another number
+pub no_shape : (kind i j : ℕ) → (1 ≤ kind → 11 < kind) → (shape_of kind i j).formed ≡ false
+unfolding shape_of
+no_shape kind i j h =
+    rw (
+      ne_eqb kind 1 (other 1 (omega arith) (omega arith)),
+      ne_eqb kind 2 (other 2 (omega arith) (omega arith)),
+      ne_eqb kind 3 (other 3 (omega arith) (omega arith)),
+      ne_eqb kind 4 (other 4 (omega arith) (omega arith)),
+      ne_eqb kind 5 (other 5 (omega arith) (omega arith)),
+      ne_eqb kind 6 (other 6 (omega arith) (omega arith)),
+      ne_eqb kind 7 (other 7 (omega arith) (omega arith)),
+      ne_eqb kind 8 (other 8 (omega arith) (omega arith)),
+      ne_eqb kind 9 (other 9 (omega arith) (omega arith)),
+      ne_eqb kind 10 (other 10 (omega arith) (omega arith)),
+      ne_eqb kind 11 (other 11 (omega arith) (omega arith)),
+    )
+  where
+    other : (n : ℕ) → 1 ≤ n → n ≤ 11 → kind ≡ n → ⊥
+    other n a b e = let z : 11 < kind = h (omega arith) in omega arith
+
+-- what was found to follow the head word, by what was made of it
+pub no_content : (kind i j : ℕ) (o : Option Content) {E : Type 0} (e : E) {x : E} {r : Result Content E} → HasContent kind i j o → r ≡ ok_or o e → r ≡ Err x → (shape_of kind i j).formed ≡ false
+no_content kind i j (Some c) e h f g = cc
+no_content kind i j None e h f g = h
+
+pub content_is : (kind i j : ℕ) (o : Option Content) {E : Type 0} (e : E) {c : Content} {r : Result Content E} → HasContent kind i j o → r ≡ ok_or o e → r ≡ Ok c → HasContent kind i j (Some c)
+content_is kind i j (Some d) e {c = c} h f g = let q : d ≡ c = cc in rw (← q) h
+content_is kind i j None e h f g = cc
+
+pub broken_by : (r : Result (Option Found) IsBroken) {d : Read} → IsErr r → Broken ≡ d → read_of r ≡ d
+broken_by (Ok o) h e = cc
+broken_by (Err x) h e = e
 
 -- ---- what a record that was read shows
 
@@ -132,13 +169,13 @@ same_record a r e = cc
 shape_of_lem : (k : Shape) → k.formed ≡ true → k ≡ shape true k.floats k.lists
 shape_of_lem k e = rw (← e)
 
-pub record Found (s : List ℕ) (p : ℕ) (r : Rec) : Type 0 where
+pub record Whole (s : List ℕ) (p : ℕ) (r : Rec) : Type 0 where
   pub body : r.body ≡ p + 4
   pub shaped : shape_of r.kind r.i r.j ≡ shape true r.floats r.lists
   pub floats : r.body + 8 * r.floats ≤ r.next
   pub next : r.next ≤ length s
 
-pub found : (s : List ℕ) (p : ℕ) (r : Rec) → read_at s p ≡ Record r → Found s p r
+pub found : (s : List ℕ) (p : ℕ) (r : Rec) → read_at s p ≡ Record r → Whole s p r
 unfolding read_at record_by
 found s p r e =
     let w = word_at s p in
@@ -149,7 +186,7 @@ found s p r e =
     let e3 = pick_left (eqb (rest_of w) 0 && k.formed) _ Broken r (no_broken r) e2.1 in
     let e4 = pick_right (eqb n 0) Broken _ r (no_broken r) e3.1 in
     let e5 = pick_right (ltb (length s) n) Broken _ r (no_broken r) e4.1 in
-    subst (λ (z : Rec). Found s p z) (same_record _ r e5.1)
+    subst (λ (z : Rec). Whole s p z) (same_record _ r e5.1)
     (record {
       body = refl;
       shaped = shape_of_lem k (both (eqb (rest_of w) 0) k.formed e3.0).1;
@@ -168,9 +205,22 @@ later s p r e = let f = found s p r e in omega (arith, f.body, f.floats)
 
 -- ---- whether a record fits
 
-pub fits_by_lem : (s : List ℕ) (r : Rec) {b : Bool} {k : Shape} → length s ≤ most_bytes → k ≡ shape_of r.kind r.i r.j → b ≡ fits_by s r k → b ≡ fits s r
+neither_two : (x y z : Bool) → (x && y) ≡ false → (x && (y && z)) ≡ false
+neither_two true y z e = rw e
+neither_two false y z e = refl
+
+pub fits_not : (s : List ℕ) (r : Rec) → length s ≤ most_bytes → (shape_of r.kind r.i r.j).formed ≡ false → false ≡ fits s r
 unfolding fits
-fits_by_lem s r h e f = rw (le-leb (length s) most_bytes h, ← e) f
+fits_not s r h e = rw (le-leb (length s) most_bytes h, e)
+
+module _ (s : List ℕ) (r : Rec) {floats lists : ℕ} (h : length s ≤ most_bytes) (e : shape_of r.kind r.i r.j ≡ shape true floats lists) where
+  pub fits_same : (eqb floats r.floats && eqb lists r.lists) ≡ true → {b : Bool} → b ≡ leb (r.body + 8 * floats) (length s) → b ≡ fits s r
+  unfolding fits
+  fits_same t f = let u = both (eqb floats r.floats) (eqb lists r.lists) t in rw (le-leb (length s) most_bytes h, e, u.0, u.1) f
+
+  pub fits_other : (eqb floats r.floats && eqb lists r.lists) ≡ false → false ≡ fits s r
+  unfolding fits
+  fits_other t = rw (le-leb (length s) most_bytes h, e) (sym (neither_two (eqb floats r.floats) (eqb lists r.lists) _ t))
 
 pub record Fitting (s : List ℕ) (r : Rec) : Type 0 where
   pub passes : fits s r ≡ true

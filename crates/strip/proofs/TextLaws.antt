@@ -2,22 +2,29 @@
 use Prim.Native.Nat.{ℕ, zero, suc, ◌+◌, ◌-◌, ◌/◌, ◌^◌, ◌<◌, ◌≤◌}
 use native.Mathlib.Nat.{add-zero, zero-add, pow-succ', pow-le-pow_right}
 use native.Mathlib.Omega.{arith}
-use native.Mathlib.Numerals.{add-one}
 use mathlib.Core.Path.{◌≡◌, refl, sym, ap, ◌∙◌, subst}
 use mathlib.Core.Bool.{Bool, true, false, cond}
 use mathlib.Core.List.{List, [], ◌∷◌, ◌++◌, append_assoc}
 use mathlib.Core.Logic.{inl, inr}
 use lib.Dec.{T}
-use lib.ListN.{length, get_or, take, drop, set, length-append}
-use lib.Seq.{sets, sets-eq, set_out, drop-cons, drop-length, take_at, length-take-le}
+use lib.ListN.{length, take, drop, set, length-append}
+use lib.Seq.{sets, sets-eq, set_out, length-sets, take_at, length-take-le}
+use borrow.Rule.Slice.PartMut.{put_mid}
+use Rattle.std.proofs.Common.{min, take_all}
+use Rattle.std.proofs.lemmas.List.{take-append-drop, drop_all}
+use Rattle.std.proofs.lemmas.Slice.{put_mid-paste}
 use lib.Ieee.{Float, binary64, is_nan, ne, to_bits, fits}
 use lib.Ieee.Bits.{to_bits-lt}
 use lib.Ieee.Compare.{differs_from_itself}
 use borrow.Author.Tests.{lt-ltb, le-ltb}
 use Rattle.arithmetic.proofs.Tests.{le-or}
 use Rattle.io.specs.Digits.{last_digits, IsDigitCount}
-use Rattle.mixture.specs.declared.answers.Answer.{Answer}
-use Rattle.mixture.specs.declared.answers.Answer.TheVariants.{Refused, Done, Value}
+use Rattle.std.specs.Prelude.{Result, Ok, Err}
+use Rattle.arithmetic.specs.declared.refusal.Refusal.{Refusal}
+use Rattle.arithmetic.specs.Refusals.{number}
+use Rattle.mixture.specs.declared.answers.Outcome.{Outcome}
+use Rattle.mixture.specs.declared.answers.Outcome.TheVariants.{Done as Finished, Value as Worked}
+use Rattle.mixture.specs.Answers.{Answer, Refused, Done, Value, answer_of, outcome_of}
 use Rattle.arithmetic.proofs.ByteLaws.{no_nan}
 use Rattle.strip.specs.Text.{ascii, places_to, decimal, value_text, line, Put}
 
@@ -26,19 +33,6 @@ use Rattle.strip.specs.Text.{ascii, places_to, decimal, value_text, line, Put}
 pub sets-append : (l : List ℕ) (i : ℕ) (a b : List ℕ) → sets l i (a ++ b) ≡ sets (sets l i a) (i + length a) b
 sets-append l i [] b = rw (add-zero i)
 sets-append l i (x ∷ a) b = sets-append (set l i x) (suc i) a b ∙ ap (λ (k : ℕ). sets (sets (set l i x) (suc i) a) k b) (omega arith)
-
-put-turn : (l : List ℕ) (p : ℕ) (t : List ℕ) (k : ℕ) → k < length t
-    → sets l (p + k) (drop k t) ≡ sets (set l (p + k) (get_or t k 0)) (p + (k + 1)) (drop (k + 1) t)
-put-turn l p t k h =
-    rw (drop-cons t k 0 h, add-one k) (ap (λ (z : ℕ). sets (set l (p + k) (get_or t k 0)) z (drop (suc k) t)) (omega arith))
-
--- a turn of the loop that stores a text
-pub put_again : (l' l l₀ : List ℕ) (p : ℕ) (t : List ℕ) (k : ℕ) → k < length t → l' ≡ set l (p + k) (get_or t k 0)
-    → sets l (p + k) (drop k t) ≡ sets l₀ p t → sets l' (p + (k + 1)) (drop (k + 1) t) ≡ sets l₀ p t
-put_again l' l l₀ p t k h e i = rw e (sym (put-turn l p t k h) ∙ i)
-
-pub put-done : (l l₀ : List ℕ) (p : ℕ) (t : List ℕ) (k : ℕ) → k ≡ length t → sets l (p + k) (drop k t) ≡ sets l₀ p t → l ≡ sets l₀ p t
-put-done l l₀ p t k e i = rw (e, drop-length) at i
 
 -- a text at the start, and one right after it
 put_then : {l l₁ l₂ a b : List ℕ} {p q : ℕ} → Put l 0 a p l₁ → Put l₁ p b q l₂ → Put l 0 (a ++ b) (p + q) l₂
@@ -55,6 +49,26 @@ sets-past l p (x ∷ t) h = rw (set_out l p x h) (sets-past l (suc p) t (omega a
 
 pub put-past : (l : List ℕ) (p : ℕ) (t : List ℕ) → length l ≤ p → Put l p t (length t) l
 put-past l p t h = record { long = refl; text = sym (sets-past l p t h) }
+
+-- the first n bytes of a text, all that there are or all that there is room for
+sets-front : (l : List ℕ) (p : ℕ) (t : List ℕ) (n : ℕ) → n ≡ min (length t) (length l - p) → sets (sets l p (take n t)) (p + length (take n t)) (drop n t) ≡ sets l p (take n t)
+sets-front l p t n e =
+    let q : length (take n t) ≡ n = length-take-le n t (omega arith) in
+    elim (le-or (length t) n) [
+      | inl h ↦ rw (drop_all n t h)
+      | inr h ↦ sets-past (sets l p (take n t)) (p + length (take n t)) (drop n t) (omega (arith, q, length-sets l p (take n t)))
+    ]
+
+pub put-front : (l : List ℕ) (p : ℕ) (t : List ℕ) (n k : ℕ) {b : List ℕ} → p < length l → n ≡ min (length t) (length l - p) → k ≡ n → b ≡ take n t → Put l p t (length t) (put_mid p k l b)
+put-front l p t n k {b} h e f g =
+    let q : length (take n t) ≡ n = length-take-le n t (omega arith) in
+    record {
+      long = refl;
+      text =
+          put_mid-paste p k l b (take n t) n g (sym f) (sym q)
+          ∙ rw (take_all n (take n t) (omega arith)) (subst (λ (z : ℕ). take p l ++ take n t ++ drop (p + z) l ≡ sets l p (take n t)) q (sym (sets-eq (take n t) l p (omega arith))))
+          ∙ sym (sets-front l p t n e) ∙ sym (sets-append l p (take n t) (drop n t)) ∙ ap (sets l p) (take-append-drop n t);
+    }
 
 pub put_same : {l l₁ a b : List ℕ} {p q : ℕ} → Put l p a q l₁ → a ≡ b → Put l p b q l₁
 put_same {l} {l₁} {a} {b} {p} {q} x e = subst (λ (z : List ℕ). Put l p z q l₁) e x
@@ -170,6 +184,18 @@ pub put_nan : {l l₁ : List ℕ} {p q : ℕ} (v : Float) → ne v v ≡ true �
 put_nan v d x = (put_same x (value_nan v d), omega (arith, x.long))
 
 -- ---- the three kinds of line
+
+pub done_is : {a : Result Outcome Refusal} {o : Outcome} → a ≡ Ok o → o ≡ Finished → answer_of a ≡ Done
+unfolding answer_of outcome_of
+done_is e f = rw (e, f)
+
+pub value_is : {a : Result Outcome Refusal} {o : Outcome} → a ≡ Ok o → {v : Float} {n : ℕ} → o ≡ Worked v n → answer_of a ≡ Value v n
+unfolding answer_of outcome_of
+value_is e f = rw (e, f)
+
+pub refused_is : {a : Result Outcome Refusal} {r : Refusal} → a ≡ Err r → {k : ℕ} → k ≡ number r → answer_of a ≡ Refused k
+unfolding answer_of
+refused_is e f = rw (e, f)
 
 pub line-done : {l l₁ : List ℕ} {q : ℕ} {a : Answer} → a ≡ Done → Put l 0 (ascii "ok\n") q l₁ → Put l 0 (line a) q l₁ × (q ≤ 40)
 unfolding line

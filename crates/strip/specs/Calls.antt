@@ -8,8 +8,8 @@ use Rattle.mixture.specs.declared.setting.Setting.{Setting}
 use Rattle.mixture.specs.declared.setting.Setting.TheVariants.{Temperature, Entry, TdEntry, Size, Count}
 use Rattle.models.specs.Model.{ModelData, model_data, model_of}
 use Rattle.mixture.specs.Book.{Call, Load, Set, Fractions, Query}
-use Rattle.strip.specs.declared.records.Rec.{Rec}
 use Rattle.strip.specs.GroupLists.{Lists, lists_at}
+use Rattle.strip.specs.Records.{Rec}
 
 abbrev pub floats_of : List ℕ → Rec → List Float
 floats_of s r = floats_at s r.body r.floats

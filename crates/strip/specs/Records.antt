@@ -2,17 +2,35 @@
 use Rattle.std.specs.Prelude.{ℕ, ◌+◌, ◌*◌, Bool, true, false, ◌&&◌, ◌||◌, cond, List, leb, ltb, eqb, length}
 use Rattle.arithmetic.specs.Bytes.{word_at}
 use Rattle.models.specs.Values.{wilson_size, uniquac_size, nrtl_size, counts_at}
-use Rattle.strip.specs.declared.records.Shape.{Shape}
-use Rattle.strip.specs.declared.records.Rec.{Rec}
-use Rattle.strip.specs.declared.records.Read.{Read}
-use Rattle.strip.specs.declared.records.Read.TheVariants.{Record, Broken, End}
 use Rattle.strip.specs.Words.{kind_of, i_of, j_of, rest_of}
 use Rattle.strip.specs.GroupLists.{lists_at}
+
+-- whether the fields i and j of a head word are as its kind has them, how many floats follow it, and how many lists follow these
+pub record Shape : Type 0 where
+  pub formed : Bool
+  pub floats : ℕ
+  pub lists : ℕ
+
+-- the fields of a head word, how many floats and lists follow it, where the floats start, and where the next record does
+pub record Rec : Type 0 where
+  pub kind : ℕ
+  pub i : ℕ
+  pub j : ℕ
+  pub floats : ℕ
+  pub lists : ℕ
+  pub body : ℕ
+  pub next : ℕ
+
+-- what stands at a place: a record, one that is malformed or cut, or nothing any more
+pub data Read : Type 0 where
+  Record : Rec → Read
+  Broken : Read
+  End : Read
 
 abbrev pub shape : Bool → ℕ → ℕ → Shape
 shape formed floats lists = record { formed = formed; floats = floats; lists = lists }
 
--- Whether the fields i and j are as the kind has them, how many floats follow its head word, and how many lists follow these.
+-- the shape of a head word of a kind with fields i and j
 -- 1 Wilson, i = n: a by rows, V; 2 UNIQUAC: a, r's, q's; 3 NRTL: τ by rows, five each, α;
 -- 4 UNIFAC, i = n, j = ng: R's, Q's, a by rows, five each, and then its lists;
 -- 5 temperature; 6 fractions, i = length; 7 entry; 8 td entry; 9 size; 10 count;

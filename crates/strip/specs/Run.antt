@@ -1,12 +1,10 @@
 -- The text of a strip: document 01, "Strip and program". A line for each record is the book's answer to its call, and at
 -- the first malformed or cut record the text ends with `broken`.
 use Rattle.std.specs.Prelude.{ℕ, zero, suc, ◌+◌, ◌*◌, cond, List, [], ◌∷◌, ◌++◌, ltb, length}
-use Rattle.mixture.specs.declared.answers.Answer.{Answer}
+use Rattle.mixture.specs.Answers.{Answer}
 use Rattle.mixture.specs.Book.{Call, empty, book_answers}
-use Rattle.strip.specs.declared.records.Read.{Read}
-use Rattle.strip.specs.declared.records.Read.TheVariants.{Record, Broken, End}
 use Rattle.strip.specs.Words.{most_bytes}
-use Rattle.strip.specs.Records.{read_at}
+use Rattle.strip.specs.Records.{Read, Record, Broken, End, read_at}
 use Rattle.strip.specs.Calls.{call_of}
 use Rattle.strip.specs.Text.{line, broken}
 

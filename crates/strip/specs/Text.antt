@@ -6,8 +6,7 @@ use Rattle.std.proofs.lemmas.List.Edits.{sets}
 use Rattle.std.specs.Float.{binary64}
 use Rattle.std.specs.Float.Ieee.{to_bits, is_nan}
 use Rattle.io.specs.Digits.{last_digits}
-use Rattle.mixture.specs.declared.answers.Answer.{Answer}
-use Rattle.mixture.specs.declared.answers.Answer.TheVariants.{Refused, Done, Value}
+use Rattle.mixture.specs.Answers.{Answer, Refused, Done, Value}
 
 -- the codes of a text
 abbrev pub ascii : String → List ℕ

@@ -1,109 +1,123 @@
-// The call that a record makes.
-ghost use Rattle.std.specs.Prelude.{◌≡◌};
-ghost use Rattle.mixture.specs.Memory.{memory, left};
-ghost use Rattle.mixture.specs.Book.{Load};
-ghost use Rattle.strip.specs.Calls.{data_of, setting_of, call_of};
-ghost use Rattle.strip.specs.Steps.Run.{made};
+// The call that a record makes, on a mixture.
+ghost use Rattle.std.specs.Prelude.{◌≡◌, true};
+ghost use Rattle.mixture.specs.Answers.{answer_of};
+ghost use Rattle.mixture.specs.Memory.{left, after};
+ghost use Rattle.mixture.specs.History.{after_call};
+ghost use Rattle.strip.specs.Calls.{call_of};
+ghost use Rattle.strip.specs.Steps.Run.{rec_of, fits, made, lent};
 
+use crate::kinds::{Kind, SettingKind};
 use crate::lists::fill_lists;
-use crate::records::{Rec, does_fit};
-use arithmetic::TdParam;
+use crate::records::Record;
+use arithmetic::Refusal;
 use arithmetic::bytes::fill_floats;
-use mixture::{Answer, Head, Reply, Setting};
+use mixture::faults::{CELLS, MARKS, VALUES};
+use mixture::{Answer, Head, Reply};
 use models::answers::quantity_of;
-use models::model::model_numbered;
 use models::parameters::five_at;
+use models::{Data, Model};
 
-// The setting of a kind, by its first floats: a td entry takes five, another setting one.
-pub fn setting_of(kind: usize, i: usize, j: usize, five: TdParam) -> Setting
-    ensures { result ≡ setting_of kind i j five }
-{
-    match kind {
-        5 => Setting::Temperature(five.a),
-        7 => Setting::Entry(i, j, five.a),
-        8 => Setting::TdEntry(i, j, five),
-        9 => Setting::Size(i, j, five.a),
-        _ => Setting::Count(i, j, five.a),
-    }
+// A mixture with memory of its own.
+#[derive(Drop)]
+pub struct Mixture {
+    pub values: [f64; VALUES],
+    pub cells: [f64; CELLS],
+    pub marks: [u8; MARKS],
+    pub head: Head,
 }
 
-// Makes a record's load; one that doesn't fit is declined with 2. A strip has at most 8,191 floats and, of 12
-// bytes each, 5,461 kinds 13: the buffers hold those of any load.
-fn load(s: &[u8], r: Rec, values: &mut [f64], cells: &[f64], marks: &mut [u8], head: Head) -> Reply
-    ensures { left (memory values.new cells.now marks.new) result
-        ≡ made s.now r (memory values.old cells.now marks.old) head (Load (data_of s.now r)) }
-{
-    if !does_fit(s, r) {
-        return Reply {
-            head: head,
-            answer: Answer::Refused(2),
+impl Mixture {
+    // Makes a record's load. A strip has at most 8,191 floats and, of 12 bytes each, 5,461 kinds 13: the buffers
+    // hold those of any load.
+    fn load(&mut self, s: &[u8], r: Record, model: Model) -> Reply
+        requires fits { fits s.now (rec_of r) ≡ true }
+        requires kind { r.kind ≡ Kind.Load model }
+        ensures { left (lent self.new) result
+            ≡ after_call (lent self.old) self.old.head (call_of s.now (rec_of r)) }
+    {
+        let k = r.content.floats;
+        let mut given = [0.0; 8192];
+        fill_floats(k, s, r.body, &mut given);
+        let mut lens = [0u8; 256];
+        let mut groups = [0u8; 5461];
+        let at = r.body + 8 * k;
+        let lists = r.content.lists;
+        let met = fill_lists(s, at, lists, &mut lens, &mut groups, &mut given[k..]);
+        let data = Data {
+            model,
+            n: r.i as usize,
+            ng: r.j as usize,
+            lens: &lens[..met.lists],
+            groups: &groups[..met.groups],
+            values: &given[..k + met.groups],
         };
+        mixture::load::load(
+            &mut self.values,
+            &self.cells,
+            &mut self.marks,
+            self.head,
+            data,
+        )
     }
-    let body = r.body;
-    let k = r.floats;
-    let mut given = [0.0; 8192];
-    fill_floats(k, s, body, &mut given);
-    let mut lens = [0u8; 256];
-    let mut groups = [0u8; 5461];
-    let at = body + 8 * k;
-    let met = fill_lists(r.lists, s, at, k, &mut lens, &mut groups, &mut given);
-    let n = met.lists;
-    let m = met.groups;
-    let e = k + m;
-    mixture::load::load(
-        values,
-        cells,
-        marks,
-        head,
-        model_numbered(r.kind),
-        r.i as usize,
-        r.j as usize,
-        &lens[..n],
-        &groups[..m],
-        &given[..e],
-    )
-}
 
-// Makes the record's call; one that doesn't fit is declined with 2. A kind above 4 has at most 255 floats.
-pub fn make(
-    s: &[u8],
-    r: Rec,
-    values: &mut [f64],
-    cells: &mut [f64],
-    marks: &mut [u8],
-    head: Head,
-) -> Reply
-    ensures { left (memory values.new cells.new marks.new) result
-        ≡ made s.now r (memory values.old cells.old marks.old) head (call_of s.now r) }
-{
-    let kind = r.kind;
-    if kind < 5 {
-        return load(s, r, values, &cells[..], marks, head);
+    // A kind above 4 has at most 255 floats.
+    fn set(&mut self, s: &[u8], r: Record, kind: SettingKind) -> Reply
+        requires fits { fits s.now (rec_of r) ≡ true }
+        requires kind { r.kind ≡ Kind.Set kind }
+        ensures { left (lent self.new) result
+            ≡ after_call (lent self.old) self.old.head (call_of s.now (rec_of r)) }
+    {
+        let mut given = [0.0; 256];
+        fill_floats(r.content.floats, s, r.body, &mut given);
+        let setting = kind.setting(r.i as usize, r.j as usize, five_at(&given, 0));
+        mixture::set::set(
+            &mut self.values,
+            &self.cells,
+            &mut self.marks,
+            self.head,
+            setting,
+        )
     }
-    if !does_fit(s, r) {
-        return Reply {
-            head: head,
-            answer: Answer::Refused(2),
-        };
-    }
-    let body = r.body;
-    let k = r.floats;
-    let mut given = [0.0; 256];
-    fill_floats(k, s, body, &mut given);
-    if kind == 6 {
-        return mixture::fractions::fractions(
-            &values[..],
-            &cells[..],
-            &marks[..],
-            head,
+
+    fn fractions(&self, s: &[u8], r: Record) -> Reply
+        requires fits { fits s.now (rec_of r) ≡ true }
+        requires kind { r.kind ≡ Kind.Fractions }
+        ensures { left (lent self.now) result
+            ≡ after_call (lent self.now) self.now.head (call_of s.now (rec_of r)) }
+    {
+        let k = r.content.floats;
+        let mut given = [0.0; 256];
+        fill_floats(k, s, r.body, &mut given);
+        mixture::fractions::fractions(
+            &self.values,
+            &self.cells,
+            &self.marks,
+            self.head,
             &given[..k],
-        );
+        )
     }
-    let i = r.i as usize;
-    let j = r.j as usize;
-    if kind == 11 {
-        return mixture::query::query(&values[..], cells, marks, head, quantity_of(j, i));
+
+    // Makes the record's call; one that doesn't fit is declined with 2.
+    pub fn make(&mut self, s: &[u8], r: Record) -> Answer
+        ensures { after (lent self.new) self.new.head (answer_of result)
+            ≡ made s.now (rec_of r) (lent self.old) self.old.head (call_of s.now (rec_of r)) }
+    {
+        if !r.fits(s) {
+            return Err(Refusal::Shape);
+        }
+        let reply = match r.kind {
+            Kind::Load(model) => self.load(s, r, model),
+            Kind::Set(kind) => self.set(s, r, kind),
+            Kind::Fractions => self.fractions(s, r),
+            Kind::Query => mixture::query::query(
+                &self.values,
+                &mut self.cells,
+                &mut self.marks,
+                self.head,
+                quantity_of(r.j as usize, r.i as usize),
+            ),
+        };
+        self.head = reply.head;
+        reply.answer
     }
-    let q = setting_of(kind, i, j, five_at(&given, 0));
-    mixture::set::set(values, &cells[..], marks, head, q)
 }

@@ -3,11 +3,12 @@
 #![tactic(auto)]
 
 mod calls;
+mod kinds;
 mod lists;
 mod records;
 pub mod run;
 mod text;
 mod words;
 
-pub use calls::setting_of;
+pub use kinds::setting_of;
 pub use words::MOST_BYTES;

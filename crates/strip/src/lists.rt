@@ -1,10 +1,32 @@
 // The group lists of a kind 4: a kind 12 for each component, and its kinds 13, each with its count.
-ghost use Rattle.std.specs.Prelude.{◌≡◌, ◌+◌, leb, length, set};
+ghost use Rattle.std.specs.Prelude.{◌≡◌, ◌+◌, ◌≤◌, leb, length, set, MatchResult, true, false};
+ghost use Rattle.arithmetic.specs.Bytes.{word_at};
+ghost use Rattle.strip.specs.Words.{i_of};
 ghost use Rattle.strip.specs.GroupLists.{is_word, lists_at};
-ghost use Rattle.strip.specs.Steps.Run.{Stored};
+ghost use Rattle.strip.specs.Steps.Run.{Stepped, EndsAt, Stored, ahead_of};
 
-use crate::words::{i_of, j_of, kind_of, rest_of};
-use arithmetic::bytes::{float_at, word_at};
+use crate::words::{Broken, Word};
+use arithmetic::bytes::float_at;
+
+// The kinds of a list's length, and of a group with its count.
+const LIST: usize = 12;
+
+const GROUP: usize = 13;
+
+// A walk along lists: how many lists it has still to begin, and how many groups the one that it is in has left.
+#[derive(Clone, Copy)]
+pub struct Walk {
+    pub place: usize,
+    pub lists: usize,
+    pub groups: usize,
+}
+
+// What a walk comes to: a list of so many groups, or a group with its count.
+#[derive(Clone, Copy)]
+pub enum Part {
+    ListOf(u8),
+    Group(u8, f64),
+}
 
 // How many lists were met, and how many groups in them.
 #[derive(Clone, Copy)]
@@ -17,69 +39,64 @@ pub struct Met {
 pub fn has(s: &[u8], p: usize, n: usize) -> bool
     ensures { result ≡ leb (p + n) (length s.now) }
 {
-    if s.len() < n {
-        return false;
-    }
-    p <= s.len() - n
+    n <= s.len() && p <= s.len() - n
 }
 
-// Whether a word of the kind stands at p, j and bits 16 to 27 of it 0.
-fn is_word(s: &[u8], kind: usize, p: usize) -> bool
-    ensures { result ≡ is_word s.now kind 4 p }
+// The field i of a list's word of the kind at p, where n bytes stand from there on.
+fn i_of_word(s: &[u8], kind: usize, n: usize, p: usize) -> Result<u8, Broken>
+    requires { 4 ≤ n }
+    ensures { MatchResult result
+        (λ i. (is_word s.now kind n p ≡ true) × (i ≡ i_of (word_at s.now p)))
+        (λ _. is_word s.now kind n p ≡ false) }
 {
-    if !has(s, p, 4) {
-        return false;
+    if !has(s, p, n) {
+        return Err(Broken);
     }
-    let w = word_at(s, p);
-    if kind_of(w) != kind {
-        return false;
+    let w = Word::at(s, p);
+    if !w.is_of(kind) {
+        return Err(Broken);
     }
-    if j_of(w) != 0 {
-        return false;
-    }
-    rest_of(w) == 0
+    Ok(w.i())
 }
 
-// Whether a kind 13 stands at p, with its count.
-fn is_pair(s: &[u8], p: usize) -> bool
-    ensures { result ≡ is_word s.now 13 12 p }
-{
-    if !has(s, p, 12) {
-        return false;
-    }
-    is_word(s, 13, p)
-}
-
-// Where the lists of n components end; 0 where a word is missing.
-pub fn lists_end(s: &[u8], at: usize, n: usize) -> usize
-    ensures { result ≡ (lists_at s.now n at).end }
-{
-    let mut p = at;
-    let mut left = n;
-    let mut pairs: usize = 0;
-    loop {
-        if pairs == 0 {
-            if left == 0 {
-                return p;
-            }
-            if !is_word(s, 12, p) {
-                return 0;
-            }
-            pairs = i_of(word_at(s, p)) as usize;
-            left -= 1;
-            p += 4;
-        } else {
-            if !is_pair(s, p) {
-                return 0;
-            }
-            pairs -= 1;
-            p += 12;
+impl Walk {
+    // Takes what stands next; at the end of the lists there is nothing.
+    fn next(&mut self, s: &[u8]) -> Result<Option<Part>, Broken>
+        ensures { Stepped s.now self.old self.new result }
+    {
+        if self.groups != 0 {
+            let group = i_of_word(s, GROUP, 12, self.place)?;
+            let count = float_at(s, self.place + 4);
+            self.groups -= 1;
+            self.place += 12;
+            return Ok(Some(Part::Group(group, count)));
         }
+        if self.lists == 0 {
+            return Ok(None);
+        }
+        let size = i_of_word(s, LIST, 4, self.place)?;
+        self.lists -= 1;
+        self.groups = size as usize;
+        self.place += 4;
+        Ok(Some(Part::ListOf(size)))
     }
 }
 
-// Stores a byte where there is a place for it.
-fn store(l: &mut [u8], at: usize, v: u8)
+// Where the lists of n components end.
+pub fn lists_end(s: &[u8], at: usize, n: usize) -> Result<usize, Broken>
+    ensures { EndsAt (lists_at s.now n at) at result }
+{
+    let mut walk = Walk {
+        place: at,
+        lists: n,
+        groups: 0,
+    };
+    while walk.next(s)?.is_some() {}
+    Ok(walk.place)
+}
+
+// Stores a value where there is a place for it.
+fn store<T: Copy>(l: &mut [T], at: usize, v: T)
     ensures { l.new ≡ set l.old at v }
 {
     if at < l.len() {
@@ -87,67 +104,41 @@ fn store(l: &mut [u8], at: usize, v: u8)
     }
 }
 
-// Stores a float m places past k, where there is a place for it.
-fn store_float(a: &mut [f64], k: usize, m: usize, v: f64)
-    ensures { a.new ≡ set a.old (k + m) v }
-{
-    if k < a.len() {
-        if m < a.len() - k {
-            a[k + m] = v;
-        }
-    }
-}
-
-// Stores the lengths of n lists in `lens`, their groups in `groups`, and their counts in `a` from place k on,
-// as far as there is room, up to the first word that is missing.
+// Stores the lengths of n lists, their groups and their counts, as far as there is room, up to the first word
+// that is missing.
 pub fn fill_lists(
-    n: usize,
     s: &[u8],
     at: usize,
-    k: usize,
+    n: usize,
     lens: &mut [u8],
     groups: &mut [u8],
-    a: &mut [f64],
+    counts: &mut [f64],
 ) -> Met
-    ensures { Stored (lists_at s.now n at) k result
-        lens.old groups.old a.old
-        lens.new groups.new a.new }
+    ensures { Stored (lists_at s.now n at) result
+        lens.old groups.old counts.old
+        lens.new groups.new counts.new }
 {
-    let mut place = at;
-    let mut lists: usize = 0;
-    let mut pairs: usize = 0;
-    let mut filled: usize = 0;
-    loop {
-        if pairs == 0 {
-            if lists == n {
-                return Met {
-                    lists: lists,
-                    groups: filled,
-                };
+    let mut walk = Walk {
+        place: at,
+        lists: n,
+        groups: 0,
+    };
+    let mut met = Met {
+        lists: 0,
+        groups: 0,
+    };
+    while let Ok(Some(part)) = walk.next(s) {
+        match part {
+            Part::ListOf(size) => {
+                store(lens, met.lists, size);
+                met.lists += 1;
             }
-            if !is_word(s, 12, place) {
-                return Met {
-                    lists: lists,
-                    groups: filled,
-                };
+            Part::Group(group, count) => {
+                store(groups, met.groups, group);
+                store(counts, met.groups, count);
+                met.groups += 1;
             }
-            let size = i_of(word_at(s, place));
-            store(lens, lists, size);
-            pairs = size as usize;
-            lists += 1;
-            place += 4;
-        } else {
-            if !is_pair(s, place) {
-                return Met {
-                    lists: lists,
-                    groups: filled,
-                };
-            }
-            store(groups, filled, i_of(word_at(s, place)));
-            store_float(a, k, filled, float_at(s, place + 4));
-            filled += 1;
-            pairs -= 1;
-            place += 12;
         }
     }
+    met
 }

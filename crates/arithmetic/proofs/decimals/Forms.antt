@@ -3,7 +3,7 @@ use Rattle.std.proofs.Common.{◌≡◌, ℕ, suc, ◌+◌, ◌<◌, ◌≤◌, 
 use mathlib.Core.Bool.{false≢true}
 use lib.Seq.{get_or_at, take-length, split_at}
 use borrow.Author.Tests.{eqb-false}
-use Rattle.arithmetic.specs.declared.decimals.Field.TheVariants.{Refused}
+use Rattle.arithmetic.specs.Refusals.{Refused}
 use Rattle.arithmetic.specs.Floats.{dec}
 use Rattle.arithmetic.specs.Decimals.{is_digit, leading, valued, digits_field, pointed_field, unsigned_field, field_of}
 use Rattle.arithmetic.specs.FieldForms.{AllDigits, sign, FieldForm, whole, pointed, FieldRounds, FieldTooLong, FieldElse}

@@ -1,14 +1,13 @@
 -- A field that is refused has a number, which is never 0.
-use Rattle.std.proofs.Common.{◌≡◌, ℕ, ◌+◌, Bool, true, false, cond, eqb, leb, List, [], length, get_or, take, drop, refl, subst, arith}
-use Rattle.arithmetic.specs.declared.decimals.Field.{Field}
-use Rattle.arithmetic.specs.declared.decimals.Field.TheVariants.{Number, Refused}
+use Rattle.std.proofs.Common.{◌≡◌, ℕ, Float, ◌+◌, Bool, true, false, cond, eqb, leb, List, [], length, get_or, take, drop, refl, subst, arith}
+use Rattle.arithmetic.specs.Refusals.{Answer, Value, Refused}
 use Rattle.arithmetic.specs.Decimals.{leading, digits_field, pointed_field, unsigned_field, field_of}
 
-abbrev Fine : Field → Type 0
-Fine (Number v) = Unit {0}
+abbrev Fine : Answer Float → Type 0
+Fine (Value v) = Unit {0}
 Fine (Refused k) = k ≡ 0 → ⊥
 
-either_fine : (t : Bool) (a b : Field) → Fine a → Fine b → Fine (cond t a b)
+either_fine : (t : Bool) (a b : Answer Float) → Fine a → Fine b → Fine (cond t a b)
 either_fine true a b p q = p
 either_fine false a b p q = q
 

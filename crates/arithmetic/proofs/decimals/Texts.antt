@@ -1,7 +1,12 @@
 -- Digits that stand first, and the number that digits have.
-use Rattle.std.proofs.Common.{◌≡◌, ℕ, suc, ◌+◌, ◌-◌, ◌*◌, ◌^◌, ◌<◌, ◌≤◌, Bool, true, false, cond, ◌&&◌, leb, List, [], ◌∷◌, ◌++◌, length, get_or, take, drop, sym, refl, ap, ◌∙◌, le_trans, le_of_eq, lt_of_lt_of_le, mul-le-mul_right, mul_assoc, mul_comm, mul-le-mul_left, one-mul, pow-suc, add-one, arith, lit<, drop_of_length-le, length-take-le, take_all, drop-cons, take-suc, pow-add, le-leb, leb-true}
+use Rattle.std.proofs.Common.{◌≡◌, ℕ, suc, ◌+◌, ◌-◌, ◌*◌, ◌^◌, ◌<◌, ◌≤◌, Bool, true, false, cond, not, ◌&&◌, leb, ltb, le_antisymm, List, [], ◌∷◌, ◌++◌, length, get_or, take, sym, refl, ap, ◌∙◌, le_trans, le_of_eq, lt_of_lt_of_le, mul-le-mul_right, mul_assoc, mul_comm, mul-le-mul_left, one-mul, pow-suc, add-one, arith, lit<, length-take-le, take_all, take-suc, pow-add, le-leb, leb-true}
 use native.Mathlib.Nat.{pow-le-pow_right}
-use borrow.Author.Tests.{lt-leb}
+use borrow.Author.Tests.{lt-leb, ltb-false}
+use Rattle.std.specs.Prelude.{Option, Some, None, position}
+use Rattle.std.specs.Option.{unwrap_or}
+use Rattle.std.proofs.lemmas.List.Sums.{prefix_len-le-length}
+use Rattle.std.specs.List.{position_or_len}
+use Rattle.std.proofs.lemmas.List.Recursion.{is_position_or_len}
 use Rattle.arithmetic.specs.Decimals.{is_digit, digit, leading, valued}
 
 -- ---- digits
@@ -22,29 +27,26 @@ digit_lt b = go (leb 48 b) (leb b 57) refl refl
     go true false p q = lit< tt
     go true true p q = let h : b ≤ 57 = leb-true b 57 q in omega arith
 
--- ---- runs: those of the first i bytes are passed
-module _ (s : List ℕ) (i : ℕ) (e : leading s ≡ i + leading (drop i s)) where
-  leading_cons : i < length s → leading (drop i s) ≡ cond (is_digit (get_or s i 0)) (suc (leading (drop (suc i) s))) 0
-  unfolding leading
-  leading_cons h = rw (drop-cons s i 0)
+-- ---- runs
+pub leading-position : (s : List ℕ) → leading s ≡ position_or_len (λ b. not (is_digit b)) s
+unfolding leading
+leading-position s = is_position_or_len leading (λ b. not (is_digit b)) refl (λ b l. step (is_digit b) (leading l)) s
+  where
+    step : (t : Bool) (n : ℕ) → cond t (suc n) 0 ≡ cond (not t) 0 (1 + n)
+    step true n = omega arith
+    step false n = refl
 
-  pub leading-more : i < length s → is_digit (get_or s i 0) ≡ true → leading s ≡ i + 1 + leading (drop (i + 1) s)
-  leading-more h d =
-      let a : leading (drop i s) ≡ suc (leading (drop (suc i) s)) = leading_cons h ∙ rw d in
-      rw (add-one i) (let x : leading s ≡ suc i + leading (drop (suc i) s) = omega arith in x)
+first_or_all : (p n : ℕ) → p ≤ n → (t : Bool) → ltb p n ≡ t → unwrap_or (cond t (Some p) None) n ≡ p
+first_or_all p n h true e = refl
+first_or_all p n h false e = le_antisymm (ltb-false p n e) h
 
-  pub leading_stop : i < length s → is_digit (get_or s i 0) ≡ false → i ≡ leading s
-  leading_stop h d = let a : leading (drop i s) ≡ 0 = leading_cons h ∙ rw d in omega arith
-
-  leading_nil : length s ≤ i → leading (drop i s) ≡ 0
-  unfolding leading
-  leading_nil h = rw (drop_of_length-le s h)
-
-  pub leading_end : length s ≤ i → i ≡ leading s
-  leading_end h = let a = leading_nil h in omega arith
-
-pub leading-start : (s : List ℕ) → leading s ≡ 0 + leading (drop 0 s)
-leading-start s = omega arith
+pub leading-first : (s : List ℕ) {first : Option ℕ} {n : ℕ} → first ≡ position (λ b. not (is_digit b)) s → n ≡ unwrap_or first (length s) → n ≡ leading s
+leading-first s f e =
+    let p = λ (b : ℕ). not (is_digit b) in
+    e
+    ∙ ap (λ (o : Option ℕ). unwrap_or o (length s)) f
+    ∙ first_or_all (position_or_len p s) (length s) (prefix_len-le-length (λ b. not (p b)) s) _ refl
+    ∙ sym (leading-position s)
 
 pub leading_le : (s : List ℕ) → leading s ≤ length s
 unfolding leading

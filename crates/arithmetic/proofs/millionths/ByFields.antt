@@ -9,7 +9,7 @@ use lib.Ieee.Nearest.{closest, closest_same}
 use borrow.Author.Tests.{lt-leb}
 use Rattle.arithmetic.specs.Units.{signed}
 use Rattle.arithmetic.specs.Millionths.{millionths_of}
-use Rattle.arithmetic.specs.declared.millionths.Shown.TheVariants.{Millionths, Refused}
+use Rattle.arithmetic.specs.Refusals.{Value, Refused}
 use Rattle.arithmetic.proofs.Tests.{le-or}
 use Rattle.arithmetic.proofs.Powers.{field_odd}
 use Rattle.arithmetic.proofs.ClosestLaws.{closest_by}
@@ -26,7 +26,7 @@ same_test x d a U D W e =
           ∙ sym (lt-leb (2048 * U) a (lt_of_mul-lt-mul_right d (lt_of_le_of_lt (le_of_eq (sym e)) (lt_of_lt_of_le (mul-lt-mul_of_pos_right g W) (le_of_eq (mul_right_comm 2048 d U))))))
     ]
 
-of_value : (v : Float) (s : Bool) (a U : ℕ) → 0 < U → HasValue v s a U → millionths_of v ≡ cond (leb (2048 * U) a) (Refused 11) (Millionths (signed s (closest (a * 1000000) U)))
+of_value : (v : Float) (s : Bool) (a U : ℕ) → 0 < U → HasValue v s a U → millionths_of v ≡ cond (leb (2048 * U) a) (Refused 11) (Value (signed s (closest (a * 1000000) U)))
 unfolding millionths_of
 of_value nan s a U W h = absurd h
 of_value (inf t) s a U W h = absurd h
@@ -34,15 +34,15 @@ of_value (fin t m e) s a U W h =
     let x = m * up e in
     let d = down e in
     let k : closest (x * 1000000) d ≡ closest (a * 1000000) U = closest_same (x * 1000000) d (a * 1000000) U (down_pos e) W (mul_right_comm x 1000000 U ∙ ap (λ (z : ℕ). z * 1000000) h.1 ∙ mul_right_comm a d 1000000) in
-    ap (λ (z : Bool). cond (leb (2048 * d) x) (Refused 11) (Millionths (signed z (closest (x * 1000000) d)))) h.0
-    ∙ ap (λ (z : ℕ). cond (leb (2048 * d) x) (Refused 11) (Millionths (signed s z))) k
-    ∙ ap (λ (z : Bool). cond z (Refused 11) (Millionths (signed s (closest (a * 1000000) U)))) (same_test x d a U (down_pos e) W h.1)
+    ap (λ (z : Bool). cond (leb (2048 * d) x) (Refused 11) (Value (signed z (closest (x * 1000000) d)))) h.0
+    ∙ ap (λ (z : ℕ). cond (leb (2048 * d) x) (Refused 11) (Value (signed s z))) k
+    ∙ ap (λ (z : Bool). cond z (Refused 11) (Value (signed s (closest (a * 1000000) U)))) (same_test x d a U (down_pos e) W h.1)
 
 module _ (v : Float) (s : Bool) (a U : ℕ) (W : 0 < U) (h : HasValue v s a U) where
   large : 2048 * U ≤ a → millionths_of v ≡ Refused 11
   large g = of_value v s a U W h ∙ rw (le-leb (2048 * U) a g)
 
-  small : a < 2048 * U → millionths_of v ≡ Millionths (signed s (closest (a * 1000000) U))
+  small : a < 2048 * U → millionths_of v ≡ Value (signed s (closest (a * 1000000) U))
   small g = of_value v s a U W h ∙ rw (lt-leb (2048 * U) a g)
 
 -- ---- the value of the fields
@@ -102,17 +102,17 @@ module _ (s : Bool) (v : Float) (a : ℕ) (h : a < 2 ^ 1051) (val : HasValue v s
       (tiny_in (a * 1000000) (2 ^ 1074) half_not_reached)
       half_not_reached
 
-  tiny : Millionths (pos 0) ≡ millionths_of v
+  tiny : Value (pos 0) ≡ millionths_of v
   tiny =
       sym
       (small v s a (2 ^ 1074) (pow_pos 1074) val (tiny-under (2 ^ 1051) (2 ^ 1074) h refl)
-      ∙ ap (λ (y : ℕ). Millionths (signed s y)) nothing
-      ∙ ap Millionths (no_sign s))
+      ∙ ap (λ (y : ℕ). Value (signed s y)) nothing
+      ∙ ap Value (no_sign s))
 
 under_53 : (t : ℕ) → t < 4503599627370496 → 4503599627370496 + t < 9007199254740992
 under_53 t h = omega arith
 
-pub at_low : (s : Bool) (X t : ℕ) → X < 1000 → t < 4503599627370496 → Millionths (pos 0) ≡ millionths_of (of_fields binary64 s X t)
+pub at_low : (s : Bool) (X t : ℕ) → X < 1000 → t < 4503599627370496 → Value (pos 0) ≡ millionths_of (of_fields binary64 s X t)
 at_low s zero t h k = tiny s (of_fields binary64 s 0 t) (t * 2 ^ 0) (lt_of_lt_of_le (lt_of_le_of_lt (le_of_eq (mul-one t)) k) (lit≤ tt)) (fields-low s t)
 at_low s (suc x) t h k =
     tiny s (of_fields binary64 s (suc x) t) ((4503599627370496 + t) * 2 ^ x)
@@ -121,7 +121,7 @@ at_low s (suc x) t h k =
 
 -- ---- between the two: q·2^x / 2^1074 is q / 2^d
 pub at_mid : (s : Bool) (X t : ℕ) → 1000 ≤ X → X < 1034 → t < 4503599627370496
-    → millionths_of (of_fields binary64 s X t) ≡ Millionths (signed s (closest ((t + 4503599627370496) * 1000000) (2 ^ (1075 - X))))
+    → millionths_of (of_fields binary64 s X t) ≡ Value (signed s (closest ((t + 4503599627370496) * 1000000) (2 ^ (1075 - X))))
 at_mid s zero t h k l = absurd (omega arith)
 at_mid s (suc x) t h k l =
     let q = 4503599627370496 + t in
@@ -133,8 +133,8 @@ at_mid s (suc x) t h k l =
     let c : q ≡ t + 4503599627370496 = omega arith in
     small (of_fields binary64 s (suc x) t) s a (2 ^ 1074) (pow_pos 1074) (fields_mid s x t (omega arith))
     (lt_of_lt_of_le (shl_lt 53 x (under_53 t l)) (le_trans (pow_mono {i = 53 + x} {j = 1085} (omega arith)) (le_of_eq (sym two_11))))
-    ∙ ap (λ (z : ℕ). Millionths (signed s z)) (closest_same (a * 1000000) (2 ^ 1074) (q * 1000000) (2 ^ d) (pow_pos 1074) (pow_pos d) e)
-    ∙ ap (λ (z : ℕ). Millionths (signed s (closest (z * 1000000) (2 ^ d)))) c
+    ∙ ap (λ (z : ℕ). Value (signed s z)) (closest_same (a * 1000000) (2 ^ 1074) (q * 1000000) (2 ^ d) (pow_pos 1074) (pow_pos d) e)
+    ∙ ap (λ (z : ℕ). Value (signed s (closest (z * 1000000) (2 ^ d)))) c
 
 -- ---- the fields of an f64
 pub fields_of : (v : Float) → T (fits binary64 v) → of_fields binary64 (leb 9223372036854775808 (to_bits binary64 v)) (to_bits binary64 v % 9223372036854775808 / 4503599627370496) (to_bits binary64 v % 4503599627370496) ≡ v

@@ -5,11 +5,11 @@ use lib.Ieee.Fits.{down_pos}
 use lib.Ieee.Nearest.{closest}
 use Rattle.arithmetic.specs.Units.{signed}
 use Rattle.arithmetic.specs.Millionths.{millionths_of, Shows, HalfOff, OneShows}
-use Rattle.arithmetic.specs.declared.millionths.Shown.TheVariants.{Millionths, Refused}
+use Rattle.arithmetic.specs.Refusals.{Value, Refused}
 use Rattle.arithmetic.proofs.ClosestLaws.{closest_near, closest_even, near-once}
 
 shows : (t s : Bool) (m : ℕ) (e z : ℤ)
-    → cond t (Refused 11) (Millionths (signed s (closest (m * up e * 1000000) (down e)))) ≡ Millionths z
+    → cond t (Refused 11) (Value (signed s (closest (m * up e * 1000000) (down e)))) ≡ Value z
     → Shows s (m * up e) (down e) z
 shows true s m e z h = let f : ◌≡◌ {A = ℕ} 0 1 = cc in absurd (omega arith)
 shows false s m e z h =
@@ -37,10 +37,10 @@ one-shows (fin s m e) y z a b =
 
 -- 1/128 is 7812.5 millionths and 3/128 is 23437.5; -0; the f64 next below 2048; -2048
 pub worked-millionths :
-    (millionths_of (fin false 1 (negsuc 6)) ≡ Millionths (pos 7812))
-    × (millionths_of (fin true 3 (negsuc 6)) ≡ Millionths (negsuc 23437))
-    × (millionths_of (fin true 0 (pos 0)) ≡ Millionths (pos 0))
-    × (millionths_of (of_bits binary64 0x409f_ffff_ffff_ffff) ≡ Millionths (pos 2048000000))
+    (millionths_of (fin false 1 (negsuc 6)) ≡ Value (pos 7812))
+    × (millionths_of (fin true 3 (negsuc 6)) ≡ Value (negsuc 23437))
+    × (millionths_of (fin true 0 (pos 0)) ≡ Value (pos 0))
+    × (millionths_of (of_bits binary64 0x409f_ffff_ffff_ffff) ≡ Value (pos 2048000000))
     × (millionths_of (fin true 1 (pos 11)) ≡ Refused 11)
 unfolding millionths_of of_bits
 worked-millionths = (refl, refl, refl, refl, refl)

@@ -8,7 +8,7 @@ use mir.ValLaws.{to_z_pos, to_z-of_z}
 use borrow.Author.Tests.{lt-leb}
 use Rattle.arithmetic.specs.Units.{signed}
 use Rattle.arithmetic.specs.Millionths.{millionths_of}
-use Rattle.arithmetic.specs.declared.millionths.Shown.TheVariants.{Millionths, Refused}
+use Rattle.arithmetic.specs.Refusals.{Value, Refused}
 use Rattle.arithmetic.proofs.Tests.{Cmp}
 use Rattle.arithmetic.proofs.ClosestLaws.{closest_by, sticky}
 use Rattle.arithmetic.proofs.millionths.ByFields.{at_high, at_low, at_mid, fields_of}
@@ -91,13 +91,13 @@ module _ (v : Float) (F : T (fits binary64 v)) where
   pub refused : 1034 ≤ X → Refused 11 ≡ millionths_of v
   refused h = sym (at_high (leb 9223372036854775808 b) X (b % 4503599627370496) h (in_exp b)) ∙ ap millionths_of (fields_of v F)
 
-  pub none : X < 1000 → Millionths (pos 0) ≡ millionths_of v
+  pub none : X < 1000 → Value (pos 0) ≡ millionths_of v
   none h = at_low (leb 9223372036854775808 b) X (b % 4503599627370496) h (in_digits b) ∙ ap millionths_of (fields_of v F)
 
-  shown : (s : Bool) (n : ℕ) → 1000 ≤ X → X < 1034 → leb 9223372036854775808 b ≡ s → n ≡ closest ((b % 4503599627370496 + 4503599627370496) * 1000000) (2 ^ (1075 - X)) → Millionths (signed s n) ≡ millionths_of v
+  shown : (s : Bool) (n : ℕ) → 1000 ≤ X → X < 1034 → leb 9223372036854775808 b ≡ s → n ≡ closest ((b % 4503599627370496 + 4503599627370496) * 1000000) (2 ^ (1075 - X)) → Value (signed s n) ≡ millionths_of v
   shown s n h k e c =
-      ap (λ (z : ℕ). Millionths (signed s z)) c
-      ∙ ap (λ (z : Bool). Millionths (signed z (closest ((b % 4503599627370496 + 4503599627370496) * 1000000) (2 ^ (1075 - X))))) (sym e)
+      ap (λ (z : ℕ). Value (signed s z)) c
+      ∙ ap (λ (z : Bool). Value (signed z (closest ((b % 4503599627370496 + 4503599627370496) * 1000000) (2 ^ (1075 - X))))) (sym e)
       ∙ sym (at_mid (leb 9223372036854775808 b) X (b % 4503599627370496) h k (in_digits b))
       ∙ ap millionths_of (fields_of v F)
 
@@ -108,10 +108,10 @@ module _ (v : Float) (F : T (fits binary64 v)) where
     is : to_z w64 n ≡ pos n
     is = to_z_pos w64 n fit
 
-    pub positive : b < 9223372036854775808 → Millionths (to_z w64 n) ≡ millionths_of v
-    positive l = ap Millionths is ∙ shown false n h k (lt-leb 9223372036854775808 b l) c
+    pub positive : b < 9223372036854775808 → Value (to_z w64 n) ≡ millionths_of v
+    positive l = ap Value is ∙ shown false n h k (lt-leb 9223372036854775808 b l) c
 
-    pub negative : 9223372036854775808 ≤ b → Millionths (neg_ℤ (pos n)) ≡ millionths_of v
+    pub negative : 9223372036854775808 ≤ b → Value (neg_ℤ (pos n)) ≡ millionths_of v
     negative l = shown true n h k (le-leb 9223372036854775808 b l) c
 
 -- 0 - n

@@ -15,8 +15,7 @@ use Rattle.arithmetic.specs.Tables.{at}
 use Rattle.arithmetic.proofs.ByteLaws.{length-floats, floats_at_lem}
 use Rattle.arithmetic.proofs.SumLaws.{sum_same}
 use Rattle.models.specs.declared.answers.Quantity.{Quantity}
-use Rattle.models.specs.declared.answers.Answer.{Answer}
-use Rattle.models.specs.declared.answers.Answer.TheVariants.{Value, Refused}
+use Rattle.arithmetic.specs.Refusals.{Answer, Value, Refused}
 use Rattle.models.specs.declared.model.Model.{Model}
 use Rattle.models.specs.declared.model.Model.TheVariants.{Wilson, Uniquac, Nrtl, Unifac}
 use Rattle.models.specs.Answers.{number_of, answer, first}
@@ -25,7 +24,13 @@ use Rattle.models.specs.Faults.{between, shape_fault, all_to, lists_fault, unifa
 use Rattle.models.specs.Model.{model_of, is_model, ModelData, model_data}
 use Rattle.models.specs.Plain.{value_at, plain_call}
 use Rattle.models.specs.Values.{wilson_size, uniquac_size, nrtl_size, counts_at, start, unifac_size}
-use Rattle.models.proofs.AnswerLaws.{first-left, first-right, answer-refused}
+use Rattle.std.specs.Prelude.{Result, Ok, Err}
+use Rattle.std.specs.Result.{IsErrAnd}
+use Rattle.std.proofs.lemmas.Result.{err_from_is_err_and}
+use Rattle.arithmetic.specs.declared.refusal.Refusal.{Refusal}
+use Rattle.arithmetic.specs.Refusals.{number_of as refused_number, answer_of}
+use Rattle.arithmetic.proofs.RefusalLaws.{number-positive, passed-number}
+use Rattle.models.proofs.AnswerLaws.{first-left, first-right, answer-refused, answer-value}
 use Rattle.kiltgrit.specs.Exports.{with_rest, plain_rest, exported, left}
 
 pub length_eights : (s : List ℕ) → length (floats s) ≡ length s / 8
@@ -101,6 +106,19 @@ pub by_parts : (d : ModelData) (T ε : Float) (x : List ℕ) (q : Quantity)
     ≡ plain_rest d T ε x q
 unfolding plain_rest plain_call
 by_parts d T ε x q = rest-is (data_fault d) (fractions_fault ε d.n (floats x) q) (length x % 8) (value_at d T (at (floats x)) q)
+
+-- a call r that has the faults of data and fractions: its refusal, and the value where it has none
+module _ (d : ModelData) (T ε : Float) (x : List ℕ) (q : Quantity) {A : Type 0} {r : Result A Refusal}
+    (f : refused_number r ≡ first (data_fault d) (first (fractions_fault ε d.n (floats x) q) (cond (eqb (length x % 8) 0) 0 7))) where
+  pub rest-refused : {e : Refusal} (s : Result Float Refusal) → r ≡ Err e → IsErrAnd s (λ y. y ≡ e) → answer_of s ≡ plain_rest d T ε x q
+  unfolding answer_of refused_number
+  rest-refused {e} s p h =
+      let on = err_from_is_err_and s h in
+      let g = rw p at f in rw (on.1, on.2) (answer-refused _ g (λ z. number-positive e z)) ∙ by_parts d T ε x q
+
+  pub rest-value : {a : A} {v : Float} → r ≡ Ok a → v ≡ value_at d T (at (floats x)) q → answer_of (Ok v) ≡ plain_rest d T ε x q
+  unfolding answer_of
+  rest-value p e = answer-value f (passed-number p) e ∙ by_parts d T ε x q
 
 -- ---- bytes that are whole eights
 
@@ -184,7 +202,7 @@ module _ (m n ng : ℕ) (lens groups values : List ℕ) (T ε : Float) (x : List
     exported-none h = rw (eq-eqb _ 0 whole, h)
 
     module _ (some : is_model m ≡ true) where
-      pub exported-whole : {a : Answer} → a ≡ plain_rest named T ε x q → a ≡ exported m n ng lens groups values T ε x q
+      pub exported-whole : {a : Answer Float} → a ≡ plain_rest named T ε x q → a ≡ exported m n ng lens groups values T ε x q
       unfolding exported
       exported-whole p = rw (eq-eqb _ 0 whole, some) p
 
@@ -192,5 +210,5 @@ module _ (m n ng : ℕ) (lens groups values : List ℕ) (T ε : Float) (x : List
       exported-long h = exported-whole (rest-long named T ε x q (rw (length_eights values) h))
 
 -- the number and the value of an equal answer
-pub given_as : {a b : Answer} {r : ℕ} (old : Float) {new : Float} → a ≡ b → (r ≡ number_of a) × (new ≡ left a old) → (r ≡ number_of b) × (new ≡ left b old)
-given_as old e p = (p.0 ∙ ap number_of e, p.1 ∙ ap (λ (a : Answer). left a old) e)
+pub given_as : {a b : Answer Float} {r : ℕ} (old : Float) {new : Float} → a ≡ b → (r ≡ number_of a) × (new ≡ left a old) → (r ≡ number_of b) × (new ≡ left b old)
+given_as old e p = (p.0 ∙ ap number_of e, p.1 ∙ ap (λ (a : Answer Float). left a old) e)

@@ -27,9 +27,7 @@ use Rattle.models.specs.declared.model.Model.{Model}
 use Rattle.models.specs.declared.model.Model.TheVariants.{Unifac}
 use Rattle.mixture.specs.declared.setting.Setting.{Setting}
 use Rattle.mixture.specs.declared.setting.Setting.TheVariants.{Temperature, Entry, TdEntry, Size, Count, Tolerance}
-use Rattle.mixture.specs.declared.answers.Answer.{Answer}
-use Rattle.mixture.specs.declared.answers.Answer.TheVariants.{Refused, Done, Value}
-use Rattle.mixture.specs.Answers.{number_of, unless}
+use Rattle.mixture.specs.Answers.{Answer, Refused, Done, Value, number_of, unless}
 use Rattle.mixture.specs.Lists.{written, padded, any_of, how_many}
 use Rattle.mixture.specs.Holdings.{Held, held}
 use Rattle.mixture.specs.Cells.{width, is_cell, inputs}
@@ -108,14 +106,14 @@ keeps_past m h b past past' e k = record { long = k.long; kept = kept-past m h b
 
 -- the answer is the book's, and memory and head keep the book that the call leaves
 record Step (a : After) (b : Book) (past : List Call) (c : Call) : Type 0 where
-  answer : a.reply.answer ≡ book_answer b past c
-  done : accepted b past c ≡ true → Keeps a.memory a.reply.head (book_after b c) (c ∷ past)
-  refused : accepted b past c ≡ false → Keeps a.memory a.reply.head b past
+  answer : a.answer ≡ book_answer b past c
+  done : accepted b past c ≡ true → Keeps a.memory a.head (book_after b c) (c ∷ past)
+  refused : accepted b past c ≡ false → Keeps a.memory a.head b past
 
 -- by the number of the refusal
 step_by : (fault k : ℕ) (m : Memory) (h : Head) (a : After) (v : Answer) (b : Book) (past : List Call) (c : Call)
     → Keeps m h b past → fault ≡ k → book_answer b past c ≡ unless k v → number_of v ≡ 0
-    → (k ≡ 0 → (a.reply.answer ≡ v) × Keeps a.memory a.reply.head (book_after b c) (c ∷ past))
+    → (k ≡ 0 → (a.answer ≡ v) × Keeps a.memory a.head (book_after b c) (c ∷ past))
     → Step (outcome fault m h a) b past c
 unfolding number_of
 step_by fault k m h a v b past c kept e s z f =

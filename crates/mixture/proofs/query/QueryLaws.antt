@@ -1,6 +1,6 @@
 -- What a query that passes has shown, and a model's refilled cells and value as the answer.
-use mathlib.Core.Path.{◌≡◌, sym, ◌∙◌}
-use mathlib.Core.Bool.{Bool, not, and_assoc}
+use mathlib.Core.Path.{◌≡◌, sym, ap, ◌∙◌}
+use mathlib.Core.Bool.{Bool, not, ◌&&◌, and_assoc}
 use mathlib.Core.List.{List}
 use Prim.Native.Nat.{ℕ, ◌*◌, ◌/◌, ◌%◌}
 use lib.Dec.{ltb, eqb}
@@ -16,17 +16,18 @@ use Rattle.models.specs.Nrtl.{nrtl}
 use Rattle.models.specs.Unifac.{unifac}
 use Rattle.mixture.specs.declared.head.Head.{Head}
 use Rattle.models.specs.declared.model.Model.TheVariants.{Wilson, Uniquac, Nrtl, Unifac}
-use Rattle.mixture.specs.declared.answers.Answer.TheVariants.{Refused, Value}
+use Rattle.mixture.specs.Answers.{Refused, Value}
 use Rattle.mixture.specs.declared.query.Worked.{Worked}
 use Rattle.mixture.specs.Holdings.{Held, held, entries, td_entries, sizes}
 use Rattle.mixture.specs.Cells.{width, is_cell}
 use Rattle.mixture.specs.Memory.{Memory, memory, after}
 use Rattle.mixture.specs.Layout.{data_in, cell_at}
-use Rattle.models.specs.Model.{model_of}
+use Rattle.models.specs.Model.{model_of, has_groups}
 use Rattle.mixture.specs.Calls.{exponential, value_by, stale_at, worked, answered, after_query}
 use Rattle.mixture.specs.Faults.{ready_fault, query_fault}
-use Rattle.mixture.specs.Steps.Refills.{stale_cell, stale_of, taus_at, groups_at, Asked, Ranged, Solved, Answered}
+use Rattle.mixture.specs.Steps.Refills.{stale_of, taus_at, groups_at, Asked, Ranged, Solved, Answered}
 use Rattle.mixture.proofs.ListLaws.{written_same, how_many-same}
+use Rattle.mixture.proofs.BlockLaws.{cell-is}
 use Rattle.mixture.proofs.History.RangeLaws.{first-is}
 use Rattle.mixture.proofs.CallLaws.{refused, done, Passed, ready_passed}
 use Rattle.mixture.proofs.RefillLaws.{among, among_in}
@@ -50,7 +51,7 @@ head-ranged m h p e =
 module _ (m : Memory) (h : Head) (q : Quantity) {c : List Float} {l : List ℕ} {r : Worked} where
   answered_by_lem : Solved (model_of h.model) (width (held (data_in m h))) (exponential (held (data_in m h)) h.t)
       (λ E. value_by (held (data_in m h)) h.t E (at h.x) q) m.cells m.marks c l r → Answered m h q c l r
-  unfolding worked stale_at cell_at stale_cell is_cell
+  unfolding worked stale_at cell_at
   answered_by_lem s =
       record {
         cells = s.refilled.worked ∙ written_same (among (w * w) p) (stale_at m d) f m.cells stale_is;
@@ -66,13 +67,15 @@ module _ (m : Memory) (h : Head) (q : Quantity) {c : List Float} {l : List ℕ} 
       w = width (held (data_in m h))
 
       p : ℕ → Bool
-      p = stale_of (model_of h.model) w m.marks
+      p = stale_of (has_groups (model_of h.model)) w m.marks
 
       f : ℕ → Float
       f c = exponential (held (data_in m h)) h.t (c / w) (c % w)
 
       stale_is : (c : ℕ) → among (w * w) p c ≡ stale_at m d c
-      stale_is c = sym (and_assoc (ltb c (w * w)) (is_cell d (c / w) (c % w)) (not (eqb (get_or m.marks c 0) 1)))
+      stale_is c =
+          ap (λ (t : Bool). ltb c (w * w) && (t && not (eqb (get_or m.marks c 0) 1))) (sym (cell-is d (c / w) (c % w)))
+          ∙ sym (and_assoc (ltb c (w * w)) (is_cell d (c / w) (c % w)) (not (eqb (get_or m.marks c 0) 1)))
 
   pub wilson-answered : model_of h.model ≡ Wilson
       → Solved Wilson h.n (energy (energies h.n m.values) h.t) (λ E. wilson h.n (volumes h.n m.values) E (at h.x) q) m.cells m.marks c l r

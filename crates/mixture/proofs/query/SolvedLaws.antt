@@ -1,17 +1,17 @@
 -- What a model needs of memory; its refilled cells hold its exponentials, and its value is that over the cells.
-use mathlib.Core.Path.{◌≡◌, refl, sym, ap, ◌∙◌}
-use mathlib.Core.Bool.{Bool}
+use mathlib.Core.Path.{◌≡◌, refl, ◌∙◌}
+use mathlib.Core.Bool.{Bool, true, false}
 use mathlib.Core.List.{List}
 use Prim.Native.Nat.{ℕ, zero, suc, ◌+◌, ◌*◌, ◌-◌, ◌/◌, ◌%◌, ◌<◌, ◌≤◌}
-use native.Mathlib.Nat.{mod-lt, div-lt_iff_lt-mul, mul_assoc, mul-le-mul}
+use native.Mathlib.Nat.{mod-lt, div-lt_iff_lt-mul, mul-le-mul}
 use native.Mathlib.Omega.{arith}
 use lib.ListN.{length}
 use lib.Ieee.{Float}
+use Rattle.arithmetic.specs.Exponential.{exp_of}
 use Rattle.arithmetic.specs.Logarithm.{log_of}
 use Rattle.arithmetic.specs.Parameters.{td_at}
 use Rattle.arithmetic.specs.Tables.{at, grid, from, Filled}
-use Rattle.arithmetic.specs.declared.parameters.TdParam.{TdParam}
-use Rattle.arithmetic.proofs.TableLaws.{cell-lt, row-end, from_at, from-length}
+use Rattle.arithmetic.proofs.TableLaws.{cell-lt, from_at}
 use Rattle.models.specs.declared.answers.Quantity.{Quantity}
 use Rattle.models.specs.Faults.{index_fault}
 use Rattle.models.specs.Exponentials.{energy, nonrandomness, group_energy}
@@ -19,16 +19,13 @@ use Rattle.models.specs.Values.{five_at, td_grid, energies, volumes, rs, qs, tau
 use Rattle.models.specs.Wilson.{wilson}
 use Rattle.models.specs.Uniquac.{uniquac}
 use Rattle.models.specs.Nrtl.{nrtl}
-use Rattle.models.proofs.ExponentialLaws.{energy-row}
 use Rattle.models.proofs.WilsonLaws.{wilson-same}
 use Rattle.models.proofs.UniquacLaws.{uniquac-same}
-use Rattle.models.proofs.NrtlLaws.{nonrandomness-same, nonrandomness-row, nrtl-same}
+use Rattle.models.proofs.NrtlLaws.{nrtl-same}
 use Rattle.models.proofs.ParameterLaws.{five-from}
-use Rattle.models.proofs.UnifacLaws.{psi_same, psi_at}
-use Rattle.models.specs.declared.model.Model.{Model}
 use Rattle.models.specs.declared.model.Model.TheVariants.{Wilson, Uniquac, Nrtl, Unifac}
-use Rattle.mixture.specs.Steps.Refills.{row_cell, cell_of, stale_of, taus_at, groups_at, Asked, TableFits, Refilled, Solved}
-use Rattle.mixture.specs.declared.refill.Rows.{Rows}
+use Rattle.mixture.specs.Steps.Refills.{cell_of, stale_of, taus_at, groups_at, Asked, Refilled, Solved}
+use Rattle.mixture.specs.Steps.Inputs.{energy_argument, nonrandomness_argument, group_argument}
 use Rattle.mixture.proofs.RefillLaws.{last_row, refilled_as}
 
 -- ---- room
@@ -46,14 +43,7 @@ pub asked-room : {n : ℕ} {q : Quantity} {v c : List Float} {m : List ℕ} → 
 asked-room {n} a =
     record { few = a.few; square = mul-le-mul a.few a.few; last = last_row n; values = a.values; cells = a.cells; marks = a.marks }
 
--- the table of energies as a refill asks for it, with its cells and marks
-pub energies-lent : {n : ℕ} (v c : List Float) {lm : ℕ} → Room n (length v) (length c) lm → TableFits n n v v c × (n * n ≤ lm)
-energies-lent v c r = (record { few = omega arith; fives = omega arith; taus = omega arith; room = omega arith }, omega arith)
-
 -- ---- equal entries
-
-abbrev rows_of : Model → ℕ → ℕ → Float → Float → Rows
-rows_of k w stride T L = record { model = k; w = w; stride = stride; t = T; ln = L }
 
 -- the row and column of a place
 place_in : (w c : ℕ) → c < w * w → (c / w < w) × (c % w < w)
@@ -69,29 +59,23 @@ refilled_by w F E same all = refilled_as (w * w) _ _ _ _ _ (λ c b. let i = plac
 
 -- ---- Wilson and UNIQUAC
 
-module _ (n : ℕ) (v : List Float) (T L : Float) (x : ℕ → Float) (q : Quantity) (z : index_fault n q ≡ 0) where
-  row-energy : n * n ≤ length v → (i j : ℕ) → i < n → j < n → energy (λ _. at (from (i * n) v)) T i j ≡ energy (energies n v) T i j
-  row-energy h i j b d = energy-row n v T i j (omega (arith, row-end n n i b)) b d
-
+module _ (n : ℕ) (v : List Float) (T : Float) (x : ℕ → Float) (q : Quantity) (z : index_fault n q ≡ 0) where
   pub wilson-solved : {cells c : List Float} {marks m : List ℕ} {r : ℕ} {a : Float} → n * n + n ≤ length v
-      → Refilled (n * n) (stale_of Wilson n marks) (cell_of (rows_of Wilson n n T L) v v) cells marks c m r
+      → Refilled (n * n) (stale_of false n marks) (cell_of n (energy_argument (grid n v) T)) cells marks c m r
       → a ≡ wilson n (at (from (n * n) v)) (grid n c) x q
       → Solved Wilson n (energy (energies n v) T) (λ E. wilson n (volumes n v) E x q) cells marks c m (record { value = a; count = r })
-  unfolding row_cell volumes
+  unfolding energy energies volumes
   wilson-solved h all e =
-      record {
-        refilled = refilled_by n (λ i j. energy (λ _. at (from (i * n) v)) T i j) (energy (energies n v) T) (row-energy (omega arith)) all;
-        solved = e ∙ wilson-same n _ _ _ _ x x (λ i b. from_at v (n * n) i (omega arith)) (λ i b. refl) (λ i j b d ne. refl) q z;
-      }
+      record { refilled = all; solved = e ∙ wilson-same n _ _ _ _ x x (λ i b. from_at v (n * n) i (omega arith)) (λ i b. refl) (λ i j b d ne. refl) q z }
 
   pub uniquac-solved : {cells c : List Float} {marks m : List ℕ} {r : ℕ} {a : Float} → n * n + n + n ≤ length v
-      → Refilled (n * n) (stale_of Uniquac n marks) (cell_of (rows_of Uniquac n n T L) v v) cells marks c m r
+      → Refilled (n * n) (stale_of false n marks) (cell_of n (energy_argument (grid n v) T)) cells marks c m r
       → a ≡ uniquac n (at (from (n * n) v)) (at (from (n * n + n) v)) (grid n c) x q
       → Solved Uniquac n (energy (energies n v) T) (λ E. uniquac n (rs n v) (qs n v) E x q) cells marks c m (record { value = a; count = r })
-  unfolding row_cell rs qs
+  unfolding energy energies rs qs
   uniquac-solved h all e =
       record {
-        refilled = refilled_by n (λ i j. energy (λ _. at (from (i * n) v)) T i j) (energy (energies n v) T) (row-energy (omega arith)) all;
+        refilled = all;
         solved =
             e
             ∙ uniquac-same n _ _ _ _ x x (λ i b. from_at v (n * n) i (omega arith)) (λ i b. from_at v (n * n + n) i (omega arith)) (λ i b. refl)
@@ -99,48 +83,38 @@ module _ (n : ℕ) (v : List Float) (T L : Float) (x : ℕ → Float) (q : Quant
       }
 
   -- ---- NRTL, with τ at T in the table tl
-  module _ {tl : List Float} (h : n * n * 5 + n * n ≤ length v) (k : n * n ≤ length tl) (ts : Filled (λ k. td_at (five_at v (k * 5)) T) (n * n) tl) where
+  module _ {tl : List Float} (h : n * n * 5 + n * n ≤ length v) (ts : Filled (λ k. td_at (five_at v (k * 5)) T) (n * n) tl) where
     tau-entry : (i j : ℕ) → i < n → j < n → grid n tl i j ≡ td_at (taus n v i j) T
     unfolding taus td_grid
     tau-entry i j b d = ts.each (i * n + j) (cell-lt n n i j b d)
 
-    row-g : (i j : ℕ) → i < n → j < n → nonrandomness (λ _. at (from (i * n) (from (n * n * 5) v))) (λ _. at (from (i * n) tl)) i j ≡ nonrandomness (alphas n v) (taus_at n v T) i j
-    unfolding alphas
-    row-g i j b d =
-        nonrandomness-row n (from (n * n * 5) v) tl i j (omega (arith, from-length (n * n * 5) v, row-end n n i b)) (omega (arith, row-end n n i b)) d
-        ∙ nonrandomness-same _ _ _ _ i j (from_at v (n * n * 5) (i * n + j) (omega (arith, cell-lt n n i j b d))) (tau-entry i j b d)
+    entry_g : (i j : ℕ) → i < n → j < n → exp_of (nonrandomness_argument (grid n (from (n * n * 5) v)) (grid n tl) i j) ≡ nonrandomness (alphas n v) (taus_at n v T) i j
+    unfolding alphas nonrandomness
+    entry_g i j b d = rw (from_at v (n * n * 5) (i * n + j) (omega (arith, cell-lt n n i j b d)), tau-entry i j b d)
 
-    pub nrtl-solved : {cells c : List Float} {marks m : List ℕ} {r : ℕ} {a : Float} → Refilled (n * n) (stale_of Nrtl n marks)
-        (cell_of (rows_of Nrtl n n T L) (from (n * n * 5) v) tl) cells marks c m r
+    pub nrtl-solved : {cells c : List Float} {marks m : List ℕ} {r : ℕ} {a : Float} → Refilled (n * n) (stale_of false n marks)
+        (cell_of n (nonrandomness_argument (grid n (from (n * n * 5) v)) (grid n tl))) cells marks c m r
         → a ≡ nrtl n (grid n tl) (grid n c) x q
         → Solved Nrtl n (nonrandomness (alphas n v) (taus_at n v T)) (λ G. nrtl n (taus_at n v T) G x q) cells marks c m (record { value = a; count = r })
-    unfolding row_cell
     nrtl-solved all e =
         record {
-          refilled = refilled_by n (λ i j. nonrandomness (λ _. at (from (i * n) (from (n * n * 5) v))) (λ _. at (from (i * n) tl)) i j) (nonrandomness (alphas n v) (taus_at n v T)) row-g all;
+          refilled = refilled_by n (λ i j. exp_of (nonrandomness_argument (grid n (from (n * n * 5) v)) (grid n tl) i j)) (nonrandomness (alphas n v) (taus_at n v T)) entry_g all;
           solved = e ∙ nrtl-same n _ _ _ _ x x (λ i j b d ne. tau-entry i j b d) (λ i j b d ne. refl) (λ i b. refl) q z;
         }
 
 -- ---- UNIFAC
 
 module _ (ng : ℕ) (v : List Float) (T : Float) (L : Float) (h : ng + ng + ng * ng * 5 ≤ length v) (ln : L ≡ log_of T) (f : (ℕ → ℕ → Float) → Float) where
-  row_psi : (i j : ℕ) → i < ng → j < ng → row_cell Unifac (from (i * (ng * 5)) (from (ng + ng) v)) (from (i * (ng * 5)) (from (ng + ng) v)) T L i j ≡ group_energy (groups_at ng v T) T i j
-  unfolding row_cell group_as
-  row_psi i j b d =
-      let e : i * (ng * 5) ≡ i * ng * 5 = sym (mul_assoc i ng 5) in
-      let place : ng + ng + (i * (ng * 5) + j * 5) ≡ ng + ng + (i * ng + j) * 5 = omega arith in
-      psi_at _ T i j ln
-      ∙ psi_same _ _ T T i j
-      (ap (λ (p : TdParam). td_at p T)
-      (five-from (from (ng + ng) v) (i * (ng * 5)) (j * 5) (omega (arith, from-length (ng + ng) v, row-end ng ng i b))
-      ∙ (five-from v (ng + ng) (i * (ng * 5) + j * 5) (omega (arith, row-end ng ng i b)) ∙ ap (five_at v) place))) refl
+  entry_psi : (i j : ℕ) → i < ng → j < ng → exp_of (group_argument ng (from (ng + ng) v) T L i j) ≡ group_energy (groups_at ng v T) T i j
+  unfolding td_grid group_as group_energy td_at
+  entry_psi i j b d = rw (five-from v (ng + ng) ((i * ng + j) * 5) (omega (arith, cell-lt ng ng i j b d)), ln)
 
-  pub unifac-solved : {cells c : List Float} {marks m : List ℕ} {r : ℕ} {a : Float} → Refilled (ng * ng) (stale_of Unifac ng marks)
-      (cell_of (rows_of Unifac ng (ng * 5) T L) (from (ng + ng) v) (from (ng + ng) v)) cells marks c m r
+  pub unifac-solved : {cells c : List Float} {marks m : List ℕ} {r : ℕ} {a : Float} → Refilled (ng * ng) (stale_of true ng marks)
+      (cell_of ng (group_argument ng (from (ng + ng) v) T L)) cells marks c m r
       → a ≡ f (grid ng c)
       → Solved Unifac ng (group_energy (groups_at ng v T) T) f cells marks c m (record { value = a; count = r })
   unifac-solved all e =
       record {
-        refilled = refilled_by ng (λ i j. row_cell Unifac (from (i * (ng * 5)) (from (ng + ng) v)) (from (i * (ng * 5)) (from (ng + ng) v)) T L i j) (group_energy (groups_at ng v T) T) row_psi all;
+        refilled = refilled_by ng (λ i j. exp_of (group_argument ng (from (ng + ng) v) T L i j)) (group_energy (groups_at ng v T) T) entry_psi all;
         solved = e;
       }

@@ -1,6 +1,6 @@
 -- Counting what passes, what a count of none or of all shows, and stale cells counted by their marks: those that aren't 1, less those on
 -- a diagonal that has no cells.
-use mathlib.Core.Path.{◌≡◌, refl, sym, ap, ◌∙◌, subst}
+use mathlib.Core.Path.{◌≡◌, refl, sym, ap, ◌∙◌}
 use mathlib.Core.Bool.{Bool, true, false, not, ◌&&◌, cond}
 use mathlib.Core.List.{List}
 use Prim.Native.Nat.{ℕ, zero, suc, ◌+◌, ◌*◌, ◌/◌, ◌%◌, ◌<◌, ◌≤◌}
@@ -9,14 +9,12 @@ use native.Mathlib.Numerals.{add-one}
 use native.Mathlib.Omega.{arith}
 use borrow.Author.Tests.{eq-eqb, ne_eqb}
 use lib.Dec.{eqb}
-use lib.ListN.{get_or}
+use lib.ListN.{length, get_or, take}
+use lib.Seq.{get_or-take, length-take-le}
 use Rattle.arithmetic.proofs.TableLaws.{by_place, cell_row, cell-column}
-use Rattle.models.specs.declared.model.Model.{Model}
-use Rattle.models.specs.Model.{has_groups}
-use Rattle.models.specs.declared.model.Model.TheVariants.{Wilson, Uniquac, Nrtl, Unifac}
 use Rattle.mixture.specs.Lists.{how_many, how_many_pairs}
-use Rattle.mixture.specs.Steps.Refills.{stale_cell, row_count, table_count, unmarked}
-use Rattle.mixture.proofs.ListLaws.{never, how_many-le, how_many-same, how_many-rows, how_many_pairs-same}
+use Rattle.mixture.specs.Steps.Refills.{row_count, table_count, unmarked}
+use Rattle.mixture.proofs.ListLaws.{how_many-le, how_many-same, how_many-rows, how_many_pairs-same}
 
 -- ---- counting
 
@@ -36,9 +34,6 @@ module _ (p : ℕ → Bool) where
 
     pub many-few : k ≤ n
     many-few = rw so (how_many-le n p)
-
-    pub many-done : (m : ℕ) → n ≤ m → m ≤ n → k ≡ how_many m p
-    many-done m a b = subst (λ (i : ℕ). k ≡ how_many i p) (le_antisymm a b) so
 
 pub is-unmarked : (m : ℕ) → (m ≡ 1 → ⊥) → not (eqb m 1) ≡ true
 is-unmarked m h = rw (ne_eqb m 1 h) refl
@@ -112,44 +107,29 @@ places-apart w p =
 
 -- ---- marks and stale cells
 
--- where the diagonal has cells, a mark other than 1 is a stale cell; else one off the diagonal is
-stale_all : (k : Model) (marks : List ℕ) (c i j : ℕ) → has_groups k ≡ true → unmarked marks c ≡ stale_cell k (get_or marks c 0) i j
-unfolding stale_cell
-stale_all Wilson marks c i j d = never (sym d)
-stale_all Uniquac marks c i j d = never (sym d)
-stale_all Nrtl marks c i j d = never (sym d)
-stale_all Unifac marks c i j d = refl
+-- those of the first w marks
+taken : (marks : List ℕ) {u w n : ℕ} → u ≡ w → w ≤ length marks → n ≡ how_many (length (take u marks)) (unmarked (take u marks)) → n ≡ how_many w (unmarked marks)
+taken marks {w = w} e h so =
+    so ∙ rw (e, length-take-le w marks h) (how_many-same w _ _ (λ c b. ap (λ (m : ℕ). not (eqb m 1)) (get_or-take w marks c 0 b)))
 
-stale_apart : (k : Model) (marks : List ℕ) (c i j : ℕ) → has_groups k ≡ false → not (eqb i j) && unmarked marks c ≡ stale_cell k (get_or marks c 0) i j
-unfolding stale_cell
-stale_apart Wilson marks c i j d = refl
-stale_apart Uniquac marks c i j d = refl
-stale_apart Nrtl marks c i j d = refl
-stale_apart Unifac marks c i j d = never d
+-- a row's stale cells: where the diagonal has cells each mark other than 1, else each off the diagonal
+module _ (marks : List ℕ) {d : Bool} {v w i n : ℕ} (e : v ≡ w) (h : i < w) (long : w ≤ length marks) (so : n ≡ how_many (length (take v marks)) (unmarked (take v marks))) where
+  pub row_all : d ≡ true → n ≡ row_count d w marks i
+  row_all t = taken marks e long so ∙ rw t
 
-module _ (k : Model) (marks : List ℕ) where
-  -- a row's stale cells
-  module _ (w i : ℕ) (h : i < w) {n : ℕ} (so : n ≡ how_many w (unmarked marks)) where
-    pub row-all : has_groups k ≡ true → n ≡ row_count k w marks i
-    row-all d = so ∙ how_many-same w _ _ (λ j b. stale_all k marks j i j d)
+  row_apart : d ≡ false → n ≡ row_count d w marks i + cond (unmarked marks i) 1 0
+  row_apart f = taken marks e long so ∙ (many-apart w i (unmarked marks) h ∙ rw f)
 
-    row_apart : has_groups k ≡ false → n ≡ row_count k w marks i + cond (unmarked marks i) 1 0
-    row_apart d =
-        so ∙ (many-apart w i (unmarked marks) h ∙ ap (λ (m : ℕ). m + cond (unmarked marks i) 1 0) (how_many-same w _ _ (λ j b. stale_apart k marks j i j d)))
+  pub row_but : d ≡ false → get_or marks i 0 ≡ 1 → n ≡ row_count d w marks i
+  row_but f t = row_apart f ∙ rw (is-marked (get_or marks i 0) t, add-zero)
 
-    pub row_but : has_groups k ≡ false → get_or marks i 0 ≡ 1 → n ≡ row_count k w marks i
-    row_but d e = row_apart d ∙ rw (is-marked (get_or marks i 0) e, add-zero)
+  pub row-less : d ≡ false → (get_or marks i 0 ≡ 1 → ⊥) → n ≡ row_count d w marks i + 1
+  row-less f t = row_apart f ∙ rw (is-unmarked (get_or marks i 0) t)
 
-    pub row-less : has_groups k ≡ false → (get_or marks i 0 ≡ 1 → ⊥) → n ≡ row_count k w marks i + 1
-    row-less d e = row_apart d ∙ rw (is-unmarked (get_or marks i 0) e)
+-- a table's
+module _ (marks : List ℕ) {d : Bool} {v w n : ℕ} (e : v ≡ w) (long : w * w ≤ length marks) (so : n ≡ how_many (length (take (v * v) marks)) (unmarked (take (v * v) marks))) where
+  pub table_all : d ≡ true → n ≡ table_count d w marks
+  table_all t = taken marks (rw e) long so ∙ rw t
 
-  -- a table's stale cells
-  module _ (w : ℕ) {n : ℕ} (so : n ≡ how_many (w * w) (unmarked marks)) where
-    pub table-all : has_groups k ≡ true → n ≡ table_count k w marks
-    table-all d = so ∙ how_many-same (w * w) _ _ (λ c b. stale_all k marks c (c / w) (c % w) d)
-
-    pub table-apart : {m : ℕ} → has_groups k ≡ false → m ≡ how_many w (λ i. unmarked marks (i * w + i))
-        → n ≡ table_count k w marks + m
-    table-apart {m} d e =
-        so ∙ (places-apart w (unmarked marks)
-        ∙ rw (← e) (ap (λ (z : ℕ). z + m) (how_many-same (w * w) _ _ (λ c b. stale_apart k marks c (c / w) (c % w) d))))
+  pub table-apart : {m : ℕ} → d ≡ false → m ≡ how_many v (λ i. unmarked marks (i * v + i)) → n ≡ table_count d w marks + m
+  table-apart {m} f q = taken marks (rw e) long so ∙ (places-apart w (unmarked marks) ∙ rw (f, q, e))

@@ -1,6 +1,6 @@
 -- Marks written 0 place after place and row after row, as a list written at the places that pass.
 use mathlib.Core.Path.{◌≡◌, refl, sym, ap, ◌∙◌}
-use mathlib.Core.Bool.{Bool, true, false, not, ◌&&◌, ◌||◌, cond, or-false, or-true, and-false}
+use mathlib.Core.Bool.{Bool, true, false, not, ◌&&◌, ◌||◌, or-false, or-true, and-false}
 use mathlib.Core.List.{List}
 use Prim.Native.Nat.{ℕ, zero, suc, ◌+◌, ◌*◌, ◌/◌, ◌%◌, ◌<◌, ◌≤◌}
 use mathlib.Core.Logic.{inl, inr}
@@ -17,46 +17,7 @@ use Rattle.mixture.specs.Steps.Blocks.{in_row, in_block}
 use Rattle.mixture.proofs.ListLaws.{written_same, written_none, written-set, written_both}
 use Rattle.mixture.proofs.PlaceLaws.{eq_cases}
 
--- ---- a row
-
-module _ (start left j skip : ℕ) where
-  row_out : (c : ℕ) → (eqb c (start + j) ≡ false) → (ltb c (start + (j + 1)) ≡ ltb c (start + j)) → in_row start left (j + 1) skip c ≡ (in_row start left j skip c || eqb c (start + j))
-  row_out c e l = rw (l, e) (sym (or-false (in_row start left j skip c)))
-
-  -- the place start + j, which isn't the one to skip
-  row_more : left ≤ j → (j ≡ skip → ⊥) → (c : ℕ) → in_row start left (j + 1) skip c ≡ (in_row start left j skip c || eqb c (start + j))
-  row_more h n c =
-      by_place c (start + j)
-      (λ (b : c < start + j). row_out c (ne_eqb c (start + j) (λ (e : c ≡ start + j). omega arith)) (lt-ltb c (start + (j + 1)) (omega arith) ∙ sym (lt-ltb _ _ b)))
-      (λ (e : start + j ≡ c).
-      rw (← e)
-      (rw (le-leb (start + left) (start + j) (omega arith), lt-ltb (start + j) (start + (j + 1)) (omega arith), ne_eqb (start + j) (start + skip) (λ (z : start + j ≡ start + skip). n (omega arith)), eq-eqb (start + j) (start + j) refl)
-      (sym (or-true (true && ltb (start + j) (start + j) && true)))))
-      (λ (b : start + j < c). row_out c (ne_eqb c (start + j) (λ (e : c ≡ start + j). omega arith)) (le-ltb c (start + (j + 1)) (omega arith) ∙ sym (le-ltb c (start + j) (omega arith))))
-
-  row-skips : j ≡ skip → (c : ℕ) → in_row start left j skip c ≡ in_row start left (j + 1) skip c
-  row-skips h c =
-      by_place c (start + j)
-      (λ (b : c < start + j). rw (lt-ltb _ _ b, lt-ltb c (start + (j + 1)) (omega arith)))
-      (λ (e : start + j ≡ c). rw (eq-eqb c (start + skip) (omega arith)) (and-false (leb (start + left) c && ltb c (start + j)) ∙ sym (and-false (leb (start + left) c && ltb c (start + (j + 1))))))
-      (λ (b : start + j < c). rw (le-ltb c (start + j) (omega arith), le-ltb c (start + (j + 1)) (omega arith)))
-
-  -- a turn writes the place, or skips it
-  module _ (l : List ℕ) {m r : List ℕ} (so : m ≡ written (in_row start left j skip) (λ c. 0) l) where
-    pub row_write : left ≤ j → (j ≡ skip → ⊥) → r ≡ set m (start + j) 0 → r ≡ written (in_row start left (j + 1) skip) (λ c. 0) l
-    row_write h n e = e ∙ rw so (written-set _ _ (λ c. 0) l (start + j) (row_more h n))
-
-    pub row_keep : j ≡ skip → r ≡ m → r ≡ written (in_row start left (j + 1) skip) (λ c. 0) l
-    row_keep h e = e ∙ (so ∙ written_same _ _ (λ c. 0) l (row-skips h))
-
-pub row-none : (start left right skip : ℕ) → right ≤ left → (c : ℕ) → in_row start left right skip c ≡ false
-row-none start left right skip h c =
-    elim (le-or (start + left) c) [
-      | inl b ↦ rw (le-ltb c (start + right) (omega arith), and-false (leb (start + left) c))
-      | inr b ↦ rw (lt-leb _ _ b)
-    ]
-
--- ---- rows of w
+-- ---- places from a start on
 
 same-leb : (a b c : ℕ) → leb (c + a) (c + b) ≡ leb a b
 same-leb a b zero = rw (zero-add a, zero-add b)
@@ -72,27 +33,79 @@ same-eqb a b c =
       | inr n ↦ ne_eqb (c + a) (c + b) (λ (e : c + a ≡ c + b). n (omega arith)) ∙ sym (ne_eqb b a n)
     ]
 
+-- ---- a row
+
+-- where a place is a cell
+module _ (diagonal : Bool) (i j : ℕ) where
+  pub on_diagonal : diagonal ≡ true → (diagonal || not (eqb i j)) ≡ true
+  on_diagonal t = rw t
+
+  pub off_diagonal : (i ≡ j → ⊥) → (diagonal || not (eqb i j)) ≡ true
+  off_diagonal n = rw (ne_eqb i j n) (or-true diagonal)
+
+  pub no_cell : diagonal ≡ false → i ≡ j → (diagonal || not (eqb i j)) ≡ false
+  no_cell f e = rw (f, eq-eqb i j e)
+
+module _ (start left j : ℕ) (diagonal : Bool) (i : ℕ) where
+  row_out : (c : ℕ) → (eqb c (start + j) ≡ false) → (ltb c (start + (j + 1)) ≡ ltb c (start + j))
+      → in_row start left (j + 1) diagonal i c ≡ (in_row start left j diagonal i c || eqb c (start + j))
+  row_out c e l = rw (l, e) (sym (or-false (in_row start left j diagonal i c)))
+
+  -- the place start + j, which is a cell
+  row_more : left ≤ j → (diagonal || not (eqb i j)) ≡ true → (c : ℕ) → in_row start left (j + 1) diagonal i c ≡ (in_row start left j diagonal i c || eqb c (start + j))
+  row_more h t c =
+      by_place c (start + j)
+      (λ (b : c < start + j). row_out c (ne_eqb c (start + j) (λ (e : c ≡ start + j). omega arith)) (lt-ltb c (start + (j + 1)) (omega arith) ∙ sym (lt-ltb _ _ b)))
+      (λ (e : start + j ≡ c).
+      rw (← e)
+      (rw (le-leb (start + left) (start + j) (omega arith), lt-ltb (start + j) (start + (j + 1)) (omega arith), same-eqb j i start, t, eq-eqb (start + j) (start + j) refl)
+      (sym (or-true (true && ltb (start + j) (start + j) && true)))))
+      (λ (b : start + j < c). row_out c (ne_eqb c (start + j) (λ (e : c ≡ start + j). omega arith)) (le-ltb c (start + (j + 1)) (omega arith) ∙ sym (le-ltb c (start + j) (omega arith))))
+
+  -- which is none
+  row-skips : (diagonal || not (eqb i j)) ≡ false → (c : ℕ) → in_row start left j diagonal i c ≡ in_row start left (j + 1) diagonal i c
+  row-skips f c =
+      by_place c (start + j)
+      (λ (b : c < start + j). rw (lt-ltb _ _ b, lt-ltb c (start + (j + 1)) (omega arith)))
+      (λ (e : start + j ≡ c).
+      rw (← e)
+      (rw (same-eqb j i start, f)
+      (and-false (leb (start + left) (start + j) && ltb (start + j) (start + j)) ∙ sym (and-false (leb (start + left) (start + j) && ltb (start + j) (start + (j + 1)))))))
+      (λ (b : start + j < c). rw (le-ltb c (start + j) (omega arith), le-ltb c (start + (j + 1)) (omega arith)))
+
+  -- a turn writes the place, or skips it
+  module _ (l : List ℕ) {m r : List ℕ} (so : m ≡ written (in_row start left j diagonal i) (λ c. 0) l) where
+    pub row_write : left ≤ j → (diagonal || not (eqb i j)) ≡ true → r ≡ set m (start + j) 0 → r ≡ written (in_row start left (j + 1) diagonal i) (λ c. 0) l
+    row_write h t e = e ∙ rw so (written-set _ _ (λ c. 0) l (start + j) (row_more h t))
+
+    pub row_keep : (diagonal || not (eqb i j)) ≡ false → r ≡ m → r ≡ written (in_row start left (j + 1) diagonal i) (λ c. 0) l
+    row_keep f e = e ∙ (so ∙ written_same _ _ (λ c. 0) l (row-skips f))
+
+pub row-none : (start left right : ℕ) (diagonal : Bool) (i : ℕ) → right ≤ left → (c : ℕ) → in_row start left right diagonal i c ≡ false
+row-none start left right diagonal i h c =
+    elim (le-or (start + left) c) [
+      | inl b ↦ rw (le-ltb c (start + right) (omega arith), and-false (leb (start + left) c))
+      | inr b ↦ rw (lt-leb _ _ b)
+    ]
+
+-- ---- rows of w
+
 -- a column of the block, in row k
 abbrev in_columns : Bool → ℕ → ℕ → ℕ → ℕ → Bool
 in_columns diagonal left right k r = leb left r && ltb r right && (diagonal || not (eqb k r))
 
 module _ (w : ℕ) (i left right : ℕ) (cols : right ≤ w) where
-  -- the place of row k and column r, and the row that begins at i * w
-  module _ (k r : ℕ) (inside : r < w) where
-    skips : (diagonal : Bool) → not (eqb (i * w + r) (i * w + cond diagonal w i)) ≡ (diagonal || not (eqb i r))
-    skips true = rw (ne_eqb (i * w + r) (i * w + w) (λ (e : i * w + r ≡ i * w + w). omega arith))
-    skips false = rw (same-eqb r i (i * w))
+  -- the place of row k and column r, and row i
+  row_at : (diagonal : Bool) (k r : ℕ) → r < w → in_row (i * w) left right diagonal i (k * w + r) ≡ (eqb k i && in_columns diagonal left right k r)
+  row_at diagonal k r inside =
+      by_place k i
+      (λ (b : k < i). rw (lt-leb (i * w + left) (k * w + r) (omega (arith, row-end i w k b)), ne_eqb k i (λ (e : k ≡ i). omega arith)))
+      (λ (e : i ≡ k). rw (← e, eq-eqb i i refl, same-leb left r (i * w), same-ltb r right (i * w), same-eqb r i (i * w)))
+      (λ (b : i < k).
+      rw (le-ltb (k * w + r) (i * w + right) (omega (arith, row-end k w i b)), ne_eqb k i (λ (e : k ≡ i). omega arith), and-false (leb (i * w + left) (k * w + r))))
 
-    row_at : (diagonal : Bool) → in_row (i * w) left right (cond diagonal w i) (k * w + r) ≡ (eqb k i && in_columns diagonal left right k r)
-    row_at diagonal =
-        by_place k i
-        (λ (b : k < i). rw (lt-leb (i * w + left) (k * w + r) (omega (arith, row-end i w k b)), ne_eqb k i (λ (e : k ≡ i). omega arith)))
-        (λ (e : i ≡ k). rw (← e, eq-eqb i i refl, same-leb left r (i * w), same-ltb r right (i * w), skips diagonal))
-        (λ (b : i < k).
-        rw (le-ltb (k * w + r) (i * w + right) (omega (arith, row-end k w i b)), ne_eqb k i (λ (e : k ≡ i). omega arith), and-false (leb (i * w + left) (k * w + r))))
-
-  row_is : (diagonal : Bool) (c : ℕ) → 1 ≤ w → in_row (i * w) left right (cond diagonal w i) c ≡ (eqb (c / w) i && in_columns diagonal left right (c / w) (c % w))
-  row_is diagonal c some = ap (in_row (i * w) left right (cond diagonal w i)) (sym (div-add-mod' c w)) ∙ row_at (c / w) (c % w) (mod-lt c some) diagonal
+  row_is : (diagonal : Bool) (c : ℕ) → 1 ≤ w → in_row (i * w) left right diagonal i c ≡ (eqb (c / w) i && in_columns diagonal left right (c / w) (c % w))
+  row_is diagonal c some = ap (in_row (i * w) left right diagonal i) (sym (div-add-mod' c w)) ∙ row_at diagonal (c / w) (c % w) (mod-lt c some)
 
 -- ---- a block
 
@@ -109,7 +122,7 @@ module _ (w : ℕ) (diagonal : Bool) (top left right : ℕ) where
       ]
 
   block_row : (i : ℕ) → 1 ≤ w → right ≤ w → top ≤ i → (c : ℕ)
-      → to_row w diagonal top left right (i + 1) c ≡ (to_row w diagonal top left right i c || in_row (i * w) left right (cond diagonal w i) c)
+      → to_row w diagonal top left right (i + 1) c ≡ (to_row w diagonal top left right i c || in_row (i * w) left right diagonal i c)
   block_row i some cols h c =
       rw (row_is w i left right cols diagonal c some)
       (by_place (c / w) i
@@ -123,13 +136,13 @@ module _ (w : ℕ) (diagonal : Bool) (top left right : ℕ) where
   stale_none l = written_none (to_row w diagonal top left right top) (λ c. 0) l block_none
 
   -- a turn writes row i
-  pub stale_turn : (i : ℕ) → 1 ≤ w → right ≤ w → top ≤ i → (l m : List ℕ) {r : List ℕ} (skip : ℕ) → skip ≡ cond diagonal w i
-      → m ≡ written (to_row w diagonal top left right i) (λ c. 0) l → r ≡ written (in_row (i * w) left right skip) (λ c. 0) m
+  pub stale_turn : (i : ℕ) → 1 ≤ w → right ≤ w → top ≤ i → (l m : List ℕ) {r : List ℕ}
+      → m ≡ written (to_row w diagonal top left right i) (λ c. 0) l → r ≡ written (in_row (i * w) left right diagonal i) (λ c. 0) m
       → r ≡ written (to_row w diagonal top left right (i + 1)) (λ c. 0) l
-  stale_turn i some cols h l m skip e before turn =
+  stale_turn i some cols h l m before turn =
       turn
-      ∙ (rw (e, before)
-      (written_both (to_row w diagonal top left right i) (in_row (i * w) left right (cond diagonal w i)) (to_row w diagonal top left right (i + 1)) (λ c. 0) l (block_row i some cols h)))
+      ∙ rw before
+      (written_both (to_row w diagonal top left right i) (in_row (i * w) left right diagonal i) (to_row w diagonal top left right (i + 1)) (λ c. 0) l (block_row i some cols h))
 
 pub block-is : (w : ℕ) (diagonal : Bool) (b : Block) (l : List ℕ) {r : List ℕ}
     → r ≡ written (to_row w diagonal b.top b.left (b.left + b.columns) (b.top + b.rows)) (λ c. 0) l → r ≡ written (in_block w diagonal b) (λ c. 0) l

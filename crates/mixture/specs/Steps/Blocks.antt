@@ -10,24 +10,22 @@ use Rattle.models.specs.declared.model.Model.{Model}
 use Rattle.mixture.specs.declared.setting.Setting.{Setting}
 use Rattle.mixture.specs.declared.setting.Setting.TheVariants.{Temperature, Entry, TdEntry, Size, Count, Tolerance}
 use Rattle.mixture.specs.declared.stale.Block.{Block}
-use Rattle.mixture.specs.declared.answers.Reply.{Reply}
-use Rattle.mixture.specs.declared.answers.Answer.TheVariants.{Done}
+use Rattle.mixture.specs.Answers.{Done, unless}
 use Rattle.mixture.specs.Lists.{written}
 use Rattle.mixture.specs.Holdings.{held}
 use Rattle.models.specs.Model.{ModelData, by_model}
 use Rattle.mixture.specs.Faults.{case_fault, in_range}
-use Rattle.mixture.specs.Memory.{memory}
+use Rattle.mixture.specs.Memory.{Memory, memory, After, after}
 use Rattle.mixture.specs.Layout.{data_in}
-use Rattle.mixture.specs.Answers.{unless}
 use Rattle.mixture.specs.Calls.{set_head}
 
 -- of the marks those that pass are made 0
 abbrev pub Staled : (ℕ → Bool) → Both (MutBor (List ℕ)) (MutBor (List ℕ)) → Type 0
 Staled p marks = marks.exit.now ≡ written p (λ c. 0) marks.entry.now
 
--- the place c is within left and right of the row that begins at start, and isn't skip's
-abbrev pub in_row : ℕ → ℕ → ℕ → ℕ → ℕ → Bool
-in_row start left right skip c = leb (start + left) c && ltb c (start + right) && not (eqb c (start + skip))
+-- the place c is within left and right of row i, which begins at start; on the diagonal only where that has cells
+abbrev pub in_row : ℕ → ℕ → ℕ → Bool → ℕ → ℕ → Bool
+in_row start left right diagonal i c = leb (start + left) c && ltb c (start + right) && (diagonal || not (eqb c (start + i)))
 
 -- the place c, in rows of w, is one of the block's; on the diagonal only where that has cells
 unfoldable pub in_block : ℕ → Bool → Block → ℕ → Bool
@@ -75,6 +73,6 @@ pub record CountFits (lens : List ℕ) (ng i j : ℕ) : Type 0 where
   pub listed : j ≤ most_listed
   pub before : start lens i ≤ most_places
 
--- the reply to a setting, by the number of what it is declined for
-abbrev pub set_reply : ℕ → Head → Setting → Reply
-set_reply k h s = record { head = cond (eqb k 0) (set_head h s) h; answer = unless k Done }
+-- what a setting leaves of a memory and a head, by the number of what it is declined for
+abbrev pub set_after : Memory → ℕ → Head → Setting → After
+set_after m k h s = after m (cond (eqb k 0) (set_head h s) h) (unless k Done)

@@ -1,45 +1,28 @@
 -- A query's inner steps: the stale cells of some places worked out, through parts that start at a row.
-use Rattle.std.specs.Prelude.{◌≡◌, Bool, true, false, not, ◌&&◌, List, ℕ, ◌+◌, ◌*◌, ◌-◌, ◌/◌, ◌%◌, ◌<◌, ◌≤◌, ltb, eqb, length, get_or, Float}
-use Rattle.std.specs.Float.Ieee.{neg}
+use Rattle.std.specs.Prelude.{◌≡◌, Bool, true, false, not, ◌&&◌, ◌||◌, List, ℕ, ◌+◌, ◌*◌, ◌-◌, ◌/◌, ◌%◌, ◌<◌, ◌≤◌, ltb, eqb, length, get_or, Float}
 use Rattle.arithmetic.specs.Exponential.{exp_of}
-use Rattle.arithmetic.specs.Floats.{◌⊖◌, ◌⊗◌, ◌⊘◌}
-use Rattle.arithmetic.specs.Parameters.{td_at, td_by}
-use Rattle.std.specs.Borrow.{Bor, MutBor}
+use Rattle.arithmetic.specs.Parameters.{td_at}
+use Rattle.std.specs.Borrow.{MutBor}
 use denote.Triple.Both.{Both}
-use Rattle.arithmetic.specs.Tables.{Table, Vector, at, from, grid}
+use Rattle.arithmetic.specs.Tables.{Table, Vector, at, grid}
 use Rattle.models.specs.declared.answers.Quantity.{Quantity}
-use Rattle.models.specs.Exponentials.{energy, nonrandomness}
 use Rattle.models.specs.Faults.{index_fault}
-use Rattle.models.specs.Values.{start, five_at, taus, group_as}
-use Rattle.models.specs.Steps.Unifac.{psi_by}
+use Rattle.models.specs.Values.{start, taus, group_as}
 use Rattle.mixture.specs.declared.head.Head.{Head}
 use Rattle.models.specs.declared.model.Model.{Model}
 use Rattle.mixture.specs.declared.query.Worked.{Worked}
-use Rattle.mixture.specs.declared.refill.Rows.{Rows}
 use Rattle.mixture.specs.Lists.{written, how_many}
 use Rattle.mixture.specs.Holdings.{held}
-use Rattle.mixture.specs.Cells.{width, has_cell}
+use Rattle.mixture.specs.Cells.{width}
 use Rattle.models.specs.Limits.{most_components, most_groups, most_places}
-use Rattle.models.specs.Model.{by_model, has_groups}
+use Rattle.models.specs.Model.{has_groups}
 use Rattle.mixture.specs.Memory.{Memory, least_values, least_cells, least_marks}
 use Rattle.mixture.specs.Layout.{data_in}
 use Rattle.mixture.specs.Calls.{value_by, stale_at, worked}
 
--- entry j of row i: `row` has its energies, its α or its td entries, five each; `tau` has τ at T, which only G reads; only Ψ
--- reads L = log(T)
-unfoldable pub row_cell : Model → List Float → List Float → Float → Float → ℕ → ℕ → Float
-row_cell k row tau T L i j =
-    by_model k (energy (λ _. at row) T i j) (energy (λ _. at row) T i j) (nonrandomness (λ _. at row) (λ _. at tau) i j) (psi_by row T L j)
-
--- what it is the exp of
-unfoldable pub row_argument : Model → List Float → List Float → Float → Float → ℕ → ℕ → Float
-row_argument k row tau T L i j =
-    by_model k (neg (at row j ⊖ at row i) ⊘ T) (neg (at row j ⊖ at row i) ⊘ T) (neg (at row j) ⊗ at tau j)
-    (neg (td_by (five_at row (j * 5)) T L) ⊘ T)
-
--- i, j is a cell of the model, and its mark makes it stale
-unfoldable pub stale_cell : Model → ℕ → ℕ → ℕ → Bool
-stale_cell k mark i j = has_cell k i j && not (eqb mark 1)
+-- i, j is a cell, on the diagonal only where that has cells, and its mark makes it stale
+abbrev pub stale_cell : Bool → ℕ → ℕ → ℕ → Bool
+stale_cell diagonal mark i j = (diagonal || not (eqb i j)) && not (eqb mark 1)
 
 -- the mark at c is other than 1
 abbrev pub unmarked : List ℕ → ℕ → Bool
@@ -56,71 +39,47 @@ pub record Gathered (n : ℕ) (p : ℕ → Bool) (f : Vector) (l : List Float) (
   pub counted : r ≡ how_many n p
   pub each : (j : ℕ) → j < n → p j ≡ true → at l (how_many j p) ≡ f j
 
--- the first k of some places take what stood at others, and every other place is kept
-pub record Moved (place source : ℕ → ℕ) (k : ℕ) (l l' : List Float) : Type 0 where
-  pub moved : (i : ℕ) → i < k → at l' (place i) ≡ at l (source i)
-  pub kept : (c : ℕ) → ((i : ℕ) → i < k → c ≡ place i → ⊥) → at l' c ≡ at l c
-
--- of a table by rows of w: the last row's entries, but for its own diagonal, stand on the diagonal of the rows above it
-abbrev pub Laid : ℕ → List Float → List Float → Type 0
-Laid w l l' = Moved (λ i. i * w + i) (λ i. (w - 1) * w + i) (w - 1) l l'
-
--- and back
-abbrev pub Lifted : ℕ → List Float → List Float → Type 0
-Lifted w l l' = Moved (λ i. (w - 1) * w + i) (λ i. i * w + i) (w - 1) l l'
+-- of the first n rows of a table by rows of w, but for the last: their entries on the diagonal and the last row's have changed places, and every other place is kept
+pub record Swapped (w n : ℕ) (l l' : List Float) : Type 0 where
+  pub laid : (i : ℕ) → i < n → grid w l' i i ≡ grid w l (w - 1) i
+  pub lifted : (i : ℕ) → i < n → grid w l' (w - 1) i ≡ grid w l i i
+  pub kept : (c : ℕ) → ((i : ℕ) → i < n → (c ≡ i * w + i → ⊥) × (c ≡ (w - 1) * w + i → ⊥)) → at l' c ≡ at l c
 
 -- each entry off the diagonal has the exp of what it held
 pub record OffDiagonalTaken (w : ℕ) (l l' : List Float) : Type 0 where
   pub each : (i j : ℕ) → i < w → j < w → (i ≡ j → ⊥) → grid w l' i j ≡ exp_of (grid w l i j)
 
--- ---- a row, through parts that start at it, and a table by w rows, of whose inputs row i starts at i·stride
+-- ---- a row, through parts that start at it, and a table by w rows
 
--- what its cells hold, and are the exp of
-abbrev pub cell_in : Rows → List Float → List Float → ℕ → ℕ → Float
-cell_in g row tau i j = row_cell g.model row tau g.t g.ln i j
-
-abbrev pub cell_of : Rows → List Float → List Float → ℕ → Float
-cell_of g table tau c =
-    cell_in g (from (c / g.w * g.stride) table) (from (c / g.w * g.stride) tau) (c / g.w) (c % g.w)
-
-abbrev pub argument_in : Rows → List Float → List Float → ℕ → ℕ → Float
-argument_in g row tau i j = row_argument g.model row tau g.t g.ln i j
-
-abbrev pub argument_of : Rows → List Float → List Float → ℕ → Float
-argument_of g table tau c =
-    argument_in g (from (c / g.w * g.stride) table) (from (c / g.w * g.stride) tau) (c / g.w) (c % g.w)
+-- entry i, j of a table of exponentials is the exp of A i j: these are its places
+abbrev pub cell_of : ℕ → Table → Vector
+cell_of w A c = exp_of (A (c / w) (c % w))
 
 -- its stale cells, and their number
-abbrev pub stale_in : Model → List ℕ → ℕ → ℕ → Bool
-stale_in k marks i j = stale_cell k (get_or marks j 0) i j
+abbrev pub stale_in : Bool → List ℕ → ℕ → ℕ → Bool
+stale_in d marks i j = stale_cell d (get_or marks j 0) i j
 
-abbrev pub stale_of : Model → ℕ → List ℕ → ℕ → Bool
-stale_of k w marks c = stale_cell k (get_or marks c 0) (c / w) (c % w)
+abbrev pub stale_of : Bool → ℕ → List ℕ → ℕ → Bool
+stale_of d w marks c = stale_cell d (get_or marks c 0) (c / w) (c % w)
 
-abbrev pub row_count : Model → ℕ → List ℕ → ℕ → ℕ
-row_count k w marks i = how_many w (stale_in k marks i)
+abbrev pub row_count : Bool → ℕ → List ℕ → ℕ → ℕ
+row_count d w marks i = how_many w (stale_in d marks i)
 
-abbrev pub table_count : Model → ℕ → List ℕ → ℕ
-table_count k w marks = how_many (w * w) (stale_of k w marks)
+abbrev pub table_count : Bool → ℕ → List ℕ → ℕ
+table_count d w marks = how_many (w * w) (stale_of d w marks)
 
--- what stands in l for place j, one after the other for those that pass
-abbrev pub packed : (ℕ → Bool) → List Float → ℕ → Float
-packed p l j = at l (how_many j p)
-
--- the inputs of row i, which is one of w, and a slice of so many places
-pub record RowFits (w i : ℕ) (row tau out : List Float) : Type 0 where
+-- row i, one of w, and slices of so many places
+pub record RowFits (w i : ℕ) (out : List Float) (marks : List ℕ) : Type 0 where
   pub inside : i < w
   pub few : w ≤ most_groups
-  pub fives : w * 5 ≤ length row
-  pub taus : w ≤ length tau
   pub room : w ≤ length out
+  pub marked : w ≤ length marks
 
--- the inputs of w rows, and a slice of w·w places
-pub record TableFits (w stride : ℕ) (table tau out : List Float) : Type 0 where
+-- slices of w·w places
+pub record TableFits (w : ℕ) (out : List Float) (marks : List ℕ) : Type 0 where
   pub few : w ≤ most_groups
-  pub fives : (w - 1) * stride + w * 5 ≤ length table
-  pub taus : (w - 1) * stride + w ≤ length tau
   pub room : w * w ≤ length out
+  pub marked : w * w ≤ length marks
 
 -- a slice of w·w places, for one row at least
 pub record SquareFits (w : ℕ) (a : List Float) : Type 0 where
@@ -128,27 +87,16 @@ pub record SquareFits (w : ℕ) (a : List Float) : Type 0 where
   pub few : w ≤ most_groups
   pub room : w * w ≤ length a
 
--- the exponentials, cells and marks of w rows
-pub record TakeFits (w : ℕ) (worked cells : List Float) (marks : List ℕ) : Type 0 where
-  pub few : w ≤ most_groups
-  pub table : w * w ≤ length worked
-  pub room : w * w ≤ length cells
-  pub marked : w * w ≤ length marks
-
--- all cells of a model's few rows are stale, none of them on the diagonal, and r is their number
-pub record AllStale (g : Rows) (marks : List ℕ) (r : ℕ) : Type 0 where
-  pub some : 1 ≤ g.w
-  pub few : g.w ≤ most_components
-  pub apart : has_groups g.model ≡ false
-  pub whole : r ≡ (g.w - 1) * g.w
-  pub counted : r ≡ table_count g.model g.w marks
+-- all cells of a few rows are stale, none of them on the diagonal
+pub record AllStale (d : Bool) (w : ℕ) (marks : List ℕ) : Type 0 where
+  pub some : 1 ≤ w
+  pub few : w ≤ most_components
+  pub apart : d ≡ false
+  pub whole : table_count d w marks ≡ (w - 1) * w
 
 -- ---- of slices before and after a call
 
--- floats that are read, floats and marks that are written
-abbrev Lent : Type 0 → Type 0
-Lent A = Both (Bor (List Float)) A
-
+-- floats and marks that are written
 abbrev Floats : Type 0
 Floats = Both (MutBor (List Float)) (MutBor (List Float))
 
@@ -158,30 +106,20 @@ Marks = Both (MutBor (List ℕ)) (MutBor (List ℕ))
 abbrev pub Refills : ℕ → (ℕ → Bool) → Vector → Floats → Marks → ℕ → Type 0
 Refills n p f cells marks r = Refilled n p f cells.entry.now marks.entry.now cells.exit.now marks.exit.now r
 
-abbrev pub RowRefilled : {A B : Type 0} → Rows → Lent A → Lent B → ℕ → Floats → Marks → ℕ → Type 0
-RowRefilled g row tau i cells marks r =
-    Refills g.w (stale_in g.model marks.entry.now i) (cell_in g row.entry.now tau.entry.now i) cells marks r
+-- row i by f, and w rows
+abbrev pub RowRefilled : Bool → ℕ → Vector → ℕ → Floats → Marks → ℕ → Type 0
+RowRefilled d w f i cells marks r = Refills w (stale_in d marks.entry.now i) f cells marks r
 
-abbrev pub TableRefilled : {A B : Type 0} → Rows → Lent A → Lent B → Floats → Marks → ℕ → Type 0
-TableRefilled g table tau cells marks r =
-    Refills (g.w * g.w) (stale_of g.model g.w marks.entry.now) (cell_of g table.entry.now tau.entry.now) cells marks r
+abbrev pub TableRefilled : Bool → ℕ → Vector → Floats → Marks → ℕ → Type 0
+TableRefilled d w f cells marks r = Refills (w * w) (stale_of d w marks.entry.now) f cells marks r
 
--- from a slice, and nothing is counted
-abbrev pub RowTaken : Model → ℕ → Vector → ℕ → Floats → Marks → Type 0
-RowTaken k w f i cells marks =
-    Refills w (stale_in k marks.entry.now i) f cells marks (row_count k w marks.entry.now i)
-
-abbrev pub TableTaken : Model → ℕ → Vector → Floats → Marks → Type 0
-TableTaken k w f cells marks =
-    Refills (w * w) (stale_of k w marks.entry.now) f cells marks (table_count k w marks.entry.now)
-
-abbrev pub RowGathered : {A B C D : Type 0} → Rows → Lent A → Lent B → Both (Bor (List ℕ)) C → ℕ → Both D (MutBor (List Float)) → ℕ → Type 0
-RowGathered g row tau marks i out r =
-    Gathered g.w (stale_in g.model marks.entry.now i) (argument_in g row.entry.now tau.entry.now i) out.exit.now r
+-- of w places those that pass take f: what a call that goes by a place and by how many pass before it gives
+abbrev pub Takes : ℕ → (ℕ → Bool) → (ℕ → ℕ → Float → Type 0) → Vector → Type 0
+Takes w p gives f = (j : ℕ) (r : Float) → j < w → p j ≡ true → gives j (how_many j p) r → r ≡ f j
 
 -- the cells of a model with w rows, worked out by E, and the value f of the table that they make with the others
 pub record Solved (k : Model) (w : ℕ) (E : Table) (f : Table → Float) (cells : List Float) (marks : List ℕ) (cells' : List Float) (marks' : List ℕ) (r : Worked) : Type 0 where
-  pub refilled : Refilled (w * w) (stale_of k w marks) (λ c. E (c / w) (c % w)) cells marks cells' marks' r.count
+  pub refilled : Refilled (w * w) (stale_of (has_groups k) w marks) (λ c. E (c / w) (c % w)) cells marks cells' marks' r.count
   pub solved : r.value ≡ f (grid w cells')
 
 -- the same, of slices before and after a call

@@ -1,45 +1,51 @@
--- Where a field ends that begins at a place: the search has passed the bytes before `end`, and none of them ends it.
-use mathlib.Core.Path.{◌≡◌, ◌∙◌}
-use mathlib.Core.Bool.{cond}
+-- Where a field ends: at the first byte that ends it, or with the text.
+use mathlib.Core.Path.{◌≡◌, refl, sym, ap, ◌∙◌}
+use mathlib.Core.Bool.{Bool, true, false, cond, not}
 use mathlib.Core.List.{List}
-use Prim.Native.Nat.{ℕ, suc, ◌+◌, ◌≤◌, ◌<◌}
-use native.Mathlib.Numerals.{add-one}
+use Prim.Native.Nat.{ℕ, ◌+◌, ◌-◌, ◌≤◌, ◌<◌, suc}
 use native.Mathlib.Omega.{arith}
-use lib.ListN.{length, get_or, drop, drop_of_length-le}
-use lib.Seq.{drop-cons}
-use borrow.Author.Tests.{eq-eqb, ne_eqb}
-use Rattle.models.specs.Suppliers.{comma, line_feed, ends, field_length}
+use lib.Dec.{ltb}
+use lib.ListN.{length, take, drop, length-drop}
+use lib.Seq.{take_all}
+use native.Mathlib.Nat.{le_of_eq}
+use borrow.Author.Tests.{ltb-true, ltb-false}
+use Rattle.std.specs.Prelude.{Some, None, position}
+use Rattle.std.specs.List.{position_or_len}
+use Rattle.std.proofs.lemmas.List.Recursion.{is_position_or_len}
+use Rattle.std.proofs.lemmas.List.Sums.{prefix_len-le-length}
+use Rattle.models.specs.Suppliers.{ends, field_length}
 
-pub record Passed (s : List ℕ) (at end : ℕ) : Type 0 where
-  pub same : at + field_length (drop at s) ≡ end + field_length (drop end s)
-
-length_from : (s : List ℕ) (end : ℕ) → end < length s →
-    field_length (drop end s) ≡ cond (ends (get_or s end 0)) 0 (suc (field_length (drop (suc end) s)))
+length-is : (s : List ℕ) → field_length s ≡ position_or_len ends s
 unfolding field_length
-length_from s end h = rw (drop-cons s end 0)
+length-is s = is_position_or_len field_length ends refl (λ b l. step (ends b) (field_length l)) s
+  where
+    step : (t : Bool) (n : ℕ) → cond t 0 (suc n) ≡ cond t 0 (1 + n)
+    step true n = refl
+    step false n = omega arith
 
-none_from : (s : List ℕ) (end : ℕ) → length s ≤ end → field_length (drop end s) ≡ 0
-unfolding field_length
-none_from s end h = rw (drop_of_length-le s h)
+some_at : (p m n : ℕ) (t : Bool) → ltb p m ≡ t → Some n ≡ cond t (Some p) None → (n ≡ p) × (n < m)
+some_at p m n true e f = let g : n ≡ p = cc in let h = ltb-true p m e in (g, omega arith)
+some_at p m n false e f = absurd cc
 
-module _ {s : List ℕ} {at end : ℕ} (passed : Passed s at end) where
-  here : field_length (drop end s) ≡ 0 → end ≡ at + field_length (drop at s)
-  here none = omega (arith, passed.same)
+none_at : (p m : ℕ) (t : Bool) → ltb p m ≡ t → None ≡ cond t (Some p) None → m ≤ p
+none_at p m true e f = absurd cc
+none_at p m false e f = ltb-false p m e
 
-  pub ends_with_text : length s ≤ end → end ≡ at + field_length (drop at s)
-  ends_with_text h = here (none_from s end h)
+-- in what follows a place
+module _ (s : List ℕ) (at : ℕ) where
+  abbrev lent : List ℕ
+  lent = take (length s - at) (drop at s)
 
-  module _ (h : end < length s) where
-    pub ends-at-comma : get_or s end 0 ≡ comma → end ≡ at + field_length (drop at s)
-    ends-at-comma c = here (length_from s end h ∙ rw (eq-eqb (get_or s end 0) comma c))
+  all-lent : lent ≡ drop at s
+  all-lent = take_all (length s - at) (drop at s) (le_of_eq (length-drop at s))
 
-    module _ (no-comma : get_or s end 0 ≡ comma → ⊥) where
-      pub ends-at_feed : get_or s end 0 ≡ line_feed → end ≡ at + field_length (drop at s)
-      ends-at_feed c =
-          here (length_from s end h ∙ rw (ne_eqb (get_or s end 0) comma no-comma, eq-eqb (get_or s end 0) line_feed c))
+  pub ends-before : {n : ℕ} → Some n ≡ position ends lent → (n ≡ field_length (drop at s)) × (n < length (drop at s))
+  ends-before {n} e =
+      let w = some_at (position_or_len ends (drop at s)) (length (drop at s)) n _ refl (e ∙ ap (position ends) all-lent) in
+      (w.0 ∙ sym (length-is (drop at s)), w.1)
 
-      pub one_more : (get_or s end 0 ≡ line_feed → ⊥) → Passed s at (end + 1)
-      one_more no-feed =
-          let one : field_length (drop end s) ≡ suc (field_length (drop (suc end) s)) =
-          length_from s end h ∙ rw (ne_eqb (get_or s end 0) comma no-comma, ne_eqb (get_or s end 0) line_feed no-feed) in
-          rw (add-one end) (record { same = omega (arith, passed.same) })
+  pub ends_with_text : at ≤ length s → None ≡ position ends lent → length s ≡ at + field_length (drop at s)
+  ends_with_text h e =
+      let w = none_at (position_or_len ends (drop at s)) (length (drop at s)) _ refl (e ∙ ap (position ends) all-lent) in
+      let b = prefix_len-le-length (λ b. not (ends b)) (drop at s) in
+      omega (arith, length-is (drop at s), length-drop at s)

@@ -11,8 +11,7 @@ use lib.ListN.{length, get_or, take, drop, length-append}
 use lib.Seq.{take_at, get_or_at, split_at}
 use lib.Ieee.{Float}
 use borrow.Author.Tests.{eq-eqb, ne_eqb, eqb-true, le-leb}
-use Rattle.arithmetic.specs.declared.decimals.Field.{Field}
-use Rattle.arithmetic.specs.declared.decimals.Field.TheVariants.{Number, Refused}
+use Rattle.arithmetic.specs.Refusals.{Answer, Value, Refused}
 use Rattle.arithmetic.specs.Floats.{dec}
 use Rattle.arithmetic.specs.Decimals.{is_digit, valued, digits_field, field_of, field_number, field_value, Rounded}
 use Rattle.arithmetic.specs.FieldForms.{AllDigits, sign, FieldForm, whole, pointed}
@@ -82,14 +81,14 @@ module _ (n m : ℕ) (t : List ℕ) where
 -- ---- a spelled text is accepted
 
 few-digits : (s : Bool) (a b : List ℕ) → length a + length b ≤ 15 →
-    digits_field s a b ≡ Number (dec s (valued (valued 0 a) b) (length b))
+    digits_field s a b ≡ Value (dec s (valued (valued 0 a) b) (length b))
 unfolding digits_field
 few-digits s a b h = rw (le-leb (length a + length b) 15 h)
 
-is_read : (f : Spelled) → field_of f.bytes ≡ Number (value_as f)
+is_read : (f : Spelled) → field_of f.bytes ≡ Value (value_as f)
 is_read f = reads f.form ∙ few-digits f.minus f.whole f.behind f.few
 
-number_of : {a b : Float} → Number a ≡ Number b → a ≡ b
+number_of : {a b : Float} → Value a ≡ Value b → a ≡ b
 unfolding field_value
 number_of e = ap field_value e
 
@@ -105,7 +104,7 @@ module _ (n m : ℕ) (f : Spelled) (t : List ℕ) where
   long : field_length s ≡ length f.bytes
   long = field-long n m t f.form
 
-  read_is : field_of (field s) ≡ Number (value_as f)
+  read_is : field_of (field s) ≡ Value (value_as f)
   read_is =
       let own : field s ≡ f.bytes =
       ap (λ (k : ℕ). take k s) long ∙ take_at f.bytes (separator n m ∷ t) (length f.bytes) refl in
@@ -148,7 +147,7 @@ or_12 : (b : Bool) (k : ℕ) → ◌≡◌ {A = ℕ} (cond b k 12) 0 → (b ≡ 
 or_12 true k e = (refl, e)
 or_12 false k e = absurd (omega arith)
 
-no_refusal : {x : Field} {k : ℕ} → x ≡ Refused k → field_number x ≡ 0 → k ≡ 0
+no_refusal : {x : Answer Float} {k : ℕ} → x ≡ Refused k → field_number x ≡ 0 → k ≡ 0
 unfolding field_number
 no_refusal e h = rw e at h
 

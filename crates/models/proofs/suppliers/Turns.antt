@@ -10,8 +10,7 @@ use lib.ListN.{length, get_or, take, drop, set, length-drop}
 use lib.Seq.{take-suc-set, append_snoc, get_or-drop, drop-drop}
 use lib.Ieee.{Float}
 use borrow.Author.Tests.{eq-eqb, ne_eqb}
-use Rattle.arithmetic.specs.declared.decimals.Field.{Field}
-use Rattle.arithmetic.specs.declared.decimals.Field.TheVariants.{Number, Refused}
+use Rattle.arithmetic.specs.Refusals.{Answer, Value, Refused}
 use Rattle.arithmetic.specs.Decimals.{field_of, field_number, field_value}
 use Rattle.arithmetic.proofs.decimals.Refusals.{refused-some}
 use Rattle.models.specs.Answers.{first}
@@ -63,13 +62,13 @@ none_read n s g =
     record { fault = ap (λ (m : ℕ). text_fault n m s) all; values = ap (λ (m : ℕ). text_values m s) all }
 
 -- ---- the next field, which ends at `end` and is read as r
-pub record Turn (n : ℕ) (s : List ℕ) (g : List Float) (k at end : ℕ) (r : Field) : Type 0 where
+pub record Turn (n : ℕ) (s : List ℕ) (g : List Float) (k at end : ℕ) (r : Answer Float) : Type 0 where
   pub left : Left n s g k at
   pub within : k < n * n
   pub stops : end ≡ at + field_length (drop at s)
   pub reads : r ≡ field_of (take (end - at) (drop at s))
 
-module _ {n : ℕ} {s : List ℕ} {g : List Float} {k at end : ℕ} {r : Field} (t : Turn n s g k at end r) where
+module _ {n : ℕ} {s : List ℕ} {g : List Float} {k at end : ℕ} {r : Answer Float} (t : Turn n s g k at end r) where
   -- how many follow it
   abbrev m : ℕ
   m = n * n - 1 - k
@@ -91,7 +90,7 @@ module _ {n : ℕ} {s : List ℕ} {g : List Float} {k at end : ℕ} {r : Field} 
       drop-drop (field_length (drop at s) + 1) at s ∙ ap (λ (j : ℕ). drop j s) e
 
   -- by what the field is read as, what ends it and what follows that
-  abbrev by_parts : Field → ℕ → List ℕ → ℕ
+  abbrev by_parts : Answer Float → ℕ → List ℕ → ℕ
   by_parts x b l = first (field_number x) (cond (eqb b (separator n m)) (text_fault n m l) 12)
 
   fault-is : text_fault n (n * n) s ≡ by_parts r (get_or s end 0) (drop (end + 1) s)
@@ -99,7 +98,7 @@ module _ {n : ℕ} {s : List ℕ} {g : List Float} {k at end : ℕ} {r : Field} 
       t.left.fault
       ∙ ap (λ (j : ℕ). text_fault n j (drop at s)) and_one
       ∙ fault_of_next n m (drop at s)
-      ∙ ap (λ (x : Field). by_parts x (ending (drop at s)) (rest (drop at s))) own
+      ∙ ap (λ (x : Answer Float). by_parts x (ending (drop at s)) (rest (drop at s))) own
       ∙ ap (λ (b : ℕ). by_parts r b (rest (drop at s))) ending-is
       ∙ ap (λ (l : List ℕ). by_parts r (get_or s end 0) l) rest-is
 
@@ -109,7 +108,7 @@ module _ {n : ℕ} {s : List ℕ} {g : List Float} {k at end : ℕ} {r : Field} 
       let some : f ≡ 0 → ⊥ = λ h. refused-some _ (own ∙ e ∙ ap Refused h) in
       (sym (fault-is ∙ rw (e, ne_eqb f 0 some)), some)
 
-  module _ {v : Float} (e : r ≡ Number v) where
+  module _ {v : Float} (e : r ≡ Value v) where
     fault-after : text_fault n (n * n) s
         ≡ cond (eqb (get_or s end 0) (separator n m)) (text_fault n m (drop (end + 1) s)) 12
     unfolding field_number

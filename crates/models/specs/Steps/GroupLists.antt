@@ -1,5 +1,5 @@
 -- The group lists that UNIFAC's sums may read, and a sum that is kept for every group at once.
-use Rattle.std.specs.Prelude.{◌≡◌, cond, List, ℕ, ◌+◌, ◌*◌, ◌-◌, ◌<◌, ◌≤◌, eqb, length, get_or, Float}
+use Rattle.std.specs.Prelude.{◌≡◌, cond, List, ℕ, ◌+◌, ◌*◌, ◌<◌, ◌≤◌, eqb, length, get_or, Float}
 use Rattle.std.specs.Borrow.{Bor}
 use denote.Triple.Both.{Both}
 use Rattle.arithmetic.specs.Floats.{◌⊕◌, ◌⊗◌}
@@ -21,30 +21,18 @@ pub record Paired (ng : ℕ) (list : List ℕ) (counts : List Float) : Type 0 wh
   pub counted : length counts ≡ length list
   pub below : (p : ℕ) → p < length list → get_or list p 0 < ng
 
--- the places from s to below e lie within the slices, and each group named up to there is below ng
-pub record Places (ng s e : ℕ) (groups : List ℕ) (counts : List Float) : Type 0 where
-  pub ordered : s ≤ e
-  pub within : e ≤ length groups
-  pub counted : e ≤ length counts
-  pub below : (p : ℕ) → p < e → get_or groups p 0 < ng
+-- component i lists the same pairs in c and d, of groups below ng
+pub record SameList (ng : ℕ) (c d : Groups) (i : ℕ) : Type 0 where
+  pub lengths : c.length i ≡ d.length i
+  pub groups : (p : ℕ) → p < c.length i → c.group i p ≡ d.group i p
+  pub counts : (p : ℕ) → p < c.length i → c.count i p ≡ d.count i p
+  pub below : (p : ℕ) → p < c.length i → c.group i p < ng
 
--- the list in slices of its own, as every component's, and likewise that from s to below e
+-- one list in slices of its own, as every component's
 abbrev pub own : List ℕ → List Float → Groups
 own list counts = record { length = λ _. length list; group = λ _ p. get_or list p 0; count = λ _ p. at counts p }
 
-abbrev pub placed : ℕ → ℕ → List ℕ → List Float → Groups
-placed s e groups counts = record { length = λ _. e - s; group = λ _ p. get_or groups (s + p) 0; count = λ _ p. at counts (s + p) }
-
--- the lists in a call's arguments: one list, that at some places, all lists, and all with their counts among the values
-abbrev pub own_list : {A B : Type 0} → Both (Bor (List ℕ)) A → Both (Bor (List Float)) B → Groups
-own_list list counts = own list.entry.now counts.entry.now
-
-abbrev pub placed_list : {A B : Type 0} → ℕ → ℕ → Both (Bor (List ℕ)) A → Both (Bor (List Float)) B → Groups
-placed_list s e groups counts = placed s e groups.entry.now counts.entry.now
-
-abbrev pub lists_of : {A B C : Type 0} → Both (Bor (List ℕ)) A → Both (Bor (List ℕ)) B → Both (Bor (List Float)) C → Groups
-lists_of lens groups counts = lists lens.entry.now groups.entry.now counts.entry.now
-
+-- the lists in a call's arguments, with their counts among the values
 abbrev pub held_lists : {A B C : Type 0} → ℕ → Both (Bor (List ℕ)) A → Both (Bor (List ℕ)) B → Both (Bor (List Float)) C → Groups
 held_lists ng lens groups values = lists lens.entry.now groups.entry.now (from (counts_at ng) values.entry.now)
 

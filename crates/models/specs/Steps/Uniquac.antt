@@ -1,7 +1,6 @@
 -- Inner contracts: what UNIQUAC's functions read, and what a call works out once for all components.
 use Rattle.std.specs.Prelude.{◌≡◌, List, ℕ, ◌*◌, ◌≤◌, Float, length}
 use Rattle.arithmetic.specs.Floats.{◌⊕◌, ◌⊖◌, ◌⊗◌, ◌⊘◌, one, half}
-use Rattle.arithmetic.specs.Logarithm.{log_of}
 use Rattle.arithmetic.specs.Sums.{sum}
 use Rattle.arithmetic.specs.Tables.{Table, Vector, Filled}
 use Rattle.models.specs.Limits.{most_components}
@@ -29,6 +28,6 @@ pub record UniquacShared (n : ℕ) (r q : Vector) (E : Table) (x : Vector) (rx l
 unfoldable pub combinatorial_by : Float → Float → Float → Float → Float → Float → Float
 combinatorial_by r q segment ln_segment ln_area lx = ln_segment ⊕ half ⊗ Z ⊗ q ⊗ ln_area ⊕ (half ⊗ Z ⊗ (r ⊖ q) ⊖ (r ⊖ one)) ⊖ segment ⊗ lx
 
--- the same from x_i, r_i, q_i, θ_i, Σ_j x_j r_j and Σ_j x_j l_j
-unfoldable pub combinatorial_of : Float → Float → Float → Float → Float → Float → Float
-combinatorial_of x r q θ rx lx = let φ = x ⊗ r ⊘ rx in combinatorial_by r q (φ ⊘ x) (log_of (φ ⊘ x)) (log_of (θ ⊘ φ)) lx
+-- the residual part, from q_i, the table, θ, its column sums S and the log of the i-th
+unfoldable pub residual_by : ℕ → Float → Table → Vector → Vector → Float → ℕ → Float
+residual_by n q E θ S ln_sum i = q ⊗ (one ⊖ ln_sum ⊖ sum n (λ j. θ j ⊗ tau E i j ⊘ S j))

@@ -8,6 +8,10 @@ use native.Mathlib.Numerals.{add-one}
 use lib.ListN.{length, replicate}
 use lib.Ieee.{Float, binary64, of_bits}
 use borrow.Author.Tests.{eq-eqb, ne_eqb, le-ltb}
+use Rattle.std.specs.Prelude.{Result, Ok, Err}
+use Rattle.std.specs.Result.{result_unwrap_or}
+use Rattle.arithmetic.specs.declared.refusal.Refusal.{Refusal}
+use Rattle.arithmetic.specs.Refusals.{answer_of}
 use Rattle.arithmetic.specs.Bytes.{floats, floats_at, float_at}
 use Rattle.arithmetic.specs.Floats.{+0}
 use Rattle.models.specs.declared.answers.Quantity.{Quantity}
@@ -15,12 +19,11 @@ use Rattle.mixture.specs.declared.head.Head.{Head}
 use Rattle.models.specs.declared.model.Model.{Model}
 use Rattle.mixture.specs.declared.setting.Setting.{Setting}
 use Rattle.mixture.specs.declared.setting.Setting.TheVariants.{Temperature}
-use Rattle.mixture.specs.declared.answers.Answer.{Answer}
-use Rattle.models.specs.declared.answers.Answer as Plain
+use Rattle.arithmetic.specs.Refusals as Plain
 use Rattle.models.specs.Answers.{quantity_of}
 use Rattle.models.specs.Faults.{usual_tolerance}
 use Rattle.models.specs.Model.{ModelData, model_data, model_of}
-use Rattle.mixture.specs.Answers.{value_of}
+use Rattle.mixture.specs.Answers.{Answer, value_of}
 use Rattle.mixture.specs.Memory.{Memory, memory, After, after}
 use Rattle.mixture.specs.Calls.{no_head, after_open, after_load, after_setting, after_fractions, after_query}
 use Rattle.models.specs.Plain.{plain_call}
@@ -29,7 +32,7 @@ use Rattle.repeat.specs.Exports.{plain_value, setting_of, asked, set_and_asked, 
 pub begun-is : (m : Memory) (h : Head) (d : ModelData) (x : List Float) {m₁ m₂ : Memory} {h₁ h₂ : Head} {a₁ a₂ : Answer} {r : After} →
     after m₁ h₁ a₁ ≡ after_open m h → after m₂ h₂ a₂ ≡ after_load m₁ h₁ d → r ≡ after_fractions m₂ h₂ x → r ≡ begun m h d x
 unfolding begun
-begun-is m h d x e f p = p ∙ ap (λ (b : After). after_fractions b.memory b.reply.head x) (f ∙ ap (λ (b : After). after_load b.memory b.reply.head d) e)
+begun-is m h d x e f p = p ∙ ap (λ (b : After). after_fractions b.memory b.head x) (f ∙ ap (λ (b : After). after_load b.memory b.head d) e)
 
 -- queries
 module _ (q : Quantity) (a : After) where
@@ -41,8 +44,8 @@ module _ (q : Quantity) (a : After) where
   unfolding asked_times asked
   asked-more n e p = rw (add-one n) (p ∙ ap (asked q) e)
 
-  pub asked-done : (j n : ℕ) {b : After} → b ≡ asked_times j q a → j ≤ n → n ≤ j → value_of b.reply.answer ≡ value_of (asked_times n q a).reply.answer
-  asked-done j n e p s = ap (λ (b : After). value_of b.reply.answer) e ∙ ap (λ (i : ℕ). value_of (asked_times i q a).reply.answer) (le_antisymm p s)
+  pub asked-done : (j n : ℕ) {b : After} → b ≡ asked_times j q a → j ≤ n → n ≤ j → value_of b.answer ≡ value_of (asked_times n q a).answer
+  asked-done j n e p s = ap (λ (b : After). value_of b.answer) e ∙ ap (λ (i : ℕ). value_of (asked_times i q a).answer) (le_antisymm p s)
 
 module _ (change : ℕ) (k : Model) (v : Float) (q : Quantity) (T : ℕ → Float) (a : After) where
   -- settings with a query each, from T i on
@@ -72,15 +75,15 @@ module _ (change : ℕ) (k : Model) (v : Float) (q : Quantity) (T : ℕ → Floa
     unfolding set_times setting_of
     first-is = e
 
-    pub turns-asked : {r : Float} → change ≡ 0 → r ≡ value_of (asked_times (n - 1) q b).reply.answer → r ≡ value_of (turns n change k v q T a).reply.answer
+    pub turns-asked : {r : Float} → change ≡ 0 → r ≡ value_of (asked_times (n - 1) q b).answer → r ≡ value_of (turns n change k v q T a).answer
     unfolding turns
     turns-asked ze p = rw (eq-eqb change 0 ze, ← first-is) p
 
-    pub turns-set : {c : After} → (change ≡ 0 → ⊥) → c ≡ set_times (n - 1) change k v q (λ j. T (1 + j)) b → value_of c.reply.answer ≡ value_of (turns n change k v q T a).reply.answer
+    pub turns-set : {c : After} → (change ≡ 0 → ⊥) → c ≡ set_times (n - 1) change k v q (λ j. T (1 + j)) b → value_of c.answer ≡ value_of (turns n change k v q T a).answer
     unfolding turns
-    turns-set ne p = rw (ne_eqb change 0 ne, ← first-is) (ap (λ (c : After). value_of c.reply.answer) p)
+    turns-set ne p = rw (ne_eqb change 0 ne, ← first-is) (ap (λ (c : After). value_of c.answer) p)
 
-pub plain_usual : (d : ModelData) (T : Float) (x : List Float) (q : Quantity) {a : Plain.Answer} {ε r : Float} →
+pub plain_usual : (d : ModelData) (T : Float) (x : List Float) (q : Quantity) {a : Plain.Answer Float} {ε r : Float} →
     ε ≡ usual_tolerance → a ≡ plain_call d T ε x q → r ≡ plain_value a → r ≡ plain_value (plain_call d T usual_tolerance x q)
 plain_usual d T x q e p s = s ∙ ap plain_value (p ∙ ap (λ (ε : Float). plain_call d T ε x q) e)
 
@@ -101,7 +104,7 @@ module _ (d : ModelData) (x : List Float) (q : Quantity) (T : ℕ → Float) whe
     unfolding repeated
     repeated-plain e p = rw (eq-eqb change 3 e) p
 
-    pub repeated-kept : {r : Float} → (change ≡ 3 → ⊥) → r ≡ value_of (turns n change d.model v q T (begun zeros no_head d x)).reply.answer → r ≡ repeated n d x q change v T
+    pub repeated-kept : {r : Float} → (change ≡ 3 → ⊥) → r ≡ value_of (turns n change d.model v q T (begun zeros no_head d x)).answer → r ≡ repeated n d x q change v T
     unfolding repeated
     repeated-kept ne p = rw (ne_eqb change 3 ne) p
 
@@ -117,11 +120,11 @@ code_zeros = ap (λ (z : Float). memory (replicate 5328 z) (replicate 1024 z) (r
 -- the mixture on zeros, from its opening to its last turn
 pub kept-is : (n change : ℕ) (k : Model) (v : Float) (q : Quantity) (T : ℕ → Float) (d : ModelData) (x : List Float) {h : Head} {b : After} {r : Float} →
     h ≡ no_head → b ≡ begun (memory (replicate 5328 (of_bits binary64 0)) (replicate 1024 (of_bits binary64 0)) (replicate 1024 0)) h d x →
-    r ≡ value_of (turns n change k v q T b).reply.answer →
-    r ≡ value_of (turns n change k v q T (begun zeros no_head d x)).reply.answer
+    r ≡ value_of (turns n change k v q T b).answer →
+    r ≡ value_of (turns n change k v q T (begun zeros no_head d x)).answer
 kept-is n change k v q T d x {h = h} hh p e =
     e
-    ∙ ap (λ (b : After). value_of (turns n change k v q T b).reply.answer)
+    ∙ ap (λ (b : After). value_of (turns n change k v q T b).answer)
     (p ∙ ap (λ (m : Memory). begun m h d x) code_zeros ∙ ap (λ (h : Head). begun zeros h d x) hh)
 
 -- values and fractions decoded
@@ -133,3 +136,9 @@ pub bytes-are : (model n ng : ℕ) (lens groups values x : List ℕ) (asked i ch
 unfolding repeated_bytes floats
 bytes-are model n ng lens groups values x asked i change v temperatures a b c km el ey eq p =
     rw (le-ltb 5328 (length values / 8) a, le-ltb 12 (length x / 8) b, le-ltb (length temperatures) 8 c, ← km, ← el, ← ey, ← eq) p
+
+-- a plain call's value, or the code's 0.0
+pub value-or : (r : Result Float Refusal) → result_unwrap_or r (of_bits binary64 0) ≡ plain_value (answer_of r)
+unfolding plain_value answer_of of_bits
+value-or (Ok v) = refl
+value-or (Err e) = refl

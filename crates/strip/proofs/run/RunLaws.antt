@@ -10,18 +10,15 @@ use lib.Dec.{ltb}
 use lib.ListN.{length, length-append}
 use lib.Seq.{sets}
 use borrow.Author.Tests.{lt-ltb, le-ltb}
-use Rattle.mixture.specs.declared.answers.Answer.{Answer}
+use Rattle.mixture.specs.Answers.{Answer}
 use Rattle.mixture.specs.declared.head.Head.{Head}
 use Rattle.mixture.specs.Memory.{Memory, is_short, After}
 use Rattle.mixture.specs.Calls.{after_open}
 use Rattle.mixture.specs.Book.{Call, empty, book_answers}
 use Rattle.mixture.specs.History.{after_call, answers}
 use Rattle.mixture.proofs.History.History.{history}
-use Rattle.strip.specs.declared.records.Rec.{Rec}
-use Rattle.strip.specs.declared.records.Read.{Read}
-use Rattle.strip.specs.declared.records.Read.TheVariants.{Record, Broken, End}
 use Rattle.strip.specs.Words.{most_bytes}
-use Rattle.strip.specs.Records.{read_at}
+use Rattle.strip.specs.Records.{Rec, Read, Record, Broken, End, read_at}
 use Rattle.strip.specs.Calls.{call_of}
 use Rattle.strip.specs.Text.{line, broken, Put}
 use Rattle.strip.specs.Run.{Script, script, script_by, script_from, script_of, lines, transcript}
@@ -54,7 +51,7 @@ script_enough s (suc k) (suc j) p h g = go (script_enough s k j) (read_at s p) r
 
 -- after a call: its line, and the text from the next record on
 abbrev told : List ℕ → ℕ → After → List ℕ
-told s p a = line a.reply.answer ++ rest s p a.memory a.reply.head
+told s p a = line a.answer ++ rest s p a.memory a.head
 
 script_record : (s : List ℕ) (p : ℕ) (r : Rec) → read_at s p ≡ Record r
     → script_from s (length s - p) p ≡ script (call_of s r ∷ (script_from s (length s - r.next) r.next).calls) (script_from s (length s - r.next) r.next).ending
@@ -72,7 +69,7 @@ unfolding rest answers lines
 rest_record s p m h r e =
     let a = after_call m h (call_of s r) in
     rw (script_record s p r e)
-    (append_assoc (line a.reply.answer) (lines (answers a.memory a.reply.head (script_from s (length s - r.next) r.next).calls)) (script_from s (length s - r.next) r.next).ending)
+    (append_assoc (line a.answer) (lines (answers a.memory a.head (script_from s (length s - r.next) r.next).calls)) (script_from s (length s - r.next) r.next).ending)
 
 rest_end : (s : List ℕ) (p : ℕ) (m : Memory) (h : Head) → length s ≤ p → rest s p m h ≡ []
 unfolding rest answers lines
@@ -96,12 +93,12 @@ walk_starts s out₀ m h = record { same = refl; long = zero-add _ }
 
 module _ {s out₀ text : List ℕ} {at : ℕ} {m : Memory} {h : Head} {pos : ℕ} {out : List ℕ} (w : Walked s out₀ text at m h pos out) where
   pub walk_turn : {r : Rec} → read_at s at ≡ Record r → {a : After} → a ≡ after_call m h (call_of s r)
-      → {k : ℕ} {out' : List ℕ} → Put out pos (line a.reply.answer) k out' → Walked s out₀ text r.next a.memory a.reply.head (pos + k) out'
+      → {k : ℕ} {out' : List ℕ} → Put out pos (line a.answer) k out' → Walked s out₀ text r.next a.memory a.head (pos + k) out'
   walk_turn {r} e {a} q p =
       let t : rest s at m h ≡ told s r.next a = rest_record s at m h r e ∙ ap (told s r.next) (sym q) in
       record {
-        same = rw (p.text, p.long) (sym (sets-append out pos (line a.reply.answer) _) ∙ (ap (λ (z : List ℕ). sets out pos z) (sym t) ∙ w.same));
-        long = omega (arith, p.long, w.long, ap length t, length-append (line a.reply.answer) (rest s r.next a.memory a.reply.head));
+        same = rw (p.text, p.long) (sym (sets-append out pos (line a.answer) _) ∙ (ap (λ (z : List ℕ). sets out pos z) (sym t) ∙ w.same));
+        long = omega (arith, p.long, w.long, ap length t, length-append (line a.answer) (rest s r.next a.memory a.head));
       }
 
   pub walk_ends : length s ≤ at → Put out₀ 0 text pos out
@@ -124,12 +121,12 @@ tail : List Answer → List Answer
 tail [] = []
 tail (a ∷ l) = l
 
-opened : (m : Memory) (h : Head) (a : After) → a ≡ after_open m h → is_short m ≡ false → (cs : List Call) → answers a.memory a.reply.head cs ≡ book_answers empty [] cs
+opened : (m : Memory) (h : Head) (a : After) → a ≡ after_open m h → is_short m ≡ false → (cs : List Call) → answers a.memory a.head cs ≡ book_answers empty [] cs
 unfolding answers after_call tail
-opened m h a e g cs = ap (λ (z : After). answers z.memory z.reply.head cs) e ∙ ap tail (history m h cs g)
+opened m h a e g cs = ap (λ (z : After). answers z.memory z.head cs) e ∙ ap tail (history m h cs g)
 
 rest-opened : (s : List ℕ) (m : Memory) (h : Head) (a : After) → a ≡ after_open m h → is_short m ≡ false
-    → rest s 0 a.memory a.reply.head ≡ lines (book_answers empty [] (script_of s).calls) ++ (script_of s).ending
+    → rest s 0 a.memory a.head ≡ lines (book_answers empty [] (script_of s).calls) ++ (script_of s).ending
 unfolding rest script_of
 rest-opened s m h a e g =
     let z : length s - 0 ≡ length s = omega arith in
@@ -144,6 +141,6 @@ unfolding walked
 walked-short s m h n p = rw (le-ltb most_bytes (length s) n) p
 
 pub run_opened : (s : List ℕ) (m : Memory) (h : Head) (a : After) {l l' : List ℕ} {r : ℕ} → a ≡ after_open m h → is_short m ≡ false
-    → Put l 0 (walked s a.memory a.reply.head) r l' → Put l 0 (transcript s) r l'
+    → Put l 0 (walked s a.memory a.head) r l' → Put l 0 (transcript s) r l'
 unfolding walked transcript
 run_opened s m h a e g p = put_same p (ap (cond (ltb most_bytes (length s)) broken) (rest-opened s m h a e g))

@@ -1,0 +1,11 @@
+-- The rows above i are refilled.
+use Rattle.std.proofs.Common.{◌*◌}
+use Rattle.arithmetic.specs.Tables.{at}
+use Rattle.mixture.specs.Steps.Refills.{stale_of}
+use Rattle.mixture.proofs.RefillLaws.{Refilling}
+use Rattle.mixture.proofs.refill.take_rows.Given as goal
+
+abbrev pub invariant-loop-i : goal.invariant-loop-i
+invariant-loop-i g l =
+    let w = g.I.Inputs.rows l.inputs in
+    Refilling (l.i * w) (stale_of g.I.Inputs.diagonal w l.fn.marks) (at l.worked) l.fn.cells l.fn.marks l.cells l.marks l.count

@@ -1,0 +1,139 @@
+// What a table of exponentials is worked out from: a type for each kind of inputs, by rows.
+ghost use Rattle.std.specs.Prelude.{◌≡◌, Bool, true, false, ℕ, ◌+◌, ◌*◌, ◌≤◌, ◌<◌, length, Float};
+ghost use Rattle.arithmetic.specs.Tables.{grid, Filled};
+ghost use Rattle.models.specs.Limits.{most_groups};
+ghost use Rattle.mixture.specs.Steps.Inputs.{energy_argument, nonrandomness_argument, group_argument};
+
+// The inputs of so many rows and columns of exponentials. Each entry is the exp of its argument.
+pub trait Inputs: Copy {
+    ghost rows: { Self → ℕ };
+
+    ghost argument: { Self → ℕ → ℕ → Float };
+
+    ghost diagonal: { Bool };
+
+    // Whether the table has cells on its diagonal.
+    fn has_diagonal(self) -> bool
+        ensures { result ≡ diagonal };
+
+    fn rows(self) -> usize
+        ensures { (result ≡ rows self) × (result ≤ most_groups) };
+
+    // What entry j of row i is the exp of.
+    fn argument(self, i: usize, j: usize) -> f64
+        requires { (i < rows self) × (j < rows self) }
+        ensures { result ≡ argument self i j };
+
+    // Writes what the entries of row i are the exp of, at the diagonal as well, so that the row runs without a
+    // test.
+    fn fill_arguments(self, i: usize, out: &mut [f64])
+        requires { (i < rows self) × (rows self ≤ length out.old) }
+        ensures { Filled (argument self i) (rows self) out.new };
+}
+
+// Wilson's and UNIQUAC's energies a, by full rows of w.
+#[derive(Clone, Copy)]
+pub struct Energies<'a> {
+    pub w: usize,
+    pub a: &'a [f64],
+    pub t: f64,
+    ghost few: { w ≤ most_groups },
+    ghost full: { w * w ≤ length a.now },
+}
+
+impl<'a> Inputs for Energies<'a> {
+    ghost rows = { λ s. s.w };
+
+    ghost argument = { λ s. energy_argument (grid s.w s.a.now) s.t };
+
+    ghost diagonal = { false };
+
+    fn has_diagonal(self) -> bool {
+        false
+    }
+
+    fn rows(self) -> usize {
+        self.w
+    }
+
+    fn argument(self, i: usize, j: usize) -> f64 {
+        models::exponentials::argument(&self.a[i * self.w..], self.t, i, j)
+    }
+
+    fn fill_arguments(self, i: usize, out: &mut [f64]) {
+        models::exponentials::fill_arguments(&self.a[i * self.w..], self.t, self.w, i, out);
+    }
+}
+
+// NRTL's α, and τ at T, both by full rows of w.
+#[derive(Clone, Copy)]
+pub struct Nonrandomness<'a> {
+    pub w: usize,
+    pub alpha: &'a [f64],
+    pub tau: &'a [f64],
+    ghost few: { w ≤ most_groups },
+    ghost full_alpha: { w * w ≤ length alpha.now },
+    ghost full_tau: { w * w ≤ length tau.now },
+}
+
+impl<'a> Inputs for Nonrandomness<'a> {
+    ghost rows = { λ s. s.w };
+
+    ghost argument = { λ s. nonrandomness_argument (grid s.w s.alpha.now) (grid s.w s.tau.now) };
+
+    ghost diagonal = { false };
+
+    fn has_diagonal(self) -> bool {
+        false
+    }
+
+    fn rows(self) -> usize {
+        self.w
+    }
+
+    fn argument(self, i: usize, j: usize) -> f64 {
+        let place = i * self.w + j;
+        models::nrtl::argument(self.alpha[place], self.tau[place])
+    }
+
+    fn fill_arguments(self, i: usize, out: &mut [f64]) {
+        let start = i * self.w;
+        models::nrtl::fill_arguments(&self.alpha[start..], &self.tau[start..], self.w, out);
+    }
+}
+
+// UNIFAC's td entries, five each, by full rows of w; ln is log(T).
+#[derive(Clone, Copy)]
+pub struct GroupEnergies<'a> {
+    pub w: usize,
+    pub entries: &'a [f64],
+    pub t: f64,
+    pub ln: f64,
+    ghost few: { w ≤ most_groups },
+    ghost full: { w * w * 5 ≤ length entries.now },
+}
+
+impl<'a> Inputs for GroupEnergies<'a> {
+    ghost rows = { λ s. s.w };
+
+    ghost argument = { λ s. group_argument s.w s.entries.now s.t s.ln };
+
+    ghost diagonal = { true };
+
+    fn has_diagonal(self) -> bool {
+        true
+    }
+
+    fn rows(self) -> usize {
+        self.w
+    }
+
+    fn argument(self, i: usize, j: usize) -> f64 {
+        models::unifac::argument(&self.entries[i * self.w * 5..], self.t, self.ln, j)
+    }
+
+    fn fill_arguments(self, i: usize, out: &mut [f64]) {
+        let row = &self.entries[i * self.w * 5..];
+        models::unifac::fill_arguments(row, self.t, self.ln, self.w, out);
+    }
+}

@@ -1,0 +1,5 @@
+use Rattle.std.proofs.Common.{rules}
+use Rattle.models.proofs.parameters.fill_values_by.Goals as goal
+
+pub returns : goal.returns
+returns c = c.fill.ensures _ (λ k b r p. search rules)

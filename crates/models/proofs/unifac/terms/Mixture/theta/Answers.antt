@@ -1,0 +1,14 @@
+use Rattle.std.proofs.Common.{refl, arith}
+use Rattle.arithmetic.proofs.TableLaws.{filling_none, filling_more, filling_done}
+use Rattle.models.specs.Unifac as Unifac
+use Rattle.models.proofs.unifac.terms.Mixture.theta.Goals as goal
+
+pub loop-k-init : goal.loop-k-init
+loop-k-init c = filling_none (omega (arith, c.args.self.now.lists.few_groups)) refl
+
+pub loop-k-preserved : goal.loop-k-preserved
+unfolding Unifac.theta
+loop-k-preserved c = filling_more c.loop-k-test.true c.loop-k.invariant (rw c.dot-sum.ensures)
+
+pub returns : goal.returns
+returns c = filling_done c.loop-k-test.false c.loop-k.invariant
