@@ -150,14 +150,24 @@ shape_size n s size values e = by_test (leb n 12) refl
     by_test true p = rw (e (omega (arith, leb-true n 12 p)))
     by_test false p = rw (p, and-false (leb 1 n))
 
--- what a plain call answers, from a check r that refuses as it does
-module _ (d : ModelData) (T ε : Float) (x : List Float) (q : Quantity) {A : Type 0} {r : Result A Refusal} (f : refused_number r ≡ first (data_fault d) (fractions_fault ε d.n x q)) where
-  pub plain-refused : {e : Refusal} (s : Result Float Refusal) → r ≡ Err e → IsErrAnd s (λ y. y ≡ e) → answer_of s ≡ plain_call d T ε x q
-  unfolding plain_call answer_of refused_number
-  plain-refused {e} s p h =
-      let on = err_from_is_err_and s h in
-      let g = rw p at f in rw (on.1, on.2) (answer-refused _ g (λ z. number-positive e z))
+-- what a plain call answers, from its first fault
+module _ (d : ModelData) (T ε : Float) (x : List Float) (q : Quantity) {k : ℕ} (f : k ≡ first (data_fault d) (fractions_fault ε d.n x q)) where
+  pub plain-refused : (k ≡ 0 → ⊥) → Refused k ≡ plain_call d T ε x q
+  unfolding plain_call
+  plain-refused ne = answer-refused _ f ne
 
-  pub plain_value_lem : {a : A} {v : Float} → r ≡ Ok a → v ≡ value_at d T (at x) q → answer_of (Ok v) ≡ plain_call d T ε x q
-  unfolding plain_call answer_of
-  plain_value_lem p e = answer-value f (passed-number p) e
+  pub plain_value_lem : {v : Float} → k ≡ 0 → v ≡ value_at d T (at x) q → Value v ≡ plain_call d T ε x q
+  unfolding plain_call
+  plain_value_lem z p = answer-value f z p
+
+-- the same from a check r that refuses as it does
+module _ (d : ModelData) (T ε : Float) (x : List Float) (q : Quantity) {A : Type 0} {r : Result A Refusal} (f : refused_number r ≡ first (data_fault d) (fractions_fault ε d.n x q)) where
+  pub plain-refused-on : {e : Refusal} (s : Result Float Refusal) → r ≡ Err e → IsErrAnd s (λ y. y ≡ e) → answer_of s ≡ plain_call d T ε x q
+  unfolding answer_of refused_number
+  plain-refused-on {e} s p h =
+      let on = err_from_is_err_and s h in
+      let g = rw p at f in rw (on.1, on.2) (plain-refused d T ε x q g (number-positive e))
+
+  pub plain-passed-on : {a : A} {v : Float} → r ≡ Ok a → v ≡ value_at d T (at x) q → answer_of (Ok v) ≡ plain_call d T ε x q
+  unfolding answer_of
+  plain-passed-on p e = plain_value_lem d T ε x q f (passed-number p) e
