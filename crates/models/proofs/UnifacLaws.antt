@@ -325,6 +325,22 @@ pub listed_same : {n ng : ℕ} {lens groups : List ℕ} {counts : List Float} �
 unfolding lists
 listed_same {n} {ng} {lens} all i h = same_self ng _ i (λ p b. all.below (start lens i + p) (list_place lens i n p h b))
 
+-- a table whose rows that count are those of the pure components
+pub value-pure : (n ng : ℕ) (lens groups : List ℕ) (values table : List Float) (Ψ : ℕ → ℕ → Float) (x : ℕ → Float) (q : Quantity) {s a b : ℕ} {v : Float} → Loaded n ng lens groups values → index_fault n q ≡ 0 → s ≡ counts_at ng →
+    ((i : ℕ) → i < n → reads q i ≡ true → (a ≤ i) × (i < b)) → ListedRows a b ng (lists lens groups (from s values)) (pure ng (lists lens groups (from s values)) (at (from ng values)) Ψ) table →
+    v ≡ unifac_by n ng (lists lens groups (from (counts_at ng) values)) (group_rs ng values) (group_qs ng values) Ψ (grid ng table) x q →
+    v ≡ unifac n ng (lists lens groups (from (counts_at ng) values)) (group_rs ng values) (group_qs ng values) Ψ x q
+unfolding unifac group_qs counts_at
+value-pure n ng lens groups values table Ψ x q {s} {a} {b} all z e span rows p =
+    let own : ListedRows a b ng (lists lens groups (from (counts_at ng) values)) (pure ng (lists lens groups (from (counts_at ng) values)) (at (from ng values)) Ψ) table = rw e at rows in
+    let same = listed_same all.listed in
+    p
+    ∙ unifac_by_same n ng _ _ same
+    _ _ (λ k b. refl) _ _ (λ m k b c. refl) _ _ (λ i h. refl) _ _ (λ k b. refl) (grid ng table) _ q z
+    (λ i h r p c.
+    own.each i (span i h r).0 (span i h r).1 p c
+    ∙ pure-one-same (same i h) _ _ (λ k b. from_at values ng k (omega (arith, all.tables))) Ψ Ψ (λ m k b c. refl) _ ((same i h).below p c))
+
 -- a mixture that holds the values goes by the parts where Q and the counts start
 module _ (n ng : ℕ) (lens groups : List ℕ) (values psi x : List Float) (m : Mixture) (has : HasData n ng lens groups values psi x m) (table : List Float) (q : Quantity) (all : Loaded n ng lens groups values) (z : index_fault n q ≡ 0) where
   pub value-from : {v : Float} → v ≡ unifac_by m.lists.n m.lists.ng (lists_of m.lists) (r_of m) (q_of m) (psi_of m) (grid m.lists.ng table) (x_of m) q →
@@ -336,22 +352,12 @@ module _ (n ng : ℕ) (lens groups : List ℕ) (values psi x : List Float) (m : 
       _ _ (λ k b. from_at values ng k (omega (arith, all.tables)))
       _ _ (λ m k b c. refl) _ _ (λ i h. refl) _ _ (λ k b. refl) (grid ng table) (grid ng table) q z (λ i h r p b. refl)
 
-  -- a table whose rows that count are those of the pure components
-  pub value-pure : {first last : ℕ} {v : Float} → ((i : ℕ) → i < n → reads q i ≡ true → (first ≤ i) × (i < last)) →
+  -- the same of what it holds
+  pub value-held : {first last : ℕ} {v : Float} → ((i : ℕ) → i < n → reads q i ≡ true → (first ≤ i) × (i < last)) →
       ListedRows first last m.lists.ng (lists_of m.lists) (pure m.lists.ng (lists_of m.lists) (q_of m) (psi_of m)) table →
       v ≡ unifac_by n ng (lists lens groups (from (counts_at ng) values)) (group_rs ng values) (group_qs ng values) (grid ng psi) (grid ng table) (at x) q →
       v ≡ unifac n ng (lists lens groups (from (counts_at ng) values)) (group_rs ng values) (group_qs ng values) (grid ng psi) (at x) q
-  unfolding unifac group_qs counts_at
-  value-pure {first} {last} span rows p =
-      let own : ListedRows first last ng (lists lens groups (from (counts_at ng) values)) (pure ng (lists lens groups (from (counts_at ng) values)) (at (from ng values)) (grid ng psi)) table =
-      rw (has.width, has.lengths, has.names, has.counts, has.qs, has.psis) at rows in
-      let same = listed_same all.listed in
-      p
-      ∙ unifac_by_same n ng _ _ same
-      _ _ (λ k b. refl) _ _ (λ m k b c. refl) _ _ (λ i h. refl) _ _ (λ k b. refl) (grid ng table) _ q z
-      (λ i h r p c.
-      own.each i (span i h r).0 (span i h r).1 p c
-      ∙ pure-one-same (same i h) _ _ (λ k b. from_at values ng k (omega (arith, all.tables))) (grid ng psi) (grid ng psi) (λ m k b c. refl) _ ((same i h).below p c))
+  value-held span rows = value-pure n ng lens groups values table (grid ng psi) (at x) q all z refl span (rw (has.width, has.lengths, has.names, has.counts, has.qs, has.psis) at rows)
 
 -- a table that is filled with the exponentials at T
 pub value-filled : (n ng : ℕ) (lens groups : List ℕ) (values table : List Float) (x : ℕ → Float) (T : Float) (q : Quantity) {v : Float} → Loaded n ng lens groups values → index_fault n q ≡ 0 →
