@@ -1,6 +1,6 @@
 // The words of a list: 16 lowercase hexadecimal digits, followed by one blank, or by LF at the end of
 // a line.
-ghost use Rattle.std.specs.Prelude.{◌≤◌, IfOk};
+ghost use Rattle.std.specs.Prelude.{◌≡◌, ◌≤◌, length, IfOk, IfSome};
 
 use arithmetic::bytes::float_of;
 use reading::read_full;
@@ -38,7 +38,9 @@ impl Entry for u8 {
 }
 
 // The value of a digit.
-fn digit(b: u8) -> Option<u64> {
+fn digit(b: u8) -> Option<u64>
+    ensures { IfSome result (λ d. d ≤ 15) }
+{
     match b {
         b'0'..=b'9' => Some(u64::from(b - b'0')),
         b'a'..=b'f' => Some(u64::from(b - b'a') + 10),
@@ -79,7 +81,9 @@ pub fn length<R: Read>(file: &mut R, room: usize) -> Result<usize, Fault>
 }
 
 // The row that follows, with its length before it, read into the first places.
-pub fn row<'a, R: Read, T: Entry>(file: &mut R, room: &'a mut [T]) -> Result<&'a [T], Fault> {
+pub fn row<'a, R: Read, T: Entry>(file: &mut R, room: &'a mut [T]) -> Result<&'a [T], Fault>
+    ensures { IfOk result (λ s. length s.now ≤ length room.old) }
+{
     let n = length(file, room.len())?;
     let row = &mut room[..n];
     for entry in row.iter_mut() {
@@ -89,7 +93,9 @@ pub fn row<'a, R: Read, T: Entry>(file: &mut R, room: &'a mut [T]) -> Result<&'a
 }
 
 // The next n bytes, read into the first places.
-pub fn bytes<'a, R: Read>(file: &mut R, room: &'a mut [u8], n: usize) -> Result<&'a [u8], Fault> {
+pub fn bytes<'a, R: Read>(file: &mut R, room: &'a mut [u8], n: usize) -> Result<&'a [u8], Fault>
+    ensures { IfOk result (λ s. length s.now ≡ n) }
+{
     if room.len() < n {
         return Err(Fault::Broken);
     }
