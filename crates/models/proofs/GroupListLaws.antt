@@ -161,6 +161,12 @@ front_filled n f num {front} room long all =
     let size : length (take n num) ≡ n = length-take-le n num room in
     record { each = λ k h. get_or-append front (drop n num) nan k (omega arith) ∙ all.each k (omega arith) ∙ ap f (get_or-take n num k nan h) }
 
+-- the first n numbers over w, as a part that was lent
+pub over-front : (n : ℕ) (w : Float) (num : List Float) {r : List Float} → n ≤ length num → Filled (λ k. at (take n num) k ⊘ w) (length (take n num)) r → Filled (λ k. at num k ⊘ w) n r
+over-front n w num room all =
+    let size : length (take n num) ≡ n = length-take-le n num room in
+    record { each = λ k h. all.each k (omega arith) ∙ ap (λ v. v ⊘ w) (get_or-take n num k nan h) }
+
 module _ (c : Groups) (x : ℕ → Float) where
   pub amount-none : (m : ℕ) {num : List Float} → Filled (λ _. +0) m num → Filled (amount 0 c x) m num
   unfolding amount fold

@@ -40,7 +40,9 @@ impl<'a> Data<'a> {
         }
     }
 
-    // What a load declines: 2, 3 and 4.
+    // What a load declines: 2, 3 and 4. It goes into its callers, so that none of them has to put the data
+    // together in memory for it.
+    #[inline(always)]
     pub fn fault(&self) -> Result<(), Refusal>
         ensures refused { number_of result ≡ data_fault (given self.now) }
         ensures passed { OnOk result (Ready (given self.now)) }

@@ -31,7 +31,6 @@ pub struct GroupList<'a> {
     pub ng: usize,
     pub groups: &'a [u8],
     pub counts: &'a [f64],
-    ghost few: { ng ≤ most_groups },
     ghost paired: { Paired ng groups.now counts.now },
 }
 
@@ -73,14 +72,14 @@ impl<'a> GroupList<'a> {
         }
     }
 
-    // X of each group in the pure component.
-    pub fn fractions(&self) -> [f64; GROUPS]
-        ensures { Filled (pure_fraction (list_of self.now) 0) self.now.ng result }
+    // Writes X of each group in the pure component.
+    pub fn fractions(&self, out: &mut [f64])
+        requires { (self.now.ng ≤ most_groups) × (self.now.ng ≤ length out.old) }
+        ensures { Filled (pure_fraction (list_of self.now) 0) self.now.ng out.new }
     {
         let mut num = [0.0; GROUPS];
         self.put_counts(&mut num[..]);
-        divide(&mut num[..self.ng], arithmetic::sum(self.counts));
-        num
+        divide(&num[..self.ng], arithmetic::sum(self.counts), out);
     }
 
     // The sum of count·(m - p): m has ln Γ in the mixture, p in the pure component.
@@ -97,12 +96,13 @@ impl<'a> GroupList<'a> {
     }
 }
 
-// Divides each number by d.
-fn divide(num: &mut [f64], d: f64)
-    ensures { Filled (λ k. at num.old k ⊘ d) (length num.old) num.new }
+// Writes each number over d.
+fn divide(num: &[f64], d: f64, out: &mut [f64])
+    requires { length num.now ≤ length out.old }
+    ensures { Filled (λ k. at num.now k ⊘ d) (length num.now) out.new }
 {
-    for v in num {
-        *v = *v / d;
+    for (k, v) in num.iter().enumerate() {
+        out[k] = *v / d;
     }
 }
 
@@ -115,7 +115,6 @@ pub struct GroupLists<'a> {
     pub groups: &'a [u8],
     pub counts: &'a [f64],
     ghost few: { n ≤ most_components },
-    ghost few_groups: { ng ≤ most_groups },
     ghost listed: { Listed n ng lens.now groups.now counts.now },
 }
 
@@ -183,18 +182,18 @@ impl<'a> GroupLists<'a> {
         sum
     }
 
-    // X of each group in the mixture.
-    pub fn fractions(&self, x: &[f64]) -> [f64; GROUPS]
-        requires { self.now.n ≤ length x.now }
-        ensures { Filled (fraction self.now.n (lists_of self.now) (at x.now)) self.now.ng result }
+    // Writes X of each group in the mixture where zeros stand.
+    pub fn fractions(&self, x: &[f64], out: &mut [f64])
+        requires { (self.now.n ≤ length x.now)
+            × (self.now.ng ≤ most_groups)
+            × (self.now.ng ≤ length out.old)
+            × Filled (λ _. +0) self.now.ng out.old }
+        ensures { Filled (fraction self.now.n (lists_of self.now) (at x.now)) self.now.ng out.new }
     {
         let mut num = [0.0; GROUPS];
         let sum = self.amounts(x, &mut num[..]);
         if sum > 0.0 {
-            divide(&mut num[..self.ng], sum);
-            num
-        } else {
-            [0.0; GROUPS]
+            divide(&num[..self.ng], sum, out);
         }
     }
 }

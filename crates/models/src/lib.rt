@@ -19,5 +19,6 @@ pub mod uniquac;
 pub mod wilson;
 
 pub use answers::{Answer, Quantity};
+pub use arithmetic::Refusal;
 pub use data::Data;
 pub use model::Model;

@@ -176,7 +176,9 @@ pub fn value_over(n: usize, tau: &[f64], g: &[f64], x: &[f64], q: Quantity) -> f
     Data { n, tau, g, x }.value(q)
 }
 
-// The quantity at T, from the values: τ by rows, five each, then α.
+// The quantity at T, from the values: τ by rows, five each, then α. It stays apart from its caller, so that
+// its two tables are on the stack for NRTL alone.
+#[inline(never)]
 pub fn value_at(n: usize, values: &[f64], t: f64, x: &[f64], q: Quantity) -> f64
     requires { ValueFits n (nrtl_size n) values.now x.now q }
     ensures { let v = values.now in

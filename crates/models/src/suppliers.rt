@@ -1,5 +1,5 @@
 // A supplier's list of energies, for a load of Wilson or UNIQUAC: document 02, Change 2.
-ghost use Rattle.std.specs.Prelude.{◌≡◌, ◌+◌, ◌*◌, ◌≤◌, length, take, drop, position, IfOk};
+ghost use Rattle.std.specs.Prelude.{◌≡◌, ◌+◌, ◌*◌, ◌≤◌, length, take, drop, position, OnOk};
 ghost use Rattle.arithmetic.specs.Refusals.{number_of};
 ghost use Rattle.models.specs.Limits.{most_components, most_named};
 ghost use Rattle.models.specs.Suppliers.{ends, field_length, text_fault, text_values, import_fault, imported};
@@ -40,12 +40,11 @@ fn separator(n: usize, m: usize) -> u8
 }
 
 // Reads the fields in turn into the first places, up to the first fault.
-fn read_fields(text: &[u8], n: usize) -> Result<[f64; PAIRS], Refusal>
-    requires { (1 ≤ n) × (n ≤ most_components) }
+fn read_fields(text: &[u8], n: usize, entries: &mut [f64]) -> Result<(), Refusal>
+    requires { (1 ≤ n) × (n ≤ most_components) × (n * n ≤ length entries.old) }
     ensures refused { number_of result ≡ text_fault n (n * n) text.now }
-    ensures passed { IfOk result (λ entries. take (n * n) entries ≡ text_values (n * n) text.now) }
+    ensures passed { OnOk result (take (n * n) entries.new ≡ text_values (n * n) text.now) }
 {
-    let mut entries = [0.0; PAIRS];
     let mut at = 0;
     let count = n * n;
     for k in 0..count {
@@ -61,7 +60,7 @@ fn read_fields(text: &[u8], n: usize) -> Result<[f64; PAIRS], Refusal>
     if at < text.len() {
         return Err(Refusal::Form);
     }
-    Ok(entries)
+    Ok(())
 }
 
 // How many entries n components have. Past 255, which `shape_fault` refuses, it answers 0.
@@ -79,7 +78,8 @@ pub fn import(text: &[u8], n: usize, entries: &mut [f64]) -> Result<(), Refusal>
 {
     let count = square(n);
     shape_fault(n, count, entries)?;
-    let found = read_fields(text, n)?;
+    let mut found = [0.0; PAIRS];
+    read_fields(text, n, &mut found)?;
     copy(&found[..count], entries);
     Ok(())
 }

@@ -18,8 +18,8 @@ mod terms;
 
 use crate::answers::Quantity;
 use crate::limits::{PURE, TABLE};
-use std::ops::Range;
 use terms::Mixture;
+pub use terms::Shared;
 
 // What Ψ of column k is the exp of: row is the part of the td entries, five each, from its row on; ln is
 // log(T).
@@ -98,15 +98,25 @@ pub fn value_over(
     Mixture::of(n, ng, lens, groups, values, psi, x).value(pure, q)
 }
 
-// The components that a quantity goes by.
-fn span_of(n: usize, q: Quantity) -> Range<usize>
+// The components from first to below last.
+#[derive(Clone, Copy)]
+pub struct Span {
+    pub first: usize,
+    pub last: usize,
+}
+
+// Those that a quantity goes by.
+fn span_of(n: usize, q: Quantity) -> Span
     requires { (n ≤ most_components) × (index_fault n q ≡ 0) }
-    ensures { (result.end ≤ n)
-        × ((i : ℕ) → i < n → reads q i ≡ true → (result.start ≤ i) × (i < result.end)) }
+    ensures { (result.last ≤ n)
+        × ((i : ℕ) → i < n → reads q i ≡ true → (result.first ≤ i) × (i < result.last)) }
 {
     match q {
-        Quantity::LnGamma(i) | Quantity::Gamma(i) => i..i + 1,
-        Quantity::ExcessGibbs => 0..n,
+        Quantity::LnGamma(i) | Quantity::Gamma(i) => Span {
+            first: i,
+            last: i + 1,
+        },
+        Quantity::ExcessGibbs => Span { first: 0, last: n },
     }
 }
 
@@ -130,11 +140,13 @@ pub fn value_by(
     let mixture = Mixture::of(n, ng, lens, groups, values, psi, x);
     let span = span_of(n, q);
     let mut pure = [0.0; PURE];
-    mixture.fill_pure(span.start, span.end, &mut pure[..]);
+    mixture.fill_pure(span.first, span.last, &mut pure[..]);
     value_over(n, ng, lens, groups, values, psi, &pure[..], x, q)
 }
 
-// The quantity at T, from the values: R's, Q's, a by rows, five each, then the counts, list after list.
+// The quantity at T, from the values: R's, Q's, a by rows, five each, then the counts, list after list. It
+// stays apart from its caller, so that the table of Ψ is on the stack for UNIFAC alone.
+#[inline(never)]
 pub fn value_at(
     n: usize,
     ng: usize,

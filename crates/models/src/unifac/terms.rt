@@ -1,7 +1,7 @@
 // The terms of UNIFAC's ln γ over a table of Ψ: Θ, ln Γ in the mixture and in the pure components, and their
 // sums.
 ghost use Rattle.std.specs.Prelude.{◌≡◌, ◌+◌, ◌*◌, ◌<◌, ◌≤◌, length};
-ghost use Rattle.arithmetic.specs.Floats.{◌⊖◌, ◌⊗◌, ◌⊘◌, one};
+ghost use Rattle.arithmetic.specs.Floats.{◌⊖◌, ◌⊗◌, ◌⊘◌, +0, one};
 ghost use Rattle.arithmetic.specs.Sums.{sum};
 ghost use Rattle.arithmetic.specs.Tables.{at, grid, Filled};
 ghost use Rattle.models.specs.Limits.{most_components, most_groups};
@@ -63,6 +63,7 @@ pub struct Mixture<'a> {
     pub q: &'a [f64],
     pub psi: &'a [f64],
     pub x: &'a [f64],
+    ghost few_groups: { lists.ng ≤ most_groups },
     ghost rs: { lists.ng ≤ length r.now },
     ghost qs: { lists.ng ≤ length q.now },
     ghost square: { lists.ng * lists.ng ≤ length psi.now },
@@ -111,34 +112,31 @@ impl<'a> Mixture<'a> {
         }
     }
 
-    // Θ of each group from the group fractions.
-    fn theta(&self, fractions: &[f64]) -> [f64; GROUPS]
-        requires { self.now.lists.ng ≤ length fractions.now }
+    // Writes Θ of each group from the group fractions.
+    fn theta(&self, fractions: &[f64], out: &mut [f64])
+        requires { (self.now.lists.ng ≤ length fractions.now) × (self.now.lists.ng ≤ length out.old) }
         ensures { let mix = self.now in let ng = mix.lists.ng in
-            Filled (theta ng (q_of mix) (at fractions.now)) ng result }
+            Filled (theta ng (q_of mix) (at fractions.now)) ng out.new }
     {
         let ng = self.lists.ng;
         let sum = arithmetic::dot(ng, self.q, fractions);
-        let mut theta = [0.0; GROUPS];
         for k in 0..ng {
-            theta[k] = self.q[k] * fractions[k] / sum;
+            out[k] = self.q[k] * fractions[k] / sum;
         }
-        theta
     }
 
-    // The sum of Θ_m Ψ_mk for each k, row after row.
-    fn column_sums(&self, theta: &[f64]) -> [f64; GROUPS]
-        requires { self.now.lists.ng ≤ length theta.now }
+    // The sum of Θ_m Ψ_mk for each k, row after row; sums has zeros at first.
+    fn column_sums(&self, theta: &[f64], sums: &mut [f64])
+        requires { let ng = self.now.lists.ng in
+            (ng ≤ length theta.now) × (ng ≤ length sums.old) × Filled (λ _. +0) ng sums.old }
         ensures { let mix = self.now in let ng = mix.lists.ng in
-            Filled (column_sum ng (psi_of mix) (at theta.now)) ng result }
+            Filled (column_sum ng (psi_of mix) (at theta.now)) ng sums.new }
     {
         let ng = self.lists.ng;
-        let mut sums = [0.0; GROUPS];
         for m in 0..ng {
             let place = m * ng;
-            columns::add_row(&self.psi[place..], theta[m], ng, &mut sums[..]);
+            columns::add_row(&self.psi[place..], theta[m], ng, sums);
         }
-        sums
     }
 
     // ln Γ of group k from the log of its column sum and all column sums.
@@ -155,21 +153,20 @@ impl<'a> Mixture<'a> {
         self.q[k] * (1.0 - log - row_sum(ng, theta, &self.psi[place..], sums))
     }
 
-    // ln Γ of each group; the column sums that every one divides by, and their logs, are worked out once.
-    fn gammas(&self, theta: &[f64]) -> [f64; GROUPS]
-        requires { self.now.lists.ng ≤ length theta.now }
+    // Writes ln Γ of each group; the column sums that every one divides by, and their logs, are worked out once.
+    fn gammas(&self, theta: &[f64], out: &mut [f64])
+        requires { (self.now.lists.ng ≤ length theta.now) × (self.now.lists.ng ≤ length out.old) }
         ensures { let mix = self.now in let ng = mix.lists.ng in
-            Filled (ln_group ng (q_of mix) (psi_of mix) (at theta.now)) ng result }
+            Filled (ln_group ng (q_of mix) (psi_of mix) (at theta.now)) ng out.new }
     {
         let ng = self.lists.ng;
-        let sums = self.column_sums(theta);
+        let mut sums = [0.0; GROUPS];
+        self.column_sums(theta, &mut sums[..]);
         let mut logs = sums;
         arithmetic::log_each(&mut logs[..], ng);
-        let mut gammas = [0.0; GROUPS];
         for k in 0..ng {
-            gammas[k] = self.group_gamma(k, logs[k], theta, &sums[..]);
+            out[k] = self.group_gamma(k, logs[k], theta, &sums[..]);
         }
-        gammas
     }
 
     // Writes ln Γ of the groups that a list names, each at its own place.
@@ -181,7 +178,8 @@ impl<'a> Mixture<'a> {
             Named (length list.now.groups.now) (λ p. get_or list.now.groups.now p 0)
             (ln_group ng (q_of mix) (psi_of mix) (at theta.now)) out.new }
     {
-        let sums = self.column_sums(theta);
+        let mut sums = [0.0; GROUPS];
+        self.column_sums(theta, &mut sums[..]);
         for g in list.groups {
             let k = usize::from(*g);
             let log = arithmetic::log(sums[k]);
@@ -196,8 +194,10 @@ impl<'a> Mixture<'a> {
             Named (length list.now.groups.now) (λ p. get_or list.now.groups.now p 0)
             (pure ng (list_of list.now) (q_of mix) (psi_of mix) 0) out.new }
     {
-        let fractions = list.fractions();
-        let theta = self.theta(&fractions[..]);
+        let mut fractions = [0.0; GROUPS];
+        list.fractions(&mut fractions[..]);
+        let mut theta = [0.0; GROUPS];
+        self.theta(&fractions[..], &mut theta[..]);
         self.gammas_of(list, &theta[..], out);
     }
 
@@ -226,13 +226,15 @@ impl<'a> Mixture<'a> {
         Shared { r, q, rs, qs }
     }
 
-    // Θ of each group in the mixture.
-    fn theta_mixed(&self) -> [f64; GROUPS]
+    // Writes Θ of each group in the mixture.
+    fn theta_mixed(&self, out: &mut [f64])
+        requires { self.now.lists.ng ≤ length out.old }
         ensures { let mix = self.now in let ng = mix.lists.ng in
-            Filled (theta ng (q_of mix) (fraction mix.lists.n (lists_of mix.lists) (x_of mix))) ng result }
+            Filled (theta ng (q_of mix) (fraction mix.lists.n (lists_of mix.lists) (x_of mix))) ng out.new }
     {
-        let fractions = self.lists.fractions(self.x);
-        self.theta(&fractions[..])
+        let mut fractions = [0.0; GROUPS];
+        self.lists.fractions(self.x, &mut fractions[..]);
+        self.theta(&fractions[..], out);
     }
 
     // ln γ of component i from what the components share, Θ and the table of pure ln Γ.
@@ -260,7 +262,8 @@ impl<'a> Mixture<'a> {
             result ≡ sum mix.lists.n (λ i. x_of mix i
             ⊗ ln_from shared.now ng (lists_of mix.lists) (q_of mix) (psi_of mix) (at theta.now) P i) }
     {
-        let gammas = self.gammas(theta);
+        let mut gammas = [0.0; GROUPS];
+        self.gammas(theta, &mut gammas[..]);
         let mut total = 0.0;
         for (i, list) in self.lists.each() {
             let place = i * self.lists.ng;
@@ -279,7 +282,8 @@ impl<'a> Mixture<'a> {
             (grid ng pure.now) (x_of mix) asked }
     {
         let shared = self.share();
-        let theta = self.theta_mixed();
+        let mut theta = [0.0; GROUPS];
+        self.theta_mixed(&mut theta[..]);
         match asked {
             Quantity::LnGamma(i) => self.ln_gamma(&shared, &theta[..], pure, i),
             Quantity::Gamma(i) => arithmetic::exp(self.ln_gamma(&shared, &theta[..], pure, i)),

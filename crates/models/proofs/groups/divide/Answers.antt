@@ -1,13 +1,12 @@
-use Rattle.std.proofs.Common.{ap, arith}
-use Rattle.arithmetic.specs.Floats.{◌⊘◌}
-use Rattle.arithmetic.proofs.TableLaws.{rewriting_none, rewriting_next, rewriting_more, rewriting_filled}
+use Rattle.std.proofs.Common.{refl}
+use Rattle.arithmetic.proofs.TableLaws.{filling_none, filling_more, filling_done}
 use Rattle.models.proofs.groups.divide.Goals as goal
 
-pub loop-v-init : goal.loop-v-init
-loop-v-init c = rewriting_none (omega arith)
+pub loop-k-init : goal.loop-k-init
+loop-k-init c = filling_none c.requires refl
 
-pub loop-v-preserved : goal.loop-v-preserved
-loop-v-preserved c = rewriting_more (omega arith) (ap (λ v. v ⊘ c.args.d) (rewriting_next (omega arith) c.loop-v.invariant)) c.loop-v.invariant
+pub loop-k-preserved : goal.loop-k-preserved
+loop-k-preserved c = filling_more c.loop-k-test.true c.loop-k.invariant refl
 
 pub returns : goal.returns
-returns c = rewriting_filled (omega arith) c.loop-v.invariant
+returns c = filling_done c.loop-k-test.false c.loop-k.invariant

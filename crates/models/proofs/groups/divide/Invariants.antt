@@ -1,8 +1,8 @@
 use Rattle.std.proofs.Common.{length}
 use Rattle.arithmetic.specs.Floats.{◌⊘◌}
 use Rattle.arithmetic.specs.Tables.{at}
-use Rattle.arithmetic.proofs.TableLaws.{Rewriting}
+use Rattle.arithmetic.proofs.TableLaws.{Filling}
 use Rattle.models.proofs.groups.divide.Given as goal
 
-abbrev pub invariant-loop-v : goal.invariant-loop-v
-invariant-loop-v l = Rewriting (λ k. at l.initial.v-items k ⊘ l.d) (length l.initial.v-items) l.initial.v-items l.v-index l.v-items
+abbrev pub invariant-loop-k : goal.invariant-loop-k
+invariant-loop-k l = Filling (λ k. at l.num k ⊘ l.d) (length l.num) (length l.initial.out) l.k l.out

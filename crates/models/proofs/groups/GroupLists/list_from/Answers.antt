@@ -37,7 +37,7 @@ invariant_of-result c =
     let a = c.args in
     let s = a.self.now in
     let end : a.place + c.from.result ≡ a.place + get_or s.lens.now a.i 0 = omega arith in
-    record { few = s.few_groups; paired = list_paired s.listed c.requires.0 c.requires.1 end }
+    record { paired = list_paired s.listed c.requires.0 c.requires.1 end }
 
 pub returns : goal.returns
 returns c =

@@ -2,13 +2,13 @@ use Rattle.std.proofs.Common.{◌*◌, ap, refl, arith}
 use lib.Ieee.{Float}
 use Rattle.arithmetic.specs.Floats.{◌⊗◌}
 use Rattle.arithmetic.specs.Tables.{at}
-use Rattle.arithmetic.proofs.TableLaws.{row-end, from_at, filled-less}
+use Rattle.arithmetic.proofs.TableLaws.{row-end, from_at}
 use Rattle.models.specs.Columns.{column_sum}
-use Rattle.models.proofs.ColumnLaws.{zeros, columns-none, columns-more, columns-done}
+use Rattle.models.proofs.ColumnLaws.{columns-none, columns-more, columns-done}
 use Rattle.models.proofs.unifac.terms.Mixture.column_sums.Goals as goal
 
 pub loop-m-init : goal.loop-m-init
-loop-m-init c = let few = c.args.self.now.lists.few_groups in columns-none few refl (filled-less few (zeros 32))
+loop-m-init c = columns-none c.requires.1 refl c.requires.2
 
 pub loop-m-preserved : goal.loop-m-preserved
 loop-m-preserved c =

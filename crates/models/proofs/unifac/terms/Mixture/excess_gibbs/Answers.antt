@@ -24,7 +24,7 @@ loop-i-preserved c =
     let here : c.in-Some.i < a.n = omega (arith, n.0, n.1) in
     let list = rw (← n.1) at n.2 in
     let room : c.in-Some.i * a.ng + a.ng ≤ length c.args.pure.now = omega (arith, row-end a.n a.ng c.in-Some.i here, c.requires.1) in
-    let residual = residual-own _ _ list.same _ c.args.pure.now (named_filled list.same.below c.gammas-gammas.ensures) room c.residual-residual.ensures in
+    let residual = residual-own _ _ list.same _ c.args.pure.now (named_filled list.same.below c.gammas.ensures) room c.residual-residual.ensures in
     let ln = ln_from_lem c.args.shared.now a.ng _ _ _ _ _ c.in-Some.i c.combinatorial.ensures residual in
     record { same = n.3; within = omega (arith, n.0, n.4); total = rw n.4 (sum_more _ _ c.loop-i.invariant.total (rw (ln, n.1))) }
 

@@ -20,7 +20,7 @@ invariant_of-result c =
     let values = c.args.values.now in
     let room = before-counts ng in
     let tables = c.requires.0.tables in
-    record { rs = omega arith; qs = omega (arith, from-length ng values); square = c.requires.1; fractions = c.requires.2 }
+    record { few_groups = c.requires.0.few_groups; rs = omega arith; qs = omega (arith, from-length ng values); square = c.requires.1; fractions = c.requires.2 }
 
 pub returns : goal.returns
 returns c = record { components = refl; width = refl; lengths = refl; names = refl; counts = rw c.counts_at-place.ensures.0; rs = refl; qs = refl; psis = refl; fractions = refl }

@@ -7,6 +7,6 @@ pub returns : goal.returns
 unfolding Unifac.pure
 returns c =
     let l = c.args.list.now in
-    let fractions = rw c.requires.0 at c.fractions-fractions.ensures in
+    let fractions = rw c.requires.0 at c.fractions.ensures in
     let below = rw c.requires.0 at l.paired.below in
-    groups-from _ _ _ _ _ _ below fractions c.theta-theta.ensures c.gammas_of.ensures
+    groups-from _ _ _ _ _ _ below fractions c.theta.ensures c.gammas_of.ensures

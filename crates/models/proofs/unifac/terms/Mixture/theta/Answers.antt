@@ -1,10 +1,10 @@
-use Rattle.std.proofs.Common.{refl, arith}
+use Rattle.std.proofs.Common.{refl}
 use Rattle.arithmetic.proofs.TableLaws.{filling_none, filling_more, filling_done}
 use Rattle.models.specs.Unifac as Unifac
 use Rattle.models.proofs.unifac.terms.Mixture.theta.Goals as goal
 
 pub loop-k-init : goal.loop-k-init
-loop-k-init c = filling_none (omega (arith, c.args.self.now.lists.few_groups)) refl
+loop-k-init c = filling_none c.requires.1 refl
 
 pub loop-k-preserved : goal.loop-k-preserved
 unfolding Unifac.theta
