@@ -3,7 +3,7 @@ ghost use Rattle.std.specs.Prelude.{◌≡◌, [], ◌≤◌, length};
 ghost use Rattle.models.specs.Faults.{usual_tolerance};
 ghost use Rattle.models.specs.Limits.{most_components, most_places};
 ghost use Rattle.mixture.specs.Lists.{padded};
-ghost use Rattle.mixture.specs.Calls.{fresh_head, no_head};
+ghost use Rattle.mixture.specs.Calls.{fresh_head, no_head, unset_head};
 
 use models::faults::usual_tolerance;
 use models::limits::{COMPONENTS, PLACES};
@@ -35,34 +35,43 @@ pub fn padded<T: Copy, const N: usize>(items: &[T], rest: T) -> [T; N]
     all
 }
 
-// The head without a model.
-pub fn no_head() -> Head
-    ensures { result ≡ no_head }
+// A head with a tolerance, T and fractions unset.
+fn unset_head(
+    tolerance: f64,
+    model: u8,
+    n: usize,
+    ng: usize,
+    lens: [u8; COMPONENTS],
+    groups: [u8; PLACES],
+) -> Head
+    ensures { result ≡ unset_head tolerance model n ng lens groups }
 {
     Head {
-        model: 0,
-        n: 0,
-        ng: 0,
-        lens: [0; COMPONENTS],
-        groups: [0; PLACES],
+        model,
+        n,
+        ng,
+        lens,
+        groups,
         t: 0.0,
         x: [0.0; COMPONENTS],
         has_t: false,
         has_x: false,
-        tolerance: 0.0,
+        tolerance,
     }
+}
+
+// The head without a model.
+pub fn no_head() -> Head
+    ensures { result ≡ no_head }
+{
+    unset_head(0.0, 0, 0, 0, [0; COMPONENTS], [0; PLACES])
 }
 
 // The head of a load without lists.
 pub fn bare_head(model: u8, n: usize) -> Head
     ensures { result ≡ fresh_head usual_tolerance model n 0 [] [] }
 {
-    Head {
-        model,
-        n,
-        tolerance: usual_tolerance(),
-        ..no_head()
-    }
+    unset_head(usual_tolerance(), model, n, 0, [0; COMPONENTS], [0; PLACES])
 }
 
 // The same with lists.
@@ -71,10 +80,12 @@ pub fn listed_head(model: u8, n: usize, ng: usize, lens: &[u8], groups: &[u8]) -
     ensures { result
         ≡ fresh_head usual_tolerance model n ng lens.now groups.now }
 {
-    Head {
+    unset_head(
+        usual_tolerance(),
+        model,
+        n,
         ng,
-        lens: padded(lens, 0),
-        groups: padded(groups, 0),
-        ..bare_head(model, n)
-    }
+        padded(lens, 0),
+        padded(groups, 0),
+    )
 }

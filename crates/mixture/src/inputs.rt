@@ -1,5 +1,6 @@
 // What a table of exponentials is worked out from: a type for each kind of inputs, by rows.
-ghost use Rattle.std.specs.Prelude.{◌≡◌, Bool, true, false, ℕ, ◌+◌, ◌*◌, ◌≤◌, ◌<◌, length, Float};
+ghost use Rattle.std.specs.Prelude.{◌≡◌, Bool, true, false, ℕ, ◌+◌, ◌-◌, ◌*◌, ◌≤◌, ◌<◌, length, Float};
+ghost use Rattle.arithmetic.specs.Exponential.{exp_of};
 ghost use Rattle.arithmetic.specs.Tables.{grid, Filled};
 ghost use Rattle.models.specs.Limits.{most_groups};
 ghost use Rattle.mixture.specs.Steps.Inputs.{energy_argument, nonrandomness_argument, group_argument};
@@ -24,6 +25,11 @@ pub trait Inputs: Copy {
         requires { (i < rows self) × (j < rows self) }
         ensures { result ≡ argument self i j };
 
+    // Entry j of row i.
+    fn exponential(self, i: usize, j: usize) -> f64
+        requires { (i < rows self) × (j < rows self) }
+        ensures { result ≡ exp_of (argument self i j) };
+
     // Writes what the entries of row i are the exp of, at the diagonal as well, so that the row runs without a
     // test.
     fn fill_arguments(self, i: usize, out: &mut [f64])
@@ -31,20 +37,21 @@ pub trait Inputs: Copy {
         ensures { Filled (argument self i) (rows self) out.new };
 }
 
-// Wilson's and UNIQUAC's energies a, by full rows of w.
+// Wilson's and UNIQUAC's energies a, by w rows of w that start `stride` apart.
 #[derive(Clone, Copy)]
 pub struct Energies<'a> {
     pub w: usize,
+    pub stride: usize,
     pub a: &'a [f64],
     pub t: f64,
     ghost few: { w ≤ most_groups },
-    ghost full: { w * w ≤ length a.now },
+    ghost full: { (w - 1) * stride + w ≤ length a.now },
 }
 
 impl<'a> Inputs for Energies<'a> {
     ghost rows = { λ s. s.w };
 
-    ghost argument = { λ s. energy_argument (grid s.w s.a.now) s.t };
+    ghost argument = { λ s. energy_argument (grid s.stride s.a.now) s.t };
 
     ghost diagonal = { false };
 
@@ -57,29 +64,34 @@ impl<'a> Inputs for Energies<'a> {
     }
 
     fn argument(self, i: usize, j: usize) -> f64 {
-        models::exponentials::argument(&self.a[i * self.w..], self.t, i, j)
+        models::exponentials::argument(&self.a[i * self.stride..], self.t, i, j)
+    }
+
+    fn exponential(self, i: usize, j: usize) -> f64 {
+        models::exponentials::energy(&self.a[i * self.stride..], self.t, i, j)
     }
 
     fn fill_arguments(self, i: usize, out: &mut [f64]) {
-        models::exponentials::fill_arguments(&self.a[i * self.w..], self.t, self.w, i, out);
+        models::exponentials::fill_arguments(&self.a[i * self.stride..], self.t, self.w, i, out);
     }
 }
 
-// NRTL's α, and τ at T, both by full rows of w.
+// NRTL's α, and τ at T, both by w rows of w that start `stride` apart.
 #[derive(Clone, Copy)]
 pub struct Nonrandomness<'a> {
     pub w: usize,
+    pub stride: usize,
     pub alpha: &'a [f64],
     pub tau: &'a [f64],
     ghost few: { w ≤ most_groups },
-    ghost full_alpha: { w * w ≤ length alpha.now },
-    ghost full_tau: { w * w ≤ length tau.now },
+    ghost full_alpha: { (w - 1) * stride + w ≤ length alpha.now },
+    ghost full_tau: { (w - 1) * stride + w ≤ length tau.now },
 }
 
 impl<'a> Inputs for Nonrandomness<'a> {
     ghost rows = { λ s. s.w };
 
-    ghost argument = { λ s. nonrandomness_argument (grid s.w s.alpha.now) (grid s.w s.tau.now) };
+    ghost argument = { λ s. nonrandomness_argument (grid s.stride s.alpha.now) (grid s.stride s.tau.now) };
 
     ghost diagonal = { false };
 
@@ -92,31 +104,37 @@ impl<'a> Inputs for Nonrandomness<'a> {
     }
 
     fn argument(self, i: usize, j: usize) -> f64 {
-        let place = i * self.w + j;
+        let place = i * self.stride + j;
         models::nrtl::argument(self.alpha[place], self.tau[place])
     }
 
+    fn exponential(self, i: usize, j: usize) -> f64 {
+        let place = i * self.stride + j;
+        models::nrtl::exponential(self.alpha[place], self.tau[place])
+    }
+
     fn fill_arguments(self, i: usize, out: &mut [f64]) {
-        let start = i * self.w;
+        let start = i * self.stride;
         models::nrtl::fill_arguments(&self.alpha[start..], &self.tau[start..], self.w, out);
     }
 }
 
-// UNIFAC's td entries, five each, by full rows of w; ln is log(T).
+// UNIFAC's td entries, five each, by w rows of w that start `stride` apart; ln is log(T).
 #[derive(Clone, Copy)]
 pub struct GroupEnergies<'a> {
     pub w: usize,
+    pub stride: usize,
     pub entries: &'a [f64],
     pub t: f64,
     pub ln: f64,
     ghost few: { w ≤ most_groups },
-    ghost full: { w * w * 5 ≤ length entries.now },
+    ghost full: { (w - 1) * stride + w * 5 ≤ length entries.now },
 }
 
 impl<'a> Inputs for GroupEnergies<'a> {
     ghost rows = { λ s. s.w };
 
-    ghost argument = { λ s. group_argument s.w s.entries.now s.t s.ln };
+    ghost argument = { λ s. group_argument s.stride s.entries.now s.t s.ln };
 
     ghost diagonal = { true };
 
@@ -129,11 +147,15 @@ impl<'a> Inputs for GroupEnergies<'a> {
     }
 
     fn argument(self, i: usize, j: usize) -> f64 {
-        models::unifac::argument(&self.entries[i * self.w * 5..], self.t, self.ln, j)
+        models::unifac::argument(&self.entries[i * self.stride..], self.t, self.ln, j)
+    }
+
+    fn exponential(self, i: usize, j: usize) -> f64 {
+        models::unifac::psi(&self.entries[i * self.stride..], self.t, self.ln, j)
     }
 
     fn fill_arguments(self, i: usize, out: &mut [f64]) {
-        let row = &self.entries[i * self.w * 5..];
+        let row = &self.entries[i * self.stride..];
         models::unifac::fill_arguments(row, self.t, self.ln, self.w, out);
     }
 }

@@ -15,6 +15,7 @@ pub mod setting;
 pub mod stale;
 
 pub use answers::{Answer, Outcome, Reply};
+pub use arithmetic::Refusal;
 pub use head::Head;
 pub use models::Model;
 pub use setting::Setting;

@@ -1,5 +1,5 @@
 // Loading a model: document 01, "Mixture".
-ghost use Rattle.std.specs.Prelude.{◌≡◌, ◌≤◌, ◌++◌, drop, length};
+ghost use Rattle.std.specs.Prelude.{◌≡◌, ◌≤◌, length};
 ghost use Rattle.models.specs.declared.model.Model.TheVariants.{Unifac};
 ghost use Rattle.mixture.specs.Lists.{written};
 ghost use Rattle.mixture.specs.Holdings.{held};
@@ -17,6 +17,7 @@ use crate::faults::{Lengths, memory_fault};
 use crate::head::{Head, bare_head, listed_head};
 use crate::stale::{Block, stale};
 use arithmetic::Refusal;
+use arithmetic::slices::copy;
 use models::model::{has_groups, table_width};
 use models::{Data, Model};
 
@@ -61,34 +62,23 @@ fn load_fault(lent: Lengths, given: Data) -> Result<(), Refusal>
     given.fault()
 }
 
-// Puts the values in the first places; the others stay. A loop, since the library's copy of a slice asks the
-// host for memmove, which nothing else here needs.
-fn store(from: &[f64], to: &mut [f64])
-    requires { length from.now ≤ length to.old }
-    ensures { to.new ≡ from.now ++ drop (length from.now) to.old }
-{
-    for k in 0..from.len() {
-        to[k] = from[k];
-    }
-}
-
-// Writes the model's values, unsets T and fractions and makes all cells stale.
+// Writes the model's values, unsets T and fractions and makes all cells stale. It goes into its callers, which
+// spares them two copies of the head.
+#[inline(always)]
 pub fn load(values: &mut [f64], cells: &[f64], marks: &mut [u8], head: Head, given: Data) -> Reply
     ensures { left (memory values.new cells.now marks.new) result
         ≡ after_load (memory values.old cells.now marks.old) head (data_given given.entry) }
 {
-    match load_fault(Lengths::of(values, cells, marks), given) {
-        Ok(()) => {
-            store(given.values, values);
-            stale_cells(given.model, given.n, given.ng, marks);
-            Reply {
-                head: loaded_head(given),
-                answer: Ok(Outcome::Done),
-            }
-        }
-        Err(refusal) => Reply {
+    if let Err(refusal) = load_fault(Lengths::of(values, cells, marks), given) {
+        return Reply {
             head,
             answer: Err(refusal),
-        },
+        };
+    }
+    copy(given.values, values);
+    stale_cells(given.model, given.n, given.ng, marks);
+    Reply {
+        head: loaded_head(given),
+        answer: Ok(Outcome::Done),
     }
 }

@@ -41,6 +41,7 @@ fn wilson(head: &Head, q: Quantity, values: &[f64], cells: &mut [f64], marks: &m
     let n = head.n;
     let energies = Energies {
         w: n,
+        stride: n,
         a: values,
         t: head.t,
     };
@@ -60,6 +61,7 @@ fn uniquac(head: &Head, q: Quantity, values: &[f64], cells: &mut [f64], marks: &
     let n = head.n;
     let energies = Energies {
         w: n,
+        stride: n,
         a: values,
         t: head.t,
     };
@@ -99,6 +101,7 @@ fn nrtl_within<const PLACES: usize>(
     let place = n * n * 5;
     let inputs = Nonrandomness {
         w: n,
+        stride: n,
         alpha: &values[place..],
         tau: &tau,
     };
@@ -134,6 +137,7 @@ fn unifac(head: &Head, q: Quantity, values: &[f64], cells: &mut [f64], marks: &m
     let place = ng + ng;
     let energies = GroupEnergies {
         w: ng,
+        stride: ng * 5,
         entries: &values[place..],
         t: head.t,
         ln: arithmetic::log(head.t),
@@ -167,12 +171,12 @@ fn solve(values: &[f64], cells: &mut [f64], marks: &mut [u8], head: &Head, q: Qu
 }
 
 // What a query does to cells and marks, and its answer.
-fn answered(values: &[f64], cells: &mut [f64], marks: &mut [u8], head: Head, q: Quantity) -> Answer
-    ensures { after (memory values.now cells.new marks.new) head (answer_of result)
-        ≡ after_query (memory values.now cells.old marks.old) head q }
+fn answered(values: &[f64], cells: &mut [f64], marks: &mut [u8], head: &Head, q: Quantity) -> Answer
+    ensures { after (memory values.now cells.new marks.new) head.now (answer_of result)
+        ≡ after_query (memory values.now cells.old marks.old) head.now q }
 {
-    query_fault(Lengths::of(values, cells, marks), head, q)?;
-    let worked = solve(values, cells, marks, &head, q);
+    query_fault(Lengths::of(values, cells, marks), *head, q)?;
+    let worked = solve(values, cells, marks, head, q);
     Ok(Outcome::Value(worked.value, worked.count))
 }
 
@@ -188,11 +192,11 @@ pub fn query(values: &[f64], cells: &mut [f64], marks: &mut [u8], head: Head, q:
     if head.has_t {
         return Reply {
             head: back,
-            answer: answered(values, cells, marks, head, q),
+            answer: answered(values, cells, marks, &head, q),
         };
     }
     Reply {
         head: back,
-        answer: answered(values, cells, marks, head, q),
+        answer: answered(values, cells, marks, &head, q),
     }
 }

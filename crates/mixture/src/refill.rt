@@ -53,13 +53,7 @@ fn refill_cells<I: Inputs>(inputs: I, i: usize, cells: &mut [f64], marks: &mut [
     ensures { RowRefilled I.diagonal (I.rows inputs) (λ j. exp_of (I.argument inputs i j)) i
         cells marks result }
 {
-    fill_stale(
-        inputs,
-        i,
-        cells,
-        marks,
-        |j, _| arithmetic::exp(inputs.argument(i, j)),
-    )
+    fill_stale(inputs, i, cells, marks, |j, _| inputs.exponential(i, j))
 }
 
 // How many marks are other than 1. The count has two bytes, so that more marks are counted side by side.
@@ -135,7 +129,8 @@ fn refill_row<I: Inputs>(inputs: I, i: usize, cells: &mut [f64], marks: &mut [u8
     let mut worked = [0.0; GROUPS];
     gather_row(inputs, i, marks, count, &mut worked[..]);
     arithmetic::exp_each(&mut worked[..], count);
-    fill_stale(inputs, i, cells, marks, |_, k| worked[k])
+    fill_stale(inputs, i, cells, marks, |_, k| worked[k]);
+    count
 }
 
 // Works out every stale cell, row by row, and counts them.
@@ -204,14 +199,14 @@ fn swap_last(w: usize, a: &mut [f64])
     }
 }
 
-// Each place off the diagonal takes its exp. Meanwhile the last row stands on the diagonal of the others, so
-// that exp runs over so many places in one go, and over no other.
-fn exp_off_diagonal(w: usize, a: &mut [f64])
-    requires { SquareFits w a.old }
+// Each place off the diagonal takes its exp; there are `count`. Meanwhile the last row stands on the diagonal
+// of the others, so that exp runs over so many places in one go, and over no other.
+fn exp_off_diagonal(w: usize, count: usize, a: &mut [f64])
+    requires { SquareFits w a.old × (count ≡ (w - 1) * w) }
     ensures { OffDiagonalTaken w a.old a.new }
 {
     swap_last(w, a);
-    arithmetic::exp_each(a, (w - 1) * w);
+    arithmetic::exp_each(a, count);
     swap_last(w, a);
 }
 
@@ -237,10 +232,15 @@ fn take_rows<I: Inputs>(inputs: I, worked: &[f64], cells: &mut [f64], marks: &mu
     count
 }
 
-// Works out all cells of a table without any on the diagonal, all of them stale, and counts them: every
-// argument first, in a table of its own, then exp of those off the diagonal.
-fn refill_whole<I: Inputs, const N: usize>(inputs: I, cells: &mut [f64], marks: &mut [u8]) -> usize
-    requires { AllStale I.diagonal (I.rows inputs) marks.old
+// Works out all cells of a table without any on the diagonal, all of them stale: every argument first, in a
+// table of its own, then exp of those off the diagonal. `count` is their number, and the answer.
+fn refill_whole<I: Inputs, const N: usize>(
+    inputs: I,
+    count: usize,
+    cells: &mut [f64],
+    marks: &mut [u8],
+) -> usize
+    requires { AllStale I.diagonal (I.rows inputs) marks.old count
         × TableFits (I.rows inputs) cells.old marks.old
         × (I.rows inputs * I.rows inputs ≤ N)
         × (N ≤ table_size) }
@@ -249,8 +249,9 @@ fn refill_whole<I: Inputs, const N: usize>(inputs: I, cells: &mut [f64], marks: 
 {
     let mut worked = [0.0; N];
     fill_table(inputs, &mut worked[..]);
-    exp_off_diagonal(inputs.rows(), &mut worked[..]);
-    take_rows(inputs, &worked[..], cells, marks)
+    exp_off_diagonal(inputs.rows(), count, &mut worked[..]);
+    take_rows(inputs, &worked[..], cells, marks);
+    count
 }
 
 // Whether `count` stale cells are all cells there are, in a table of at most 12 rows with none on the
@@ -281,9 +282,9 @@ pub fn refill<I: Inputs>(inputs: I, cells: &mut [f64], marks: &mut [u8]) -> usiz
         }
         if is_whole(inputs, count) {
             if w < 5 {
-                return refill_whole::<I, 16>(inputs, cells, marks);
+                return refill_whole::<I, 16>(inputs, count, cells, marks);
             }
-            return refill_whole::<I, PAIRS>(inputs, cells, marks);
+            return refill_whole::<I, PAIRS>(inputs, count, cells, marks);
         }
     }
     refill_rows(inputs, cells, marks)

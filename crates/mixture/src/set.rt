@@ -1,18 +1,19 @@
 // Settings: document 01, "Mixture".
-ghost use Rattle.std.specs.Prelude.{◌≡◌, ◌+◌, ◌*◌, ◌<◌, ◌≤◌, length};
+ghost use Rattle.std.specs.Prelude.{◌≡◌, cond, ◌+◌, ◌*◌, ◌<◌, ◌≤◌, eqb, length};
 ghost use Rattle.std.proofs.lemmas.List.Edits.{sets};
 ghost use Rattle.models.specs.Limits.{most_groups};
 ghost use Rattle.models.specs.Values.{counts_at, start};
 ghost use Rattle.mixture.specs.Holdings.{held};
 ghost use Rattle.models.specs.Model.{by_model};
 ghost use Rattle.arithmetic.specs.Refusals.{number_of};
+ghost use Rattle.mixture.specs.Answers.{Done, answer_of, unless};
 ghost use Rattle.mixture.specs.Memory.{Memory, memory, left, least_marks};
 ghost use Rattle.mixture.specs.Layout.{numbers, place};
 ghost use Rattle.mixture.specs.Calls.{stales_at, set_head, after_setting};
 ghost use Rattle.mixture.specs.Steps.Blocks.{Staled, entry_block, block_of};
 ghost use Rattle.mixture.specs.Steps.Blocks.{head_only, Settable, CountFits, set_after};
 
-use crate::answers::{Outcome, Reply};
+use crate::answers::{Answer, Outcome, Reply};
 use crate::faults::{Lengths, setting_fault};
 use crate::head::Head;
 use crate::setting::Setting;
@@ -154,18 +155,33 @@ fn stale_by(head: Head, s: Setting, marks: &mut [u8])
     stale(w, diagonal, block, marks);
 }
 
-// The head after an accepted setting.
-fn head_after(head: Head, s: Setting) -> Head
-    ensures { result ≡ set_head head s }
+// The head after a setting, by what came of it: T or the tolerance is changed in a copy.
+fn head_after(head: Head, changed: Result<(), Refusal>, s: Setting) -> Head
+    ensures { result ≡ cond (eqb (number_of changed) 0) (set_head head s) head }
 {
-    match s {
-        Setting::Temperature(t) => Head {
-            t,
-            has_t: true,
-            ..head
-        },
-        Setting::Tolerance(tolerance) => Head { tolerance, ..head },
-        Setting::Entry(..) | Setting::TdEntry(..) | Setting::Size(..) | Setting::Count(..) => head,
+    let mut after = head;
+    if let Ok(()) = changed {
+        match s {
+            Setting::Temperature(t) => {
+                after.t = t;
+                after.has_t = true;
+            }
+            Setting::Tolerance(tolerance) => {
+                after.tolerance = tolerance;
+            }
+            Setting::Entry(..) | Setting::TdEntry(..) | Setting::Size(..) | Setting::Count(..) => {}
+        }
+    }
+    after
+}
+
+// The answer, by the same: done, or what the setting was declined for.
+fn answer_by(changed: Result<(), Refusal>) -> Answer
+    ensures { answer_of result ≡ unless (number_of changed) Done }
+{
+    match changed {
+        Ok(()) => Ok(Outcome::Done),
+        Err(refusal) => Err(refusal),
     }
 }
 
@@ -191,15 +207,9 @@ fn change(
 fn reply_by(head: Head, changed: Result<(), Refusal>, s: Setting) -> Reply
     ensures { (m : Memory) → left m result ≡ set_after m (number_of changed) head s }
 {
-    match changed {
-        Ok(()) => Reply {
-            head: head_after(head, s),
-            answer: Ok(Outcome::Done),
-        },
-        Err(refusal) => Reply {
-            head,
-            answer: Err(refusal),
-        },
+    Reply {
+        head: head_after(head, changed, s),
+        answer: answer_by(changed),
     }
 }
 

@@ -3,7 +3,7 @@ use mathlib.Core.Path.{◌≡◌, refl, ◌∙◌}
 use mathlib.Core.Bool.{Bool, true, false}
 use mathlib.Core.List.{List}
 use Prim.Native.Nat.{ℕ, zero, suc, ◌+◌, ◌*◌, ◌-◌, ◌/◌, ◌%◌, ◌<◌, ◌≤◌}
-use native.Mathlib.Nat.{mod-lt, div-lt_iff_lt-mul, mul-le-mul}
+use native.Mathlib.Nat.{mod-lt, div-lt_iff_lt-mul, mul_assoc, mul-le-mul}
 use native.Mathlib.Omega.{arith}
 use lib.ListN.{length}
 use lib.Ieee.{Float}
@@ -105,16 +105,18 @@ module _ (n : ℕ) (v : List Float) (T : Float) (x : ℕ → Float) (q : Quantit
 -- ---- UNIFAC
 
 module _ (ng : ℕ) (v : List Float) (T : Float) (L : Float) (h : ng + ng + ng * ng * 5 ≤ length v) (ln : L ≡ log_of T) (f : (ℕ → ℕ → Float) → Float) where
-  entry_psi : (i j : ℕ) → i < ng → j < ng → exp_of (group_argument ng (from (ng + ng) v) T L i j) ≡ group_energy (groups_at ng v T) T i j
+  entry_psi : (i j : ℕ) → i < ng → j < ng → exp_of (group_argument (ng * 5) (from (ng + ng) v) T L i j) ≡ group_energy (groups_at ng v T) T i j
   unfolding td_grid group_as group_energy td_at
-  entry_psi i j b d = rw (five-from v (ng + ng) ((i * ng + j) * 5) (omega (arith, cell-lt ng ng i j b d)), ln)
+  entry_psi i j b d =
+      let place : i * (ng * 5) + j * 5 ≡ (i * ng + j) * 5 = omega (arith, mul_assoc i ng 5) in
+      rw (place, five-from v (ng + ng) ((i * ng + j) * 5) (omega (arith, cell-lt ng ng i j b d)), ln)
 
   pub unifac-solved : {cells c : List Float} {marks m : List ℕ} {r : ℕ} {a : Float} → Refilled (ng * ng) (stale_of true ng marks)
-      (cell_of ng (group_argument ng (from (ng + ng) v) T L)) cells marks c m r
+      (cell_of ng (group_argument (ng * 5) (from (ng + ng) v) T L)) cells marks c m r
       → a ≡ f (grid ng c)
       → Solved Unifac ng (group_energy (groups_at ng v T) T) f cells marks c m (record { value = a; count = r })
   unifac-solved all e =
       record {
-        refilled = refilled_by ng (λ i j. exp_of (group_argument ng (from (ng + ng) v) T L i j)) (group_energy (groups_at ng v T) T) entry_psi all;
+        refilled = refilled_by ng (λ i j. exp_of (group_argument (ng * 5) (from (ng + ng) v) T L i j)) (group_energy (groups_at ng v T) T) entry_psi all;
         solved = e;
       }

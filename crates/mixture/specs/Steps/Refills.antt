@@ -87,12 +87,13 @@ pub record SquareFits (w : ℕ) (a : List Float) : Type 0 where
   pub few : w ≤ most_groups
   pub room : w * w ≤ length a
 
--- all cells of a few rows are stale, none of them on the diagonal
-pub record AllStale (d : Bool) (w : ℕ) (marks : List ℕ) : Type 0 where
+-- all cells of a few rows are stale, r of them, none on the diagonal
+pub record AllStale (d : Bool) (w : ℕ) (marks : List ℕ) (r : ℕ) : Type 0 where
   pub some : 1 ≤ w
   pub few : w ≤ most_components
   pub apart : d ≡ false
-  pub whole : table_count d w marks ≡ (w - 1) * w
+  pub whole : r ≡ (w - 1) * w
+  pub counted : r ≡ table_count d w marks
 
 -- ---- of slices before and after a call
 

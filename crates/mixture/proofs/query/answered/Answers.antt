@@ -11,7 +11,7 @@ use Rattle.mixture.proofs.query.answered.Goals as goal
 pub returns-in_err-query_fault : goal.returns-in_err-query_fault
 unfolding number_of
 returns-in_err-query_fault c =
-    ap (after (memory c.args.values.now c.args.cells.now c.args.marks.now) c.args.head) (answer-handed c.from_residual.result _ c.from_residual.ensures.1)
+    ap (after (memory c.args.values.now c.args.cells.now c.args.marks.now) c.args.head.now) (answer-handed c.from_residual.result _ c.from_residual.ensures.1)
     ∙ query_refused _ _ _ (c.in_err-query_fault.ensures _ c.of.ensures) (number-positive _)
 
 pub solve-worked-requires : goal.solve-worked-requires

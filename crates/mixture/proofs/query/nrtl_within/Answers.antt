@@ -1,7 +1,6 @@
 -- The table is filled with τ at T; the refilled cells hold G, and the value is over both.
 use Rattle.std.proofs.Common.{arith}
 use Rattle.std.proofs.lemmas.List.{length-replicate}
-use Rattle.arithmetic.specs.Tables.{at}
 use Rattle.models.specs.Values.{nrtl_size}
 use Rattle.mixture.proofs.query.SolvedLaws.{asked-room, nrtl-solved}
 use Rattle.mixture.proofs.query.nrtl_within.Goals as goal

@@ -16,6 +16,7 @@ exp_each-requires g c = omega (arith, gathered-few c.gather_row.ensures, c.gathe
 
 pub returns : goal.returns
 returns g c =
-    c.fill_stale.ensures _ (λ j r b t e.
+    let filled = c.fill_stale.ensures _ (λ j r b t e.
     let stands : r ≡ at c.exp_each.new.a (how_many j (stale_in g.I.Inputs.diagonal c.args.marks.now c.args.i)) = search rules in
-    stands ∙ gathered_exp (omega (arith, gathered-few c.gather_row.ensures, c.gather_row.auto.out)) c.gather_row.ensures (λ j. refl) c.exp_each.ensures j b t)
+    stands ∙ gathered_exp (omega (arith, gathered-few c.gather_row.ensures, c.gather_row.auto.out)) c.gather_row.ensures (λ j. refl) c.exp_each.ensures j b t) in
+    record { worked = filled.worked; marked = filled.marked; counted = c.count_row-count.ensures }

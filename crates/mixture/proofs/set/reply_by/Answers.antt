@@ -1,14 +1,5 @@
 -- The reply to a setting, by what came of it.
-use Rattle.arithmetic.specs.Refusals.{number_of}
-use Rattle.arithmetic.proofs.RefusalLaws.{number-positive}
-use borrow.Author.Tests.{ne_eqb}
-use Rattle.mixture.specs.Answers.{answer_of, outcome_of}
 use Rattle.mixture.proofs.set.reply_by.Goals as goal
 
-pub returns-in-Ok : goal.returns-in-Ok
-unfolding number_of answer_of outcome_of
-returns-in-Ok c m = rw (c.in-Ok.is, c.head_after.ensures)
-
-pub returns-in-Err : goal.returns-in-Err
-unfolding number_of answer_of
-returns-in-Err c m = rw (c.in-Err.is, ne_eqb _ 0 (number-positive c.in-Err.refusal))
+pub returns : goal.returns
+returns c m = rw (c.head_after.ensures, c.answer_by.ensures)
