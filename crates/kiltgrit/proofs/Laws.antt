@@ -1,24 +1,25 @@
 -- What C gets is what the call leaves.
-use mathlib.Core.Path.{◌≡◌, refl, ap, sym, ◌∙◌}
+use mathlib.Core.Path.{◌≡◌, refl}
 use mathlib.Core.Bool.{Bool, true, false, cond}
+use Prim.Native.Nat.{ℕ}
 use lib.Dec.{eqb}
+use lib.Ieee.{Float}
 use borrow.Author.Tests.{ne_eqb}
+use Rattle.arithmetic.specs.Floats.{+0}
 use Rattle.mixture.specs.declared.head.Head.{Head}
-use Rattle.mixture.specs.Answers.{Answer, Refused, Done, Value, number_of, value_of}
+use Rattle.mixture.specs.Answers.{Answer, number_of, value_of}
 use Rattle.kiltgrit.specs.declared.border.CHead.{CHead}
-use Rattle.kiltgrit.specs.declared.border.CAnswer.{CAnswer}
-use Rattle.kiltgrit.specs.Border.{head_of, c_head, count_of, reply, reply_of, answer_of}
+use Rattle.kiltgrit.specs.Border.{head_of, c_head, count_of, reply, reply_of}
 
--- the two cases of a reply, by what the answer alone would tell
-pub refused-reply : (c : CHead) (h : Head) (a : Answer) {t : CAnswer} → t ≡ answer_of a → (t.refused ≡ 0 → ⊥) → reply c t.value t.cells_worked t.refused ≡ reply_of c h a
-unfolding reply_of answer_of number_of value_of count_of
-refused-reply c h (Refused k) e f = rw (e, ne_eqb k 0 (λ z. f (ap (λ (t : CAnswer). t.refused) e ∙ z))) refl
-refused-reply c h Done e f = absurd (f (ap (λ (t : CAnswer). t.refused) e))
-refused-reply c h (Value v n) e f = absurd (f (ap (λ (t : CAnswer). t.refused) e))
+-- the two cases of a reply
+pub refused-reply : (c : CHead) (h : Head) (a : Answer) {k : ℕ} → k ≡ number_of a → (k ≡ 0 → ⊥) → reply c +0 0 k ≡ reply_of c h a
+unfolding reply_of
+refused-reply c h a {k} e f = rw (← e, ne_eqb k 0 f)
 
-pub done-reply : (c : CHead) (h : Head) (a : Answer) {t : CAnswer} {d : CHead} → t ≡ answer_of a → t.refused ≡ 0 → d ≡ c_head h → reply d t.value t.cells_worked t.refused ≡ reply_of c h a
-unfolding reply_of answer_of
-done-reply c h a e f g = let z : number_of a ≡ 0 = sym (ap (λ (t : CAnswer). t.refused) e) ∙ f in rw (e, g, z) refl
+pub done-reply : (c : CHead) (h : Head) (a : Answer) {k n : ℕ} {d : CHead} {v : Float} → k ≡ number_of a → k ≡ 0 → d ≡ c_head h → v ≡ value_of a
+    → n ≡ count_of a → reply d v n 0 ≡ reply_of c h a
+unfolding reply_of
+done-reply c h a e f g i j = rw (← e, f, g, i, j)
 
 flag-back : (b : Bool) → eqb (cond b 1 0) 1 ≡ b
 flag-back true = refl

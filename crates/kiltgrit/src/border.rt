@@ -78,7 +78,9 @@ impl From<CHead> for Head {
     ghost from_gives = { λ c h. h ≡ head_of c };
 
     fn from(c: CHead) -> Head {
-        let (lens, groups, x) = (c.lens, c.groups, c.x);
+        let lens = c.lens;
+        let groups = c.groups;
+        let x = c.x;
         Head {
             model: c.model,
             n: c.n,
@@ -98,7 +100,9 @@ impl From<Head> for CHead {
     ghost from_gives = { λ h c. c ≡ c_head h };
 
     fn from(h: Head) -> CHead {
-        let (lens, groups, x) = (h.lens, h.groups, h.x);
+        let lens = h.lens;
+        let groups = h.groups;
+        let x = h.x;
         CHead {
             model: h.model,
             form: 0,
@@ -170,17 +174,22 @@ pub fn reply_of(came: CHead, p: Reply) -> CReply
     ensures { result ≡ reply_of came p.head (in_words p.answer) }
 {
     let told = CAnswer::from(p.answer);
-    let head = if told.refused != 0 {
-        came
-    } else {
-        CHead::from(p.head)
-    };
+    if told.refused != 0 {
+        return CReply {
+            head: came,
+            value: 0.0,
+            cells_worked: 0,
+            renewed: 0,
+            refused: told.refused,
+            unused: 0,
+        };
+    }
     CReply {
-        head,
+        head: CHead::from(p.head),
         value: told.value,
         cells_worked: told.cells_worked,
         renewed: 0,
-        refused: told.refused,
+        refused: 0,
         unused: 0,
     }
 }
