@@ -4,6 +4,8 @@
 #![tactic(auto)]
 
 mod digest;
+#[cfg(test)]
+mod inputs;
 mod lines;
 mod memory;
 mod records;

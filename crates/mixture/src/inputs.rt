@@ -25,10 +25,15 @@ pub trait Inputs: Copy {
         requires { (i < rows self) × (j < rows self) }
         ensures { result ≡ argument self i j };
 
-    // Entry j of row i.
+    // Entry j of row i. Inputs of a caller's own need not write it: exp runs over the one argument.
     fn exponential(self, i: usize, j: usize) -> f64
         requires { (i < rows self) × (j < rows self) }
-        ensures { result ≡ exp_of (argument self i j) };
+        ensures { result ≡ exp_of (argument self i j) }
+    {
+        let mut worked = [self.argument(i, j)];
+        arithmetic::exp_each(&mut worked[..], 1);
+        worked[0]
+    }
 
     // Writes what the entries of row i are the exp of, at the diagonal as well, so that the row runs without a
     // test.
