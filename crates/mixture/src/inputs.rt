@@ -1,5 +1,6 @@
 // What a table of exponentials is worked out from: a type for each kind of inputs, by rows.
-ghost use Rattle.std.specs.Prelude.{◌≡◌, Bool, true, false, ℕ, ◌+◌, ◌-◌, ◌*◌, ◌≤◌, ◌<◌, length, Float};
+ghost use Rattle.std.specs.Prelude.{◌≡◌, ◌+◌, ◌-◌, ◌*◌, ◌≤◌, ◌<◌};
+ghost use Rattle.std.specs.Prelude.{Bool, true, false, ℕ, length, Float};
 ghost use Rattle.arithmetic.specs.Exponential.{exp_of};
 ghost use Rattle.arithmetic.specs.Tables.{grid, Filled};
 ghost use Rattle.models.specs.Limits.{most_groups};
@@ -35,8 +36,8 @@ pub trait Inputs: Copy {
         worked[0]
     }
 
-    // Writes what the entries of row i are the exp of, at the diagonal as well, so that the row runs without a
-    // test.
+    // Writes what the entries of row i are the exp of, at the diagonal as well, so that the row runs without
+    // a test.
     fn fill_arguments(self, i: usize, out: &mut [f64])
         requires { (i < rows self) × (rows self ≤ length out.old) }
         ensures { Filled (argument self i) (rows self) out.new };
